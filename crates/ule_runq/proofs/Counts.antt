@@ -1,9 +1,10 @@
 -- How often a number stands in one list.
-use Rattle.std.proofs.Common.{◌≡◌, ◌==◌, ℕ, ◌+◌, ◌<◌, ◌≤◌, Bool, true, false, not, cond, ◌||◌, List, [], ◌∷◌, ◌++◌, length, filter, count_by, eqb, refl, sym, ◌∙◌, ap, ⊎_elim, arith, ◌≢◌}
-use Rattle.std.specs.List.{AllByRecursion, IsDistinct, list_any}
-use Rattle.std.proofs.lemmas.Bool.{cases_Bool, eqb-true, eqb-false, eq-eqb, ne_eqb}
+use Rattle.std.proofs.Common.{◌≡◌, ◌==◌, ℕ, ◌+◌, ◌<◌, ◌≤◌, Bool, true, false, not, cond, ◌||◌, List, [], ◌∷◌, ◌++◌, length, filter, count_by, eqb, nat_lt, take, drop, get_or, slice_get, ◌-◌, zero, suc, Option, Some, None, refl, sym, ◌∙◌, ap, arith, ◌≢◌, length-drop, get_or-drop, one-add}
+use Rattle.std.specs.List.{AllByRecursion, IsDistinct, list_any, position, position_or_len, remove}
+use Rattle.std.proofs.lemmas.Bool.{ltb-true, lt-ltb, eq-eqb}
 use Rattle.std.proofs.lemmas.Bool.Decides.{nat_tests}
-use Rattle.std.proofs.lemmas.List.Sums.{sum_by-cons, sum_by_push, sum_by-append}
+use Rattle.std.proofs.lemmas.Option.{same_Some}
+use Rattle.std.proofs.lemmas.List.Sums.{sum_by-cons, sum_by_push, sum_by-append, sum_by-take-drop, get_or-le-sum_by, count_by_more_yes, position_or_len_is}
 use Rattle.std.proofs.lemmas.Map.Steps.{length-le_from_distinct_below}
 
 -- how often u stands in a list
@@ -83,17 +84,84 @@ distinct_from_counts (x ∷ xs) few =
     (apart_from_count x xs (let parts : count x (x ∷ xs) ≡ once x x + count x xs = count-cons x x xs in let one = once_same x in let most : count x (x ∷ xs) ≤ 1 = few x in omega arith),
      distinct_from_counts xs (λ u. let parts : count u (x ∷ xs) ≡ once x u + count u xs = count-cons u x xs in let most : count u (x ∷ xs) ≤ 1 = few u in omega arith))
 
--- a number that is found is counted
-count_from_any : (u : ℕ) (xs : List ℕ) → list_any (eqb u) xs ≡ true → 0 < count u xs
-count_from_any u [] found = cc
-count_from_any u (x ∷ xs) found =
-    any_step u x (list_any (eqb u) xs) (count u xs) (count u (x ∷ xs)) (count-cons u x xs) (count_from_any u xs) found
+-- a number is found where it is counted
+pub has_count : (t : ℕ) (xs : List ℕ) → list_any (λ u. u == t) xs ≡ nat_lt 0 (count t xs)
+has_count t [] = refl
+has_count t (x ∷ xs) = has_step x t (list_any (λ u. u == t) xs) (count t xs) (count t (x ∷ xs)) (count-cons t x xs) (has_count t xs)
   where
-    any_step : (u x : ℕ) (b : Bool) (n m : ℕ) → m ≡ once x u + n → (b ≡ true → 0 < n) → (eqb u x || b) ≡ true → 0 < m
-    any_step u x true n m e h found = omega (arith, h refl)
-    any_step u x false n m e h found = grind (arith, nat_tests)
+    has_step : (x t : ℕ) (b : Bool) (n m : ℕ) → m ≡ once x t + n → b ≡ nat_lt 0 n → (x == t || b) ≡ nat_lt 0 m
+    has_step x t true n m e h = grind (arith, nat_tests)
+    has_step x t false n m e h = grind (arith, nat_tests)
+
+has_flipped : (t : ℕ) (xs : List ℕ) → list_any (eqb t) xs ≡ list_any (λ u. u == t) xs
+has_flipped t [] = refl
+has_flipped t (x ∷ xs) = flip_step t x _ _ (has_flipped t xs)
+  where
+    flip_step : (t x : ℕ) (a b : Bool) → a ≡ b → (eqb t x || a) ≡ (x == t || b)
+    flip_step t x a b e = grind (arith, nat_tests)
 
 -- numbers below n, none twice, are at most n
 pub length-le_from_counts : (xs : List ℕ) (n : ℕ) → ((u : ℕ) → count u xs ≤ 1) → ((u : ℕ) → 0 < count u xs → u < n) → length xs ≤ n
 length-le_from_counts xs n few small =
-    length-le_from_distinct_below xs n (distinct_from_counts xs few) (λ q found. small q (count_from_any q xs found))
+    length-le_from_distinct_below xs n (distinct_from_counts xs few) (λ q found. small q (ltb-true 0 (count q xs) (sym (has_count q xs) ∙ sym (has_flipped q xs) ∙ found)))
+
+-- two places of a number count twice
+pub count_two : (t : ℕ) (xs : List ℕ) (i j : ℕ) → i < j → j < length xs → get_or xs i 0 ≡ t → get_or xs j 0 ≡ t → 2 ≤ count t xs
+count_two t xs i j order within first second =
+    let whole : count t (take (i + 1) xs) + count t (drop (i + 1) xs) ≡ count t xs = sum_by-take-drop (λ x. cond (x == t) 1 0) xs (i + 1) in
+    let front : count t (take (i + 1) xs) ≡ count t (take i xs) + 1 = count_by_more_yes (λ x. x == t) xs i 0 (omega arith) (eq-eqb (get_or xs i 0) t first) in
+    let place : get_or (drop (i + 1) xs) (j - (i + 1)) 0 ≡ t = get_or-drop (i + 1) xs (j - (i + 1)) 0 ∙ ap (λ k. get_or xs k 0) (omega arith) ∙ second in
+    let back : once (get_or (drop (i + 1) xs) (j - (i + 1)) 0) t ≤ count t (drop (i + 1) xs) = get_or-le-sum_by (λ x. cond (x == t) 1 0) (drop (i + 1) xs) (j - (i + 1)) 0 (let n = length-drop (i + 1) xs in omega arith) in
+    let one : once (get_or (drop (i + 1) xs) (j - (i + 1)) 0) t ≡ 1 = ap (λ x. once x t) place ∙ once_same t in
+    omega arith
+
+-- the first place that passes, as an option
+pub position-at : {X : Type 0} (p : X → Bool) (xs : List X) (i : ℕ) (d : X) → i < length xs → ((k : ℕ) → k < i → p (get_or xs k d) ≡ false) → p (get_or xs i d) ≡ true → position p xs ≡ Some i
+position-at p xs i d within before here =
+    let at : position_or_len p xs ≡ i = position_or_len_is p xs i d (omega arith) before (λ w. here) in
+    rw at (rw (lt-ltb i (length xs) within) refl)
+
+-- whether a place passes
+pub position-has : {X : Type 0} (p : X → Bool) (xs : List X) → nat_lt (position_or_len p xs) (length xs) ≡ list_any p xs
+position-has p [] = refl
+position-has p (x ∷ xs) = place_step (p x) (position_or_len p xs) (length xs) (list_any p xs) (position-has p xs)
+  where
+    place_step : (b : Bool) (n m : ℕ) (a : Bool) → nat_lt n m ≡ a → nat_lt (cond (not b) (1 + n) 0) (suc m) ≡ (b || a)
+    place_step true n m a e = grind (arith, nat_tests)
+    place_step false n m a e = grind (arith, nat_tests)
+
+pub position_None : {X : Type 0} (p : X → Bool) (xs : List X) → position p xs ≡ None → list_any p xs ≡ false
+position_None p xs none = step (nat_lt (position_or_len p xs) (length xs)) (position-has p xs) none
+  where
+    step : (b : Bool) → b ≡ list_any p xs → cond b (Some (position_or_len p xs)) None ≡ None → list_any p xs ≡ false
+    step true e h = cc
+    step false e h = sym e
+
+pub position-none : {X : Type 0} (p : X → Bool) (xs : List X) → list_any p xs ≡ false → position p xs ≡ None
+position-none p xs none = rw (position-has p xs ∙ none) refl
+
+-- a number that stands once is taken out at its place
+pub remove_once : (t : ℕ) (xs : List ℕ) → count t xs ≤ 1 → 0 < count t xs → remove xs (position_or_len (λ u. u == t) xs) ≡ filter (λ u. not (u == t)) xs
+remove_once t [] few some = absurd (omega arith)
+remove_once t (x ∷ xs) few some = split (x == t) refl (remove_once t xs)
+  where
+    split : (b : Bool) → (x == t) ≡ b → (count t xs ≤ 1 → 0 < count t xs → remove xs (position_or_len (λ u. u == t) xs) ≡ filter (λ u. not (u == t)) xs) → remove (x ∷ xs) (cond (not b) (1 + position_or_len (λ u. u == t) xs) 0) ≡ cond (not b) (x ∷ filter (λ u. not (u == t)) xs) (filter (λ u. not (u == t)) xs)
+    split true is rest = sym (filter_absent t xs (let parts = count-cons t x xs in let here : once x t ≡ 1 = ap (λ b. cond b 1 0) is in omega arith))
+    split false is rest =
+        let parts = count-cons t x xs in
+        let here : once x t ≡ 0 = ap (λ b. cond b 1 0) is in
+        rw (one-add) (ap (λ ys. x ∷ ys) (rest (omega arith) (omega arith)))
+
+-- the head of a list stands in it
+pub count_head : (t : ℕ) (xs : List ℕ) → slice_get xs 0 ≡ Some t → 0 < count t xs
+count_head t [] head = cc
+count_head t (x ∷ xs) head =
+    let parts = count-cons t x xs in
+    let same : x ≡ t = same_Some x t head in
+    let one : once x t ≡ 1 = ap (λ y. once y t) same ∙ once_same t in
+    omega arith
+
+-- a list without a head is empty
+pub nil_from_head : (xs : List ℕ) → slice_get xs 0 ≡ None → xs ≡ []
+nil_from_head [] none = refl
+nil_from_head (x ∷ xs) none = cc

@@ -1,5 +1,5 @@
 -- A run queue as lists of thread numbers, one list a bucket, each head first, after struct runq.
-use Rattle.std.specs.Prelude.{◌≡◌, ◌==◌, ℕ, ◌≤◌, ◌<◌, Bool, not, Option, List, [], ◌∷◌, ◌++◌, length, map, take, drop, slice_get, slice_index_or, slice_set, filter, sum_by, count_by}
+use Rattle.std.specs.Prelude.{◌≡◌, ◌==◌, ℕ, ◌+◌, ◌-◌, ◌%◌, ◌≤◌, ◌<◌, Bool, not, Option, Some, List, [], ◌∷◌, ◌++◌, length, map, take, drop, slice_get, slice_index_or, slice_set, filter, sum_by, count_by}
 use Rattle.std.specs.List.{enumerate_from, flat_map, position, position_or_len, list_any}
 use Rattle.std.specs.Option.{option_map}
 use Rattle.ule_runq.specs.declared.runq.TheConstants.{RQ_NQS}
@@ -35,6 +35,16 @@ line_from q b = flat_map (λ e. map (λ t. (e.0, t)) e.1) (drop b (enumerate_fro
 -- the first thread from bucket b on, with its bucket
 abbrev pub first_from : List (List ℕ) → ℕ → Option (ℕ × ℕ)
 first_from q b = slice_get (line_from q b) 0
+
+-- how many buckets after bucket b bucket c comes, going round
+abbrev pub distance : ℕ → ℕ → ℕ
+distance b c = (c + RQ_NQS - b) % RQ_NQS
+
+-- t is the head of bucket c, and no bucket nearer to bucket b has a thread
+pub record IsFirstFrom (q : List (List ℕ)) (b c t : ℕ) : Type 0 where
+  pub bucket : c < RQ_NQS
+  pub head : slice_get (list_at q c) 0 ≡ Some t
+  pub nearer : (a : ℕ) → a < RQ_NQS → distance b a < distance b c → list_at q a ≡ []
 
 -- the bucket in which t stands
 unfoldable pub bucket_in : List (List ℕ) → ℕ → Option ℕ
