@@ -1,0 +1,3 @@
+mod Counts
+mod Rounds
+pub mod RunqLaws

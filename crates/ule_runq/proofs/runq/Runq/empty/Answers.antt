@@ -1,0 +1,10 @@
+use Rattle.std.proofs.Common.{◌≡◌, sym, subst, List, ℕ, [], replicate, arith}
+use Rattle.ule_runq.specs.declared.runq.TheConstants.{RQ_NQS}
+use Rattle.ule_runq.specs.Runq.{IsRunq}
+use Rattle.ule_runq.proofs.RunqLaws.{IsRunq_empty}
+use Rattle.ule_runq.proofs.runq.Runq.empty.Goals as goal
+
+pub invariant_of-result : goal.invariant_of-result
+invariant_of-result c =
+    let all : c.loop.counter ≡ RQ_NQS = omega arith in
+    rw (c.loop.invariant, all) IsRunq_empty

@@ -1,0 +1,24 @@
+use Rattle.std.proofs.Common.{◌≡◌, Some, sym, ◌∙◌, ap, subst, arith}
+use Rattle.ule_runq.specs.Runq.{place_in, without, IsRunq}
+use Rattle.ule_runq.proofs.RunqLaws.{IsRunq-without, removed_written, removed_inside, place_in_Some}
+use Rattle.ule_runq.proofs.runq.Runq.remove.Goals as goal
+
+pub index_mut-bucket-requires : goal.index_mut-bucket-requires
+index_mut-bucket-requires c =
+    let at = (place_in_Some _ c.args.t c.unwrap-b.result.0 c.unwrap-b.result.1 (ap (λ q. place_in q c.args.t) c.self.view_is ∙ sym c.find.ensures.value ∙ c.unwrap-b.ensures)).0 in
+    omega arith
+
+pub remove-requires : goal.remove-requires
+remove-requires c =
+    removed_inside _ c.args.t c.unwrap-b.result.0 c.unwrap-b.result.1 _ _ _ (ap (λ q. place_in q c.args.t) c.self.view_is ∙ sym c.find.ensures.value ∙ c.unwrap-b.ensures) c.from.ensures c.from-2.ensures c.index_mut-bucket.ensures.value
+
+pub invariant_of-self : goal.invariant_of-self
+invariant_of-self c =
+    subst IsRunq
+    (sym (removed_written _ c.args.t c.unwrap-b.result.0 c.unwrap-b.result.1 _ _ _ _ c.self.invariant (ap (λ q. place_in q c.args.t) c.self.view_is ∙ sym c.find.ensures.value ∙ c.unwrap-b.ensures) c.from.ensures c.from-2.ensures c.index_mut-bucket.ensures.value c.remove.ensures))
+    (IsRunq-without c.args.t _ c.self.invariant)
+
+pub returns-clause-rest : goal.returns-clause-rest
+returns-clause-rest c =
+    removed_written _ c.args.t c.unwrap-b.result.0 c.unwrap-b.result.1 _ _ _ _ c.self.invariant (ap (λ q. place_in q c.args.t) c.self.view_is ∙ sym c.find.ensures.value ∙ c.unwrap-b.ensures) c.from.ensures c.from-2.ensures c.index_mut-bucket.ensures.value c.remove.ensures
+    ∙ ap (without c.args.t) c.self.view_is

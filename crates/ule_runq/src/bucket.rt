@@ -1,0 +1,78 @@
+ghost use Rattle.std.specs.Prelude.{◌≡◌, ◌==◌, ◌<◌, [], ◌∷◌, ◌++◌, length, slice_get, IfOk};
+ghost use Rattle.std.specs.List.{position, remove};
+
+use std::alloc::{AllocError, Global};
+use std::marker::Model;
+use ule_prio::ThreadId;
+
+/// How many thread numbers there are.
+pub const THREADS: usize = 256;
+
+/// The threads of one bucket, head first, with room for every thread number.
+#[derive(Drop)]
+pub struct Bucket {
+    threads: Vec<ThreadId>,
+}
+
+impl Model for Bucket {
+    ghost use Rattle.std.specs.Prelude.{List, ℕ, ◌≤◌, vec_capacity};
+
+    ghost Value = { List ℕ };
+
+    ghost view = { λ b. b.threads.items };
+
+    ghost invariant = { λ b. 256 ≤ vec_capacity b.threads };
+}
+
+impl Bucket {
+    /// An empty bucket.
+    pub fn empty(alloc: Global) -> Result<Bucket, AllocError>
+        ensures { IfOk result (λ b. b ≡ []) }
+    {
+        let threads = Vec::with_capacity(alloc, THREADS)?;
+        Ok(Bucket { threads })
+    }
+
+    pub fn is_empty(&self) -> bool
+        ensures { result ≡ (length self.now == 0) }
+    {
+        self.threads.is_empty()
+    }
+
+    /// The thread at the head.
+    pub fn first(&self) -> Option<ThreadId>
+        ensures { result ≡ slice_get self.now 0 }
+    {
+        self.threads.first().copied()
+    }
+
+    /// The position of `t`, from the head on.
+    pub fn position(&self, t: ThreadId) -> Option<usize>
+        ensures { result ≡ position (λ u. u == t) self.now }
+    {
+        self.threads.iter().position(|u| *u == t)
+    }
+
+    pub fn push_tail(&mut self, t: ThreadId)
+        requires { length self.old < 256 }
+        ensures { self.new ≡ self.old ++ t ∷ [] }
+    {
+        self.threads.push_reserved(t);
+    }
+
+    pub fn push_head(&mut self, t: ThreadId)
+        requires { length self.old < 256 }
+        ensures { self.new ≡ t ∷ self.old }
+    {
+        self.threads.push_reserved(t);
+        self.threads.rotate_right(1);
+    }
+
+    /// Takes out the thread at a position.
+    pub fn remove(&mut self, position: usize)
+        requires { position < length self.old }
+        ensures { self.new ≡ remove self.old position }
+    {
+        self.threads.remove(position);
+    }
+}

@@ -1,0 +1,116 @@
+ghost use Rattle.std.specs.Prelude.{◌≡◌, ◌<◌, ◌↔◌, [], replicate, All, IfOk, IsNone, IfSome};
+ghost use Rattle.ule_runq.specs.Runq.{IsRunq, is_empty_at, with_tail, with_head, without, times, first_from, bucket_in, place_in};
+
+use std::alloc::{AllocError, Global};
+use std::marker::Model;
+use ule_prio::ThreadId;
+
+use crate::bucket::Bucket;
+
+/// The number of buckets of a run queue, after `RQ_NQS` of `runq.h`.
+pub const RQ_NQS: u8 = 64;
+
+/// A run queue, after `struct runq`: 64 lists of thread numbers, each head first, with no number
+/// twice and room for all 256.
+#[derive(Drop)]
+pub struct Runq {
+    buckets: Vec<Bucket>,
+}
+
+impl Model for Runq {
+    ghost use Rattle.std.specs.Prelude.{List, ℕ};
+    ghost use Rattle.ule_runq.specs.Runq.{IsRunq};
+
+    ghost Value = { List (List ℕ) };
+
+    ghost view = { λ q. q.buckets.items };
+
+    ghost invariant = { λ q. IsRunq q.buckets.items };
+}
+
+impl Runq {
+    /// An empty run queue, after `runq_init`. It takes all the memory that it ever needs.
+    pub fn empty(alloc: Global) -> Result<Runq, AllocError>
+        ensures { IfOk result (λ q. q ≡ replicate RQ_NQS []) }
+    {
+        let mut buckets = Vec::with_capacity(alloc, usize::from(RQ_NQS))?;
+        for _ in 0..RQ_NQS {
+            buckets.push(Bucket::empty(alloc)?)?;
+        }
+        Ok(Runq { buckets })
+    }
+
+    /// Puts `t` behind the threads of bucket `b`, after `runq_add`.
+    pub fn push_tail(&mut self, b: u8, t: ThreadId)
+        requires bucket { b < RQ_NQS }
+        requires absent { times self.old t ≡ 0 }
+        ensures { self.new ≡ with_tail self.old b t }
+    {
+        let _number = t.0;
+        let bucket = &mut self.buckets[usize::from(b)];
+        bucket.push_tail(t);
+    }
+
+    /// Puts `t` before the threads of bucket `b`, after `runq_add` of a preempted thread.
+    pub fn push_head(&mut self, b: u8, t: ThreadId)
+        requires bucket { b < RQ_NQS }
+        requires absent { times self.old t ≡ 0 }
+        ensures { self.new ≡ with_head self.old b t }
+    {
+        let _number = t.0;
+        let bucket = &mut self.buckets[usize::from(b)];
+        bucket.push_head(t);
+    }
+
+    /// Takes `t` out and says from which bucket, after `runq_remove`.
+    pub fn remove(&mut self, t: ThreadId) -> u8
+        requires { times self.old t ≡ 1 }
+        ensures bucket { bucket_in self.old t ≡ Some result }
+        ensures rest { self.new ≡ without t self.old }
+    {
+        let (b, position) = self.find(t).unwrap();
+        let bucket = &mut self.buckets[usize::from(b)];
+        bucket.remove(usize::from(position));
+        b
+    }
+
+    /// The first thread from bucket `b` on, and round to it, with its bucket, after
+    /// `runq_choose_from`.
+    pub fn first_from(&self, b: u8) -> Option<(u8, ThreadId)>
+        requires { b < RQ_NQS }
+        ensures value { result ≡ first_from self.now b }
+        ensures none { IsNone result ↔ All (λ xs. xs ≡ []) self.now }
+        ensures found { IfSome result (λ p. (p.0 < RQ_NQS) × (times self.now p.1 ≡ 1)) }
+    {
+        for step in 0..RQ_NQS {
+            let bucket = (b + step) % RQ_NQS;
+            if let Some(t) = self.buckets[usize::from(bucket)].first() {
+                return Some((bucket, t));
+            }
+        }
+        None
+    }
+
+    /// Whether no thread waits in bucket `b`.
+    pub fn is_empty_bucket(&self, b: u8) -> bool
+        requires { b < RQ_NQS }
+        ensures value { result ≡ is_empty_at self.now b }
+        ensures whole { IsRunq self.now }
+    {
+        self.buckets[usize::from(b)].is_empty()
+    }
+
+    /// The bucket in which `t` waits, and its position there, where the head has position 0.
+    pub fn find(&self, t: ThreadId) -> Option<(u8, u16)>
+        ensures value { result ≡ place_in self.now t }
+        ensures none { IsNone result ↔ (times self.now t ≡ 0) }
+        ensures whole { IsRunq self.now }
+    {
+        for b in 0..RQ_NQS {
+            if let Some(position) = self.buckets[usize::from(b)].position(t) {
+                return Some((b, position as u16));
+            }
+        }
+        None
+    }
+}
