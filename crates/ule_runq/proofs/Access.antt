@@ -9,7 +9,7 @@ use Rattle.std.specs.List.{list_any, position, position_or_len, remove}
 use Rattle.ule_runq.proofs.Counts.{nil_from_head, position-at, position-has, position_None, position-none}
 use Rattle.ule_runq.proofs.RunqLaws.{IsRunq-with_tail, IsRunq-with_head, length-list_at-le, length-list_at-lt, first_from-step, first_from-none, place_in_Some, removed_at_place}
 use Rattle.ule_runq.specs.declared.runq.TheConstants.{RQ_NQS}
-use Rattle.ule_runq.specs.Runq.{list_at, with_tail, with_head, without, times, first_from, distance, bucket_in, place_in, IsRunq}
+use Rattle.ule_runq.specs.Runq.{list_at, without, times, first_from, distance, bucket_in, place_in, IsRunq}
 
 pub room_in_read : (q : List (List ℕ)) (b i t : ℕ) (x : List ℕ) → IsRunq q → b < RQ_NQS → t < 256 → times q t ≡ 0 → i ≡ b → x ≡ get_or q i x → length x < 256
 room_in_read q b i t x sound bucket small absent same read =

@@ -1,5 +1,5 @@
 -- How often a number stands in one list.
-use Rattle.std.proofs.Common.{◌≡◌, ◌==◌, ℕ, ◌+◌, ◌<◌, ◌≤◌, Bool, true, false, not, cond, ◌||◌, List, [], ◌∷◌, ◌++◌, length, filter, count_by, eqb, nat_lt, take, drop, get_or, slice_get, ◌-◌, zero, suc, Option, Some, None, refl, sym, ◌∙◌, ap, arith, ◌≢◌, length-drop, get_or-drop, one-add}
+use Rattle.std.proofs.Common.{◌≡◌, ◌==◌, ℕ, ◌+◌, ◌<◌, ◌≤◌, Bool, true, false, not, cond, ◌||◌, List, [], ◌∷◌, ◌++◌, length, filter, count_by, eqb, nat_lt, take, drop, get_or, slice_get, ◌-◌, suc, Some, None, refl, sym, ◌∙◌, ap, arith, ◌≢◌, length-drop, get_or-drop, one-add}
 use Rattle.std.specs.List.{AllByRecursion, IsDistinct, list_any, position, position_or_len, remove}
 use Rattle.std.proofs.lemmas.Bool.{ltb-true, lt-ltb, eq-eqb}
 use Rattle.std.proofs.lemmas.Bool.Decides.{nat_tests}

@@ -1,5 +1,5 @@
 -- Numbered lists, from one of them on and round to it, and the first element in them.
-use Rattle.std.proofs.Common.{◌≡◌, ℕ, ◌+◌, ◌-◌, ◌%◌, ◌<◌, ◌≤◌, zero, suc, Option, Some, None, List, [], ◌∷◌, ◌++◌, length, map, take, drop, get_or, slice_get, option_map, refl, sym, ◌∙◌, ap, ⊎_elim, inl, inr, ◌⊎◌, arith, length-drop, get_or-drop, get_or-take}
+use Rattle.std.proofs.Common.{◌≡◌, ℕ, ◌+◌, ◌-◌, ◌%◌, ◌<◌, ◌≤◌, zero, suc, Some, List, [], ◌∷◌, ◌++◌, length, map, take, drop, get_or, slice_get, option_map, refl, ◌∙◌, ap, ⊎_elim, inl, inr, ◌⊎◌, arith, length-drop, get_or-drop, get_or-take}
 use Rattle.std.specs.List.{enumerate_from, flat_map}
 use Rattle.std.proofs.lemmas.Bool.{cases_lt}
 use Rattle.std.proofs.lemmas.List.{get_or_append_left, get_or-append_right}

@@ -1,5 +1,5 @@
 -- The laws of a run queue's lists.
-use Rattle.std.proofs.Common.{◌≡◌, ◌==◌, ℕ, ◌+◌, ◌-◌, ◌%◌, ◌<◌, ◌≤◌, ◌≢◌, Bool, true, false, not, cond, if◌then◌else◌, Option, Some, None, All, List, [], ◌∷◌, ◌++◌, length, map, take, drop, filter, replicate, slice_get, slice_set, get_or, option_map, sum_by, nat_lt, ◌⊎◌, ◌||◌, inl, inr, subst₂, refl, sym, ◌∙◌, ap, ⊎_elim, arith, ne_of_lt, ext_get_or, length-set, get_or-set_same, get_or-set_other}
+use Rattle.std.proofs.Common.{◌≡◌, ◌==◌, ℕ, ◌+◌, ◌%◌, ◌<◌, ◌≤◌, ◌≢◌, Bool, true, false, not, cond, if◌then◌else◌, Option, Some, None, List, [], ◌∷◌, ◌++◌, length, filter, replicate, slice_get, slice_set, get_or, option_map, sum_by, nat_lt, ◌⊎◌, ◌||◌, inl, inr, subst₂, refl, sym, ◌∙◌, ap, ⊎_elim, arith, ne_of_lt, ext_get_or, length-set, get_or-set_same, get_or-set_other}
 use Rattle.std.proofs.lemmas.Bool.{cases_lt, cases_eq, ltb-true, ltb-false, lt-ltb, eqb-true, eqb-false, eq-eqb, ne_eqb}
 use Rattle.std.proofs.lemmas.Bool.Decides.{nat_tests}
 use Rattle.std.proofs.lemmas.List.{length-map, length-replicate, get_or-map, get_or_past, get_or_push, length_push, nil_from_length, get_or-replicate}
@@ -8,8 +8,8 @@ use Rattle.std.proofs.lemmas.List.Folds.{sum_by-replicate}
 use Rattle.std.proofs.lemmas.List.Sums.{sum_by-cons, sum_by-set, get_or-le-sum_by, position_or_len_is, passes_at_first}
 use Rattle.std.proofs.lemmas.List.Quantifiers.{position-Some}
 use Rattle.std.proofs.lemmas.Option.{none-some, some_pair_parts}
-use Rattle.std.specs.List.{list_any, position, position_or_len, remove}
-use Rattle.ule_runq.proofs.Counts.{count, once, count-cons, count_push, once_comm, once_same, once_other, count-filter_same, count-filter_other, length-le_from_counts, count_two, count_head, filter_absent, remove_once, has_count, position-at, position-has, position_None, position-none}
+use Rattle.std.specs.List.{list_any, position_or_len, remove}
+use Rattle.ule_runq.proofs.Counts.{count, once, count-cons, count_push, once_comm, once_same, count-filter_same, count-filter_other, length-le_from_counts, count_two, count_head, filter_absent, remove_once, has_count, position-at, position-has, position_None, position-none}
 use Rattle.ule_runq.proofs.Rounds.{IsFirstOf, first_of, none_of, first_or_none, round_from, round_from-at, length-round_from}
 use Rattle.ule_runq.specs.declared.runq.TheConstants.{RQ_NQS}
 use Rattle.ule_runq.specs.Runq.{list_at, is_empty_at, with_tail, with_head, without, times, line_from, first_from, distance, IsFirstFrom, bucket_in, place_in, IsRunq}

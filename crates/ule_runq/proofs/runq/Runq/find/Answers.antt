@@ -1,9 +1,8 @@
-use Rattle.std.proofs.Common.{◌≡◌, ◌==◌, ◌<◌, Some, None, sym, ◌∙◌, ap, arith, Fits-lit, Fits-le, w16}
-use Rattle.std.proofs.lemmas.Option.{none-some}
+use Rattle.std.proofs.Common.{sym, ◌∙◌, ap, arith}
 use Rattle.std.proofs.lemmas.Bool.{true≢false}
-use Rattle.ule_runq.specs.Runq.{times, place_in, bucket_in, list_at}
+use Rattle.ule_runq.specs.Runq.{times, place_in}
 use Rattle.ule_runq.proofs.Access.{place_in_read, bucket_in_nowhere}
-use Rattle.ule_runq.proofs.RunqLaws.{bucket_in_None, place_in-none, place_in_Some, times_place}
+use Rattle.ule_runq.proofs.RunqLaws.{bucket_in_None, place_in-none, times_place}
 use Rattle.ule_runq.proofs.runq.Runq.find.Goals as goal
 
 pub overflow_cast-result : goal.overflow_cast-result

@@ -1,7 +1,7 @@
-use Rattle.std.proofs.Common.{◌≡◌, ◌+◌, ◌%◌, ◌<◌, [], Some, None, sym, ◌∙◌, ap, subst, arith, below_more}
+use Rattle.std.proofs.Common.{◌≡◌, ◌+◌, ◌%◌, [], sym, ◌∙◌, ap, subst, arith, below_more}
 use Rattle.std.specs.Prelude.{All, List, ℕ}
 use Rattle.ule_runq.specs.declared.runq.TheConstants.{RQ_NQS}
-use Rattle.ule_runq.specs.Runq.{times, first_from, IsFirstFrom, list_at}
+use Rattle.ule_runq.specs.Runq.{times, first_from, IsFirstFrom}
 use Rattle.ule_runq.proofs.Access.{first_from_read, empty_read, all_empty_round, first_from-all_empty}
 use Rattle.ule_runq.proofs.RunqLaws.{first_from_Some, times_first}
 use Rattle.ule_runq.proofs.runq.Runq.first_from.Goals as goal

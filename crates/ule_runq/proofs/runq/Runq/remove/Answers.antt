@@ -1,4 +1,4 @@
-use Rattle.std.proofs.Common.{◌≡◌, Some, sym, ◌∙◌, ap, subst, arith}
+use Rattle.std.proofs.Common.{sym, ◌∙◌, ap, subst, arith}
 use Rattle.ule_runq.specs.Runq.{place_in, without, IsRunq}
 use Rattle.ule_runq.proofs.Access.{removed_written, removed_inside}
 use Rattle.ule_runq.proofs.RunqLaws.{IsRunq-without, place_in_Some}
