@@ -1,0 +1,2 @@
+//! The run queue.
+#![tactic(auto)]
