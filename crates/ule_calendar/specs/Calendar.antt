@@ -1,5 +1,5 @@
 -- A batch calendar: 64 lists of thread numbers, and two indexes that go round them.
-use Rattle.std.specs.Prelude.{◌≡◌, ℕ, ◌+◌, ◌%◌, ◌<◌, Bool, false, not, ◌==◌, List, if◌then◌else◌, ◌⊎◌}
+use Rattle.std.specs.Prelude.{◌≡◌, ℕ, ◌+◌, ◌%◌, ◌<◌, Bool, false, List, if◌then◌else◌, ◌⊎◌}
 use Rattle.ule_model.specs.CalendarIndexes.{calendar_bucket, ridx_after_removal, idx_after_turn, ridx_after_turn}
 use Rattle.ule_runq.specs.Runq.{IsRunq, is_empty_at, with_tail, with_head, without}
 
@@ -36,10 +36,12 @@ with_next d t head = record d { lists = with_end head d.lists d.ridx t }
 abbrev pub after_removal : Dial → ℕ → Dial
 after_removal d t = record d {
   lists = without t d.lists;
-  ridx = ridx_after_removal d.idx d.ridx (is_empty_at (without t d.lists) d.ridx) }
+  ridx = ridx_after_removal d.idx d.ridx (is_empty_at (without t d.lists) d.ridx);
+}
 
 -- the calendar after a turn
 abbrev pub turned : Dial → Dial
 turned d = record d {
   idx = idx_after_turn d.idx d.ridx;
-  ridx = ridx_after_turn d.idx d.ridx (is_empty_at d.lists d.ridx) }
+  ridx = ridx_after_turn d.idx d.ridx (is_empty_at d.lists d.ridx);
+}

@@ -11,6 +11,23 @@ use std::marker::Model;
 use ule_prio::{Priority, ThreadId};
 use ule_runq::Runq;
 
+/// The bucket of a batch priority, 152..=223: one of the 64 from the insertion index on, but not
+/// the one at the removal index while that index is behind.
+fn ordinary_bucket(idx: u8, ridx: u8, p: Priority) -> u8
+    requires batch { kind_at p ≡ Batch }
+    requires idx { idx < 64 }
+    ensures value { result ≡ calendar_bucket idx ridx p }
+    ensures within { result < 64 }
+{
+    let reach = 64 * u16::from(p.0 - 152) / 72;
+    let bucket = ((reach + u16::from(idx)) % 64) as u8;
+    if ridx != idx && bucket == ridx {
+        (bucket + 63) % 64
+    } else {
+        bucket
+    }
+}
+
 /// A batch calendar. Its insertion index is at its removal index, or one ahead of it while the
 /// bucket at the removal index isn't empty.
 #[derive(Drop)]
@@ -51,13 +68,8 @@ impl Calendar {
         ensures bucket { result ≡ calendar_bucket self.old.idx self.old.ridx p }
         ensures filed { self.new ≡ with_ordinary self.old t p }
     {
-        let reach = 64 * u16::from(p.0 - 152) / 72;
-        let ahead = ((reach + u16::from(self.idx)) % 64) as u8;
-        let bucket = if self.ridx != self.idx && ahead == self.ridx {
-            (ahead + 63) % 64
-        } else {
-            ahead
-        };
+        let _number = t.0; // so that it is known to be below 256
+        let bucket = ordinary_bucket(self.idx, self.ridx, p);
         self.lists.push_tail(bucket, t);
         bucket
     }
@@ -69,6 +81,7 @@ impl Calendar {
         ensures bucket { result ≡ self.old.ridx }
         ensures filed { self.new ≡ with_next self.old t head }
     {
+        let _number = t.0; // so that it is known to be below 256
         if head {
             self.lists.push_head(self.ridx, t);
         } else {
