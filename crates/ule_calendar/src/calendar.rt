@@ -1,4 +1,4 @@
-ghost use Rattle.std.specs.Prelude.{◌≡◌, ◌≤◌, ◌<◌, [], Some, replicate, IfOk};
+ghost use Rattle.std.specs.Prelude.{◌≡◌, ◌≤◌, ◌<◌, [], Some, replicate, IfOk, IfSome};
 ghost use Rattle.std.specs.Option.{option_map};
 ghost use Rattle.ule_prio.specs.Kind.{kind_at};
 ghost use Rattle.ule_prio.specs.declared.kind.Kind.TheVariants.{Batch};
@@ -119,7 +119,8 @@ impl Calendar {
 
     /// The first thread from the removal index on, after `runq_choose_from`.
     pub fn first(&self) -> Option<ThreadId>
-        ensures { result ≡ option_map (λ f. f.1) (first_from self.now.lists self.now.ridx) }
+        ensures value { result ≡ option_map (λ f. f.1) (first_from self.now.lists self.now.ridx) }
+        ensures found { IfSome result (λ t. times self.now.lists t ≡ 1) }
     {
         self.lists.first_from(self.ridx).map(|f| f.1)
     }
