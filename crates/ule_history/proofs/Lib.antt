@@ -1,0 +1,3 @@
+pub mod HistoryUpdateLemmas
+pub mod ForkDecayLemmas
+pub mod CpuUseUpdateLemmas

@@ -1,0 +1,3 @@
+pub mod HistoryUpdate
+pub mod ForkDecay
+pub mod CpuUseUpdate

@@ -1,2 +1,6 @@
 //! TODO
 #![tactic(auto)]
+
+/// There was no memory.
+#[derive(Clone, Copy, Debug, PartialEq, Eq)]
+pub struct Memory;

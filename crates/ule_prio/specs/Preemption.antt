@@ -10,4 +10,4 @@ crosses_interactive p q remote = remote && nat_le p PRI_MAX_INTERACT && nat_lt P
 abbrev pub takes_over : ℕ → ℕ → Bool → ℕ → Bool
 takes_over p q remote threshold =
     nat_lt p q && (nat_le PRI_MIN_IDLE q ||
-        (not (threshold == 0) && (nat_le p threshold || crosses_interactive p q remote)))
+    (not (threshold == 0) && (nat_le p threshold || crosses_interactive p q remote)))

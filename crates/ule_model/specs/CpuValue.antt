@@ -1,0 +1,143 @@
+-- One CPU as a value: records by thread number, lists of numbers, and the CPU's own numbers. Each
+-- step is a plain function of the value; StandsFor says of which side of a world it is the value.
+use Rattle.std.specs.Prelude.{◌≡◌, ℕ, Bool, false, ◌&&◌, List, find, length, slice_index_or, slice_set, Option, Some, None, if◌then◌else◌}
+use Rattle.std.specs.Option.{option_map}
+use Rattle.ule_prio.specs.Kind.{kind_at}
+use Rattle.ule_prio.specs.declared.kind.Kind.{Kind}
+use Rattle.ule_prio.specs.declared.kind.Kind.TheVariants.{Real, Batch, Idle}
+use Rattle.ule_runq.specs.Runq.{is_empty_at, with_tail, with_head, without, first_from}
+use Rattle.ule_score.specs.declared.record.CpuLine.{CpuLine}
+use Rattle.ule_score.specs.declared.record.Settings.{Settings}
+use Rattle.ule_score.specs.declared.record.ThreadRecord.{ThreadRecord}
+use Rattle.ule_score.specs.declared.record.Why.{Why}
+use Rattle.ule_types.specs.declared.event.Reply.{Reply}
+use Rattle.ule_types.specs.declared.event.Reply.TheVariants.{Unmarked, Switched}
+use Rattle.ule_model.specs.CalendarIndexes.{ridx_after_removal}
+use Rattle.ule_model.specs.Insertion.{Insertion, Ordinary, Borrowing, Preempted, bucket_of}
+use Rattle.ule_model.specs.Places.{is_on}
+use Rattle.ule_model.specs.Shows.{ShowsQueue}
+use Rattle.ule_model.specs.Switch.{one_more, after_running, before_running, insertion_of, is_preemption, is_unasked, started_reply}
+use Rattle.ule_model.specs.World.{Member, Side, current_of, is_thread}
+
+-- a CPU: the record of each thread number on it, its current thread, its three queues, its numbers
+pub record CpuValue : Type 0 where
+  pub cpu : ℕ
+  pub settings : Settings
+  pub threads : List (Option ThreadRecord)
+  pub current : Option ℕ
+  pub real : List (List ℕ)
+  pub batch : List (List ℕ)
+  pub idle : List (List ℕ)
+  pub line : CpuLine
+  pub balance_word : ℕ
+
+-- the record of thread t, if it is on the CPU
+abbrev pub thread_in : CpuValue → ℕ → Option ThreadRecord
+thread_in v t = slice_index_or v.threads t None
+
+-- the CPU with thread t's record changed
+abbrev pub with_thread : ℕ → (ThreadRecord → ThreadRecord) → CpuValue → CpuValue
+with_thread t change v = record v { threads = slice_set v.threads t (option_map change (thread_in v t)) }
+
+-- a queue with thread t in bucket b: a preempted one at the head, every other at the tail
+abbrev pub with_inserted : Insertion → List (List ℕ) → ℕ → ℕ → List (List ℕ)
+with_inserted Ordinary q b t = with_tail q b t
+with_inserted Borrowing q b t = with_tail q b t
+with_inserted Preempted q b t = with_head q b t
+
+-- the CPU with thread t in bucket b of its queue of this kind
+abbrev pub inserted_in : Kind → Insertion → ℕ → ℕ → CpuValue → CpuValue
+inserted_in Real how b t v = record v { real = with_inserted how v.real b t }
+inserted_in Batch how b t v = record v { batch = with_inserted how v.batch b t }
+inserted_in Idle how b t v = record v { idle = with_inserted how v.idle b t }
+
+-- the CPU with thread t of priority p queued
+abbrev pub inserted : Insertion → ℕ → ℕ → CpuValue → CpuValue
+inserted how p t v = inserted_in (kind_at p) how (bucket_of (kind_at p) how v.line p) t v
+
+-- the CPU with thread t queued by the priority of its record
+abbrev pub inserted_thread : Insertion → ℕ → Option ThreadRecord → CpuValue → CpuValue
+inserted_thread how t None v = v
+inserted_thread how t (Some r) v = inserted how r.priority t v
+
+-- the calendar without thread t, and its removal index
+abbrev pub without_batch : ℕ → CpuValue → CpuValue
+without_batch t v = record v {
+  batch = without t v.batch;
+  line = record v.line { ridx = ridx_after_removal v.line.idx v.line.ridx (is_empty_at (without t v.batch) v.line.ridx) };
+}
+
+-- the CPU without thread t in its queue of this kind
+abbrev pub removed_from : Kind → ℕ → CpuValue → CpuValue
+removed_from Real t v = record v { real = without t v.real }
+removed_from Batch t v = without_batch t v
+removed_from Idle t v = record v { idle = without t v.idle }
+
+-- the kind of the queue and the number of the thread whose turn comes first
+abbrev pub in_kind : Kind → Option (ℕ × ℕ) → Option (Kind × ℕ)
+in_kind k found = option_map (λ f. (k, f.1)) found
+
+abbrev pub first_of : Option (Kind × ℕ) → Option (Kind × ℕ) → Option (Kind × ℕ)
+first_of None other = other
+first_of (Some found) other = Some found
+
+abbrev pub first_in : CpuValue → Option (Kind × ℕ)
+first_in v = first_of (in_kind Real (first_from v.real 0))
+    (first_of (in_kind Batch (first_from v.batch v.line.ridx)) (in_kind Idle (first_from v.idle 0)))
+
+-- the CPU with this queued thread running
+abbrev pub with_current : ℕ → Kind → ℕ → CpuValue → CpuValue
+with_current now k t v = with_thread t (before_running now) (record (removed_from k t v) { current = Some t })
+
+-- what choosing comes to: the CPU, and the thread that runs now
+abbrev pub current_chosen : ℕ → Option (Kind × ℕ) → CpuValue → CpuValue × Option ℕ
+current_chosen now None v = (v, None)
+current_chosen now (Some found) v = (with_current now found.0 found.1 v, Some found.1)
+
+abbrev pub chosen_next : ℕ → CpuValue → CpuValue × Option ℕ
+chosen_next now v = current_chosen now (first_in v) v
+
+-- the CPU without marks
+abbrev pub without_marks : CpuValue → CpuValue
+without_marks v = record v { line = record v.line { resched = false; slice_end = false } }
+
+-- the CPU whose current thread t gave way and is queued
+abbrev pub with_given_way : Bool → ℕ → ℕ → CpuValue → CpuValue
+with_given_way preempted now t v =
+    let left = with_thread t (after_running now) (record v { current = None; line = record v.line { switches = one_more v.line.switches } }) in
+    inserted_thread (insertion_of preempted) t (thread_in left t) left
+
+-- the switch from the current thread, if there is one
+abbrev pub value_switched_from : Option ℕ → Bool → ℕ → CpuValue → CpuValue × Reply
+value_switched_from None preempted now v =
+    let next = chosen_next now v in (next.0, started_reply next.1)
+value_switched_from (Some t) preempted now v =
+    let next = chosen_next now (with_given_way preempted now t v) in
+    (next.0, Switched (Some t) next.1 preempted)
+
+-- the step of a switch
+abbrev pub value_switched : Why → ℕ → CpuValue → CpuValue × Reply
+value_switched why now v =
+    if is_unasked why v.line.resched then (v, Unmarked)
+    else value_switched_from v.current (is_preemption why v.line.slice_end) now (without_marks v)
+
+-- the CPU with one thread more, queued
+abbrev pub value_laid : ThreadRecord → CpuValue → CpuValue
+value_laid r v = inserted Ordinary r.priority r.id (record v { threads = slice_set v.threads r.id (Some r) })
+
+-- thread t, if it runs or waits on CPU c
+abbrev pub thread_on : ℕ → ℕ → List Member → Option Member
+thread_on c t ms = find (λ m. is_thread t m && is_on c m.place) ms
+
+-- this value is CPU v.cpu's side of a world
+pub record StandsFor (v : CpuValue) (s : Side) : Type 0 where
+  pub settings : v.settings ≡ s.settings
+  pub line : v.line ≡ s.line
+  pub balance_word : v.balance_word ≡ s.balance_word
+  pub current : v.current ≡ option_map (λ m. m.thread.id) (current_of v.cpu s.members)
+  pub slots : length v.threads ≡ 256
+  -- the records are those of the threads that run or wait on the CPU
+  pub threads : (t : ℕ) → thread_in v t ≡ option_map (λ m. m.thread) (thread_on v.cpu t s.members)
+  pub real : ShowsQueue v.real v.cpu Real s.members
+  pub batch : ShowsQueue v.batch v.cpu Batch s.members
+  pub idle : ShowsQueue v.idle v.cpu Idle s.members

@@ -1,0 +1,13 @@
+pub mod Places
+pub mod World
+pub mod CalendarIndexes
+pub mod Insertion
+pub mod Choice
+pub mod Switch
+pub mod Step
+pub mod Program
+pub mod Start
+pub mod Rounds
+pub mod Finals
+pub mod Shows
+pub mod CpuValue

@@ -1,0 +1,62 @@
+-- The program of a worker: the items of its commands, one after another.
+use Rattle.std.specs.Prelude.{ℕ, List, [], ◌∷◌, Option, Some, None}
+use Rattle.ule_score.specs.declared.record.Why.TheVariants as why
+use Rattle.ule_types.specs.declared.command.Command.{Command}
+use Rattle.ule_types.specs.declared.command.Command.TheVariants as command
+use Rattle.ule_types.specs.declared.event.Event.TheVariants as event
+use Rattle.ule_types.specs.declared.event.Item.{Item}
+use Rattle.ule_types.specs.declared.event.Item.TheVariants as item
+use Rattle.ule_types.specs.declared.event.Reply.{Reply}
+
+-- where a worker stands inside a command: the items that are still to come
+pub record Progress : Type 0 where
+  pub worker : ℕ
+  pub todo : List Item
+
+-- the items that a command begins with
+abbrev pub items_of : ℕ → Command → List Item
+items_of worker command.Yield = item.Event (event.Switch worker why.Yield) ∷ []
+items_of worker _ = []
+
+-- the command begun
+abbrev pub begun : Command → Progress → Progress
+begun c p = record p { todo = items_of p.worker c }
+
+-- the next item of a command, and what is to come after it
+abbrev pub next_item : List Item → Progress → Option Item × Progress
+next_item [] p = (None, p)
+next_item (i ∷ is) p = (Some i, record p { todo = is })
+
+-- the same, told the reply and the time of the event before; no command waits for a reply yet
+abbrev pub next_of : Option (Reply × ℕ) → Progress → Option Item × Progress
+next_of last p = next_item p.todo p
+
+-- where a worker stands in its script: the commands not begun, the command begun, and what the last event told
+pub record Course : Type 0 where
+  pub script : List Command
+  pub progress : Progress
+  pub last : Option (Reply × ℕ)
+
+-- a worker before its first command
+abbrev pub course_of : ℕ → List Command → Course
+course_of worker script = record { script = script; progress = record { worker = worker; todo = [] }; last = None }
+
+-- a step of a program: its item, and the course after it
+abbrev pub stepped : List Command → Option Item → Progress → Option (Item × Course)
+stepped script None p = None
+stepped script (Some i) p = Some (i, record { script = script; progress = p; last = None })
+
+-- the first of two that there is
+abbrev pub or_else : Option (Item × Course) → Option (Item × Course) → Option (Item × Course)
+or_else None other = other
+or_else (Some found) other = Some found
+
+-- the next item of a command begun, or of the commands not begun
+unfoldable pub next_in : List Command → Progress → Option (Reply × ℕ) → Option (Item × Course)
+next_in [] p last = stepped [] (next_of last p).0 (next_of last p).1
+next_in (c ∷ cs) p last =
+    or_else (stepped (c ∷ cs) (next_of last p).0 (next_of last p).1) (next_in cs (begun c (next_of last p).1) None)
+
+-- the next item of a program; none where it is at its end
+abbrev pub next_step : Course → Option (Item × Course)
+next_step course = next_in course.script course.progress course.last

@@ -1,0 +1,111 @@
+-- The switch of a CPU, after sched_switch and choosethread.
+use Rattle.std.specs.Prelude.{ℕ, ◌+◌, ◌-◌, ◌^◌, min, Bool, true, false, not, ◌==◌, pos, List, length, Option, Some, None, if◌then◌else◌}
+use Rattle.ule_history.specs.CpuUseUpdate.{updated_use}
+use Rattle.ule_prio.specs.declared.kind.Kind.{Kind}
+use Rattle.ule_prio.specs.declared.kind.Kind.TheVariants.{Real, Batch, Idle}
+use Rattle.ule_score.specs.declared.place.Place.{Place}
+use Rattle.ule_score.specs.declared.place.Place.TheVariants.{Running, Queued, Asleep, Unborn, Gone, Hand}
+use Rattle.ule_score.specs.declared.record.CpuLine.{CpuLine}
+use Rattle.ule_score.specs.declared.record.ThreadRecord.{ThreadRecord}
+use Rattle.ule_score.specs.declared.record.Why.{Why}
+use Rattle.ule_score.specs.declared.record.Why.TheVariants.{Yield, Resched}
+use Rattle.ule_types.specs.declared.event.Reply.{Reply}
+use Rattle.ule_types.specs.declared.event.Reply.TheVariants.{Unmarked, Nothing, Switched}
+use Rattle.ule_model.specs.CalendarIndexes.{ridx_after_removal}
+use Rattle.ule_model.specs.Choice.{choice_of}
+use Rattle.ule_model.specs.Insertion.{Insertion, Ordinary, Preempted, members_in, queued}
+use Rattle.ule_model.specs.World.{Member, Side, current_of, moved_to, with_record}
+
+-- a count after one more; it stands still at its type's end
+abbrev pub one_more : ℕ → ℕ
+one_more n = min (n + 1) (2 ^ 64 - 1)
+
+-- a record whose thread has just left the processor
+abbrev pub after_running : ℕ → ThreadRecord → ThreadRecord
+after_running now r = record r { usage = updated_use r.usage now true; last_run = now }
+
+-- a record whose thread has just got the processor
+abbrev pub before_running : ℕ → ThreadRecord → ThreadRecord
+before_running now r = record r { usage = updated_use r.usage now false }
+
+-- the numbers of CPU c after a thread left the calendar for good
+abbrev pub after_batch_removal : ℕ → CpuLine → List Member → CpuLine
+after_batch_removal c line members =
+    record line { ridx = ridx_after_removal line.idx line.ridx (length (members_in c Batch line.ridx members) == 0) }
+
+-- the numbers of CPU c after a thread left its queue of this kind
+abbrev pub after_removal : Kind → ℕ → CpuLine → List Member → CpuLine
+after_removal Real c line members = line
+after_removal Batch c line members = after_batch_removal c line members
+after_removal Idle c line members = line
+
+-- the numbers of CPU c after a thread left this place
+abbrev pub after_leaving : Place → ℕ → CpuLine → List Member → CpuLine
+after_leaving (Queued d k b) c line members = after_removal k c line members
+after_leaving (Running d) c line members = line
+after_leaving (Asleep channel) c line members = line
+after_leaving Unborn c line members = line
+after_leaving Gone c line members = line
+after_leaving (Hand w) c line members = line
+
+-- the side with this queued thread running on CPU c
+abbrev pub with_running : ℕ → ℕ → Member → Side → Side
+with_running c now m s =
+    let members = moved_to m.thread.id (Running c) (pos 0) s.members in
+    record s { members = with_record m.thread.id (before_running now) members; line = after_leaving m.place c s.line members }
+
+-- what choosing comes to: the side, and the thread that runs now
+abbrev pub running_chosen : ℕ → ℕ → Option Member → Side → Side × Option ℕ
+running_chosen c now None s = (s, None)
+running_chosen c now (Some m) s = (with_running c now m s, Some m.thread.id)
+
+-- the next thread of CPU c is chosen, and runs
+abbrev pub choosing_next : ℕ → ℕ → Side → Side × Option ℕ
+choosing_next c now s = running_chosen c now (choice_of c s.line.ridx s.members) s
+
+-- the side without marks
+abbrev pub unmarked : Side → Side
+unmarked s = record s { line = record s.line { resched = false; slice_end = false } }
+
+-- the side with one switch more
+abbrev pub counted : Side → Side
+counted s = record s { line = record s.line { switches = one_more s.line.switches } }
+
+-- the thread that gives way keeps its turn where it was preempted
+abbrev pub insertion_of : Bool → Insertion
+insertion_of preempted = if preempted then Preempted else Ordinary
+
+-- the side with CPU c's current thread queued again
+abbrev pub given_way : ℕ → Bool → ℕ → ℕ → Side → Side
+given_way c preempted now t s =
+    queued (insertion_of preempted) c t
+    (counted (record s { members = with_record t (after_running now) s.members }))
+
+-- the reply where there was no current thread
+abbrev pub started_reply : Option ℕ → Reply
+started_reply None = Nothing
+started_reply (Some t) = Switched None (Some t) false
+
+-- the switch from the current thread, if there is one
+abbrev pub switched_from : Option Member → ℕ → Bool → ℕ → Side → Side × Reply
+switched_from None c preempted now s =
+    let next = choosing_next c now s in (next.0, started_reply next.1)
+switched_from (Some m) c preempted now s =
+    let next = choosing_next c now (given_way c preempted now m.thread.id s) in
+    (next.0, Switched (Some m.thread.id) next.1 preempted)
+
+-- whether a switch for this reason takes the processor from a thread that would have gone on
+abbrev pub is_preemption : Why → Bool → Bool
+is_preemption Yield slice_end = false
+is_preemption Resched slice_end = not slice_end
+
+-- whether nothing asks for a switch that wants to be asked for
+abbrev pub is_unasked : Why → Bool → Bool
+is_unasked Yield resched = false
+is_unasked Resched resched = not resched
+
+-- the step of a switch of CPU c
+abbrev pub switched : ℕ → Why → ℕ → Side → Side × Reply
+switched c why now s =
+    if is_unasked why s.line.resched then (s, Unmarked)
+    else switched_from (current_of c s.members) c (is_preemption why s.line.slice_end) now (unmarked s)

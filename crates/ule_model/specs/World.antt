@@ -1,0 +1,61 @@
+-- The world of the sequential scheduler: one list of threads, and the numbers of each CPU.
+use Rattle.std.specs.Prelude.{ℕ, ℤ, Bool, ◌==◌, Option, List, find, map, slice_set, slice_index_or, if◌then◌else◌}
+use Rattle.ule_score.specs.declared.place.Place.{Place}
+use Rattle.ule_score.specs.declared.record.CpuLine.{CpuLine}
+use Rattle.ule_score.specs.declared.record.Settings.{Settings}
+use Rattle.ule_score.specs.declared.record.ThreadRecord.{ThreadRecord}
+use Rattle.ule_model.specs.Places.{runs_on}
+
+-- a thread of the world: its record, its place, and where it is queued its order in the bucket
+pub record Member : Type 0 where
+  pub thread : ThreadRecord
+  pub place : Place
+  pub order : ℤ
+
+-- the world: the threads have distinct numbers, and CPU c's numbers stand at place c
+pub record World : Type 0 where
+  pub settings : Settings
+  pub members : List Member
+  pub lines : List CpuLine
+  pub balance_word : ℕ
+
+-- what an event under one CPU's queue lock reads and changes
+pub record Side : Type 0 where
+  pub settings : Settings
+  pub members : List Member
+  pub line : CpuLine
+  pub balance_word : ℕ
+
+-- the numbers of a CPU that has not begun
+abbrev pub fresh_line : CpuLine
+fresh_line = record { idx = 0; ridx = 0; resched = Bool.false; slice_end = Bool.false; switches = 0; old_switches = 0; balance = 0 }
+
+-- CPU c's side of the world
+abbrev pub side_of : ℕ → World → Side
+side_of c w = record { settings = w.settings; members = w.members; line = slice_index_or w.lines c fresh_line; balance_word = w.balance_word }
+
+-- the world with this side of CPU c
+abbrev pub with_side : ℕ → Side → World → World
+with_side c s w = record w { members = s.members; lines = slice_set w.lines c s.line; balance_word = s.balance_word }
+
+-- whether a thread has this number
+abbrev pub is_thread : ℕ → Member → Bool
+is_thread t m = m.thread.id == t
+
+-- the thread with this number
+abbrev pub thread_of : ℕ → List Member → Option Member
+thread_of t members = find (is_thread t) members
+
+-- the current thread of CPU c
+abbrev pub current_of : ℕ → List Member → Option Member
+current_of c members = find (λ m. runs_on c m.place) members
+
+-- the threads with thread t at another place
+abbrev pub moved_to : ℕ → Place → ℤ → List Member → List Member
+moved_to t place order members =
+    map (λ m. if is_thread t m then record m { place = place; order = order } else m) members
+
+-- the threads with thread t's record changed
+abbrev pub with_record : ℕ → (ThreadRecord → ThreadRecord) → List Member → List Member
+with_record t change members =
+    map (λ m. if is_thread t m then record m { thread = change m.thread } else m) members

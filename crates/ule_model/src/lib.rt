@@ -1,0 +1,3 @@
+//! What the scheduler is: the definitions that queues, CPUs and the whole scheduler are proved
+//! against, and the laws about these definitions alone.
+#![tactic(auto)]

@@ -1,0 +1,2 @@
+//! TODO
+#![tactic(auto)]

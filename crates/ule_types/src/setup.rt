@@ -1,0 +1,68 @@
+ghost use Rattle.std.specs.Prelude.{IsTrue};
+ghost use Rattle.ule_types.specs.Rules.{keeps_rules};
+
+use crate::items::Items;
+use crate::scripts::Scripts;
+use ule_prio::{Cpu, Nice, Priority, ThreadId};
+use ule_score::Settings;
+
+/// One group of CPUs.
+#[derive(Clone, Copy, Debug, PartialEq, Eq)]
+pub struct GroupLine {
+    /// The group's number, 0..=14.
+    pub id: u8,
+    /// The group that it lies in; none for the root.
+    pub parent: Option<u8>,
+    /// Its CPUs: bit c for CPU c.
+    pub cpus: u16,
+}
+
+/// The class of a declared thread, with its nice value or its base priority.
+#[derive(Clone, Copy, Debug, PartialEq, Eq)]
+pub enum Form {
+    Ts(Nice),
+    Ithd(Priority),
+    Rt(Priority),
+    Fifo(Priority),
+    Idle(Priority),
+}
+
+/// A thread that is queued at the start.
+#[derive(Clone, Copy, Debug, PartialEq, Eq)]
+pub struct ThreadSpec {
+    pub id: ThreadId,
+    pub form: Form,
+    /// The CPU that it is queued on.
+    pub cpu: Cpu,
+    /// Whether it is bound to that CPU.
+    pub bound: bool,
+}
+
+/// The group lines of a setup, in order.
+pub type Groups = Items<GroupLine>;
+
+/// The declared threads of a setup, in order.
+pub type Specs = Items<ThreadSpec>;
+
+/// The unborn threads of a setup, in order.
+pub type Unborn = Items<ThreadId>;
+
+/// The turns of a setup, in order: each is a worker's number.
+pub type Turns = Items<u8>;
+
+/// What a scenario spells. Every setup keeps the rules of a scenario: `keeps_rules` of the specs
+/// says which.
+#[derive(Drop)]
+pub struct Setup {
+    pub settings: Settings,
+    /// Where the jitter words start.
+    pub jitter: u32,
+    /// The number of CPUs, 1..=16.
+    pub cpus: u8,
+    pub groups: Groups,
+    pub threads: Specs,
+    pub unborn: Unborn,
+    pub scripts: Scripts,
+    pub turns: Turns,
+    ghost rules: { IsTrue (keeps_rules settings cpus groups threads unborn scripts turns) },
+}
