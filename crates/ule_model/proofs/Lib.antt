@@ -1,2 +1,4 @@
 pub mod Membership
-pub mod Orders
+pub mod Rising
+pub mod ChoiceLaws
+pub mod PlaceLaws

@@ -1,8 +1,7 @@
 -- The order of integers as a test, and the laws of threads by rising order.
-use Rattle.std.proofs.Common.{◌≡◌, ◌≢◌, ℕ, ◌+◌, Bool, true, false, cond, ltb, List, [], ◌∷◌, Option, Some, None, slice_get, option_map, ◌⊎◌, inl, inr, ⊎_elim, refl, sym, ◌∙◌, ap, subst, arith, ℤ, pos, negsuc}
+use Rattle.std.proofs.Common.{◌≡◌, ℕ, Bool, true, false, cond, List, [], ◌∷◌, Option, Some, None, slice_get, option_map, ◌⊎◌, inl, inr, ⊎_elim, refl, sym, ◌∙◌, subst, arith, ℤ}
 use Rattle.std.specs.Prelude.{int_lt}
 use Rattle.std.specs.List.{AllByRecursion}
-use Rattle.std.proofs.lemmas.Bool.{both_ways, ltb-true, ltb-false, le-ltb, lt-ltb}
 use Rattle.std.proofs.lemmas.Int.{ints}
 use Rattle.std.proofs.lemmas.Option.{slice_get-map, same_Some, none-some}
 use Rattle.ule_model.specs.Shows.{with_ordered, by_order, ids_of}
@@ -13,9 +12,9 @@ use Rattle.ule_model.proofs.Membership.{Has, all_has, all_from_has}
 pub int_lt_flips : (x y : ℤ) → int_lt x y ≡ true → int_lt y x ≡ false
 int_lt_flips x y h = grind (arith, ints)
 
--- of two integers that differ one is the smaller
-pub int_lt_other : (x y : ℤ) → int_lt x y ≡ false → x ≢ y → int_lt y x ≡ true
-int_lt_other x y h apart = grind (arith, ints)
+-- two integers of which none is the smaller are equal
+pub int_same : (x y : ℤ) → int_lt x y ≡ false → int_lt y x ≡ false → x ≡ y
+int_same x y h g = grind (arith, ints)
 
 -- what isn't smaller than one that isn't smaller isn't smaller
 pub int_ge_trans : (x y z : ℤ) → int_lt x y ≡ false → int_lt y z ≡ false → int_lt x z ≡ false
