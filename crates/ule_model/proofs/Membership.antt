@@ -1,7 +1,8 @@
 -- Which elements stand in a list, by recursion on it; and that well made threads are one where they agree.
 use Rattle.std.proofs.Common.{◌≡◌, ℕ, Bool, true, false, cond, List, [], ◌∷◌, filter, Some, ◌⊎◌, inl, inr, ⊎_elim, refl, sym, ◌∙◌, ap, subst}
 use Rattle.std.specs.List.{AllByRecursion}
-use Rattle.std.proofs.lemmas.Bool.{both_ways, eq-eqb, ne_eqb, cond-true, cond-false}
+use Rattle.std.proofs.lemmas.Option.{same_Some, none-some}
+use Rattle.std.proofs.lemmas.Bool.{eqb-true, both_ways, eq-eqb, ne_eqb, cond-true, cond-false}
 use Rattle.ule_prio.specs.declared.kind.Kind.{Kind}
 use Rattle.ule_model.specs.Places.{waits_in}
 use Rattle.ule_model.specs.Shows.{AreApart, AllApart, IsWellMade}
@@ -76,3 +77,14 @@ thread_of_has m (x ∷ xs) apart has =
     (λ (same : x ≡ m). cond-true (is_thread m.thread.id x) (Some x) (thread_of m.thread.id xs) (eq-eqb x.thread.id m.thread.id (ap (λ z. z.thread.id) same)) ∙ ap (λ (z : Member). Some z) same)
     (λ (rest : Has m xs). cond-false (is_thread m.thread.id x) (Some x) (thread_of m.thread.id xs) (ne_eqb x.thread.id m.thread.id (all_has (AreApart x) m xs apart.0 rest).numbers) ∙ thread_of_has m xs apart.1 rest)
     has
+
+-- the thread that a number finds stands in the world, and has it
+pub has_thread_of : (t : ℕ) (m : Member) (ms : List Member) → thread_of t ms ≡ Some m → Has m ms × (m.thread.id ≡ t)
+has_thread_of t m [] found = absurd (none-some m found)
+has_thread_of t m (x ∷ xs) found = step t m x xs (is_thread t x) refl (has_thread_of t m xs) found
+  where
+    step : (t : ℕ) (m x : Member) (xs : List Member) (b : Bool) → is_thread t x ≡ b → (thread_of t xs ≡ Some m → Has m xs × (m.thread.id ≡ t)) → cond b (Some x) (thread_of t xs) ≡ Some m → (Has m (x ∷ xs)) × (m.thread.id ≡ t)
+    step t m x xs true is rest found =
+        let same : x ≡ m = same_Some x m found in
+        (inl same, ap (λ z. z.thread.id) (sym same) ∙ eqb-true x.thread.id t is)
+    step t m x xs false is rest found = (inr (rest found).0, (rest found).1)

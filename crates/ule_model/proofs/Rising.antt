@@ -2,6 +2,7 @@
 use Rattle.std.proofs.Common.{◌≡◌, ℕ, Bool, true, false, cond, List, [], ◌∷◌, Option, Some, None, slice_get, option_map, ◌⊎◌, inl, inr, ⊎_elim, refl, sym, ◌∙◌, subst, arith, ℤ}
 use Rattle.std.specs.Prelude.{int_lt}
 use Rattle.std.specs.List.{AllByRecursion}
+use Rattle.std.proofs.lemmas.Bool.{true_from_ne_false}
 use Rattle.std.proofs.lemmas.Int.{ints}
 use Rattle.std.proofs.lemmas.Option.{slice_get-map, same_Some, none-some}
 use Rattle.ule_model.specs.Shows.{with_ordered, by_order, ids_of}
@@ -23,6 +24,10 @@ int_ge_trans x y z h g = grind (arith, ints)
 -- the same, where the lesser of the two steps is strict
 pub int_ge_from_lt : (x y z : ℤ) → int_lt z y ≡ true → int_lt x y ≡ false → int_lt x z ≡ false
 int_ge_from_lt x y z h g = grind (arith, ints)
+
+-- of two integers that differ, where one isn't the smaller the other is
+pub int_lt_other : (x y : ℤ) → int_lt x y ≡ false → (y ≡ x → ⊥) → int_lt y x ≡ true
+int_lt_other x y h apart = true_from_ne_false (int_lt y x) (λ g. apart (int_same y x g h))
 
 -- no integer is smaller than itself
 pub int_lt_same : (x : ℤ) → int_lt x x ≡ false
