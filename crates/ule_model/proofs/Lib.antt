@@ -1,1 +1,4 @@
 pub mod Within
+pub mod Threads
+pub mod Orders
+pub mod Buckets
