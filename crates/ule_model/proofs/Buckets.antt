@@ -1,21 +1,21 @@
 -- What the lists of a queue show after one thread of the world is changed, queued or taken out.
-use Rattle.std.proofs.Common.{◌≡◌, ◌≢◌, ℕ, ◌<◌, ◌==◌, ℤ, Bool, true, false, not, ◌&&◌, List, [], ◌∷◌, ◌++◌, map, filter, length, slice_index_or, if◌then◌else◌, refl, sym, ◌∙◌, ap, subst, arith, int_lt, ⊎_elim, slice_set, length-set, get_or-set_same, get_or-set_other}
+use Rattle.std.proofs.Common.{◌≡◌, ◌≢◌, ℕ, ◌<◌, ◌==◌, ℤ, Bool, true, false, not, List, [], ◌∷◌, ◌++◌, map, filter, length, slice_index_or, if◌then◌else◌, refl, sym, ◌∙◌, ap, subst, arith, int_lt, ⊎_elim, slice_set, length-set, get_or-set_same, get_or-set_other}
 use Rattle.std.specs.List.{AllByRecursion}
-use Rattle.std.proofs.lemmas.Bool.{eqb-true, eq-eqb, ne_eqb, cases_eq, and_parts}
+use Rattle.std.proofs.lemmas.Bool.{eq-eqb, ne_eqb, cases_eq}
 use Rattle.std.proofs.lemmas.List.{append-nil, length-map, map_push}
 use Rattle.std.proofs.lemmas.List.Elements.{filter-append}
 use Rattle.ule_prio.specs.declared.kind.Kind.{Kind}
 use Rattle.ule_runq.specs.Runq.{list_at, is_empty_at, with_tail, with_head, without}
-use Rattle.ule_runq.proofs.RunqLaws.{length-with_tail, length-with_head, length-without, list_at-with_tail, list_at-with_tail_other, list_at-with_head, list_at-with_head_other, list_at-without}
+use Rattle.ule_runq.proofs.RunqLaws.{length-without, list_at-without}
 use Rattle.ule_score.specs.declared.place.Place.{Place}
 use Rattle.ule_score.specs.declared.place.Place.TheVariants.{Queued}
 use Rattle.ule_score.specs.declared.record.ThreadRecord.{ThreadRecord}
 use Rattle.ule_model.specs.Insertion.{members_in, tail_order, head_order}
-use Rattle.ule_model.specs.Places.{is_kind, rank_of, waits_in}
-use Rattle.ule_model.specs.Shows.{AreApart, IsWellMade, ShowsQueue, by_order, ids_of, bucket_ids}
+use Rattle.ule_model.specs.Places.{rank_of, waits_in}
+use Rattle.ule_model.specs.Shows.{AreApart, ShowsQueue, by_order, ids_of, bucket_ids}
 use Rattle.ule_model.specs.World.{Member, is_thread, moved_to, with_record}
 use Rattle.ule_model.proofs.Orders.{length-by_order, map-by_order, ids_lacking, ids_without, all-by_order, all_from_map, tail_order_above, head_order_below, by_order_last, by_order_first}
-use Rattle.ule_model.proofs.Within.{Lacks, Within, changed, changed_within, all-append, all_front, all_back, all_along}
+use Rattle.ule_model.proofs.Within.{Lacks, Within, changed, changed_within, all-append, all_front, all_back}
 
 -- ---- the threads of a bucket
 

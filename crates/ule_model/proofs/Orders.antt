@@ -1,7 +1,7 @@
 -- The laws of lists in order, and of the orders that an insertion gives.
 use Rattle.std.proofs.Common.{◌≡◌, ◌≢◌, ℕ, suc, ◌==◌, ℤ, pos, ◌+ℤ◌, ◌-ℤ◌, ◌≤ℤ◌, Bool, true, false, not, List, [], ◌∷◌, ◌++◌, map, filter, fold, length, if◌then◌else◌, refl, sym, ◌∙◌, ap, arith, int_lt}
 use Rattle.std.specs.Int.{int_max, int_min}
-use Rattle.std.specs.List.{AllByRecursion, All}
+use Rattle.std.specs.List.{AllByRecursion}
 use Rattle.std.proofs.lemmas.Bool.{eq-eqb}
 use Rattle.std.proofs.lemmas.Int.{ints, fold-int_max_bounds, fold-int_min_bounds}
 use Rattle.std.proofs.lemmas.List.Elements.{recursion_from_All}
@@ -53,7 +53,7 @@ lt_flip a b apart = grind (arith, ints)
 lt_between : (a b c : ℤ) → int_lt a c ≡ true → int_lt b c ≡ false → int_lt a b ≡ true
 lt_between a b c low high = grind (arith, ints)
 
-lt_not_back : (a b : ℤ) → int_lt a b ≡ true → int_lt b a ≡ false
+pub lt_not_back : (a b : ℤ) → int_lt a b ≡ true → int_lt b a ≡ false
 lt_not_back a b low = grind (arith, ints)
 
 -- two of different orders come in order whichever comes first
@@ -188,7 +188,7 @@ head_order_below (o ∷ os) =
     lowered x r le = grind (arith, ints)
 
 -- two orders of which one is less differ
-lt_apart : (a b : ℤ) → int_lt a b ≡ true → a ≢ b
+pub lt_apart : (a b : ℤ) → int_lt a b ≡ true → a ≢ b
 lt_apart a b low = grind (arith, ints)
 
 -- a thread above all the others comes last

@@ -1,16 +1,14 @@
 -- What look-ups find after one thread of a well-made list is changed, or one is appended.
-use Rattle.std.proofs.Common.{◌≡◌, ◌≢◌, ℕ, ℤ, Bool, true, false, ◌&&◌, ◌||◌, List, [], ◌∷◌, ◌++◌, Option, Some, None, if◌then◌else◌, refl, sym, ◌∙◌, ap, subst}
+use Rattle.std.proofs.Common.{◌≡◌, ◌≢◌, ℕ, Bool, true, false, ◌&&◌, List, [], ◌∷◌, ◌++◌, Some, None, if◌then◌else◌, refl, sym, ◌∙◌, ap, subst}
 use Rattle.std.specs.List.{AllByRecursion, find}
 use Rattle.std.proofs.lemmas.Bool.{eqb-true, eq-eqb, ne_eqb, and_left, and_parts, false_from_ne_true}
 use Rattle.std.proofs.lemmas.List.{append-nil}
-use Rattle.std.proofs.lemmas.Option.{none-some, same_Some}
-use Rattle.ule_score.specs.declared.place.Place.{Place}
-use Rattle.ule_score.specs.declared.record.ThreadRecord.{ThreadRecord}
+use Rattle.std.proofs.lemmas.Option.{none-some}
 use Rattle.ule_model.specs.CpuValue.{thread_on}
 use Rattle.ule_model.specs.Places.{runs_on, is_on}
 use Rattle.ule_model.specs.Shows.{AreApart, IsWellMade}
-use Rattle.ule_model.specs.World.{Member, is_thread, thread_of, current_of, moved_to, with_record}
-use Rattle.ule_model.proofs.Within.{Lacks, Within, FoundAt, found_at, within_found, changed, changed_within, all_front, all_back, all_along}
+use Rattle.ule_model.specs.World.{Member, is_thread, thread_of, current_of}
+use Rattle.ule_model.proofs.Within.{Lacks, Within, found_at, within_found, changed, changed_within, all_front, all_back, all_along}
 
 -- ---- look-ups in any list
 
