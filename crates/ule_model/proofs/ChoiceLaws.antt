@@ -17,7 +17,8 @@ use Rattle.ule_model.specs.Places.{rank_of, waits_in, waits_on}
 use Rattle.ule_model.specs.Shows.{ShowsQueue, IsMade, IsPlace, IsWellMade, by_order, ids_of}
 use Rattle.ule_model.specs.World.{Member, Side, thread_of}
 use Rattle.ule_model.proofs.Membership.{Has, all_has, all_from_has, has-filter, has_filtered, has_none, same_from_order, thread_of_has}
-use Rattle.ule_model.proofs.Rising.{IsLeastOf, head_by_order, int_lt_flips, int_same, by_order_has}
+use Rattle.ule_model.proofs.Orders.{lt_not_back}
+use Rattle.ule_model.proofs.Rising.{IsLeastOf, head_by_order, int_same, by_order_has}
 use Rattle.ule_model.proofs.PlaceLaws.{kind_from_rank, place_from_waits_in, waits_in_place, place_from_waits_on, waits_on_place}
 
 -- ---- the least turn
@@ -27,15 +28,15 @@ lexical_flips : (a b : ℕ) (p q : Bool) → (p ≡ true → q ≡ false) → (n
 lexical_flips a b p q flip first =
     ⊎_elim
     (λ (less : nat_lt a b ≡ true). let below = ltb-true a b less in
-        or_from (nat_lt b a) ((b == a) && q) (le-ltb b a (omega arith)) (and_left (b == a) q (ne_eqb b a (λ same. omega arith))))
+    or_from (nat_lt b a) ((b == a) && q) (le-ltb b a (omega arith)) (and_left (b == a) q (ne_eqb b a (λ same. omega arith))))
     (λ (equal : ((a == b) && p) ≡ true). let parts = and_parts (a == b) p equal in let same : a ≡ b = eqb-true a b parts.0 in
-        or_from (nat_lt b a) ((b == a) && q) (le-ltb b a (omega arith)) (and_right (b == a) q (flip parts.1)))
+    or_from (nat_lt b a) ((b == a) && q) (le-ltb b a (omega arith)) (and_right (b == a) q (flip parts.1)))
     (or_cases (nat_lt a b) ((a == b) && p) first)
 
 -- of two turns one at most comes before the other
 comes_before_flips : (s t : Turn) → comes_before s t ≡ true → comes_before t s ≡ false
 comes_before_flips s t =
-    lexical_flips s.rank t.rank _ _ (lexical_flips s.depth t.depth _ _ (int_lt_flips s.order t.order))
+    lexical_flips s.rank t.rank _ _ (lexical_flips s.depth t.depth _ _ (lt_not_back s.order t.order))
 
 -- n is m, or m's turn comes before n's
 abbrev IsOrFollows : ℕ → Member → Member → Type 0
@@ -110,20 +111,20 @@ follows_in_queue ridx c k b e m n ms small made next has place within =
     let stands : m.place ≡ Queued c k b = place_from_waits_in c k b m.place mine.1 in
     ⊎_elim
     (λ (level : depth_of ridx k b ≡ depth_of ridx k e).
-        let here : b ≡ e = bucket_from_depth ridx k b e small next.bucket within level in
-        let waits : waits_in c k b n.place ≡ true = waits_in_place c k b n.place (place ∙ ap (λ x. Queued c k x) (sym here)) in
-        let behind : int_lt n.order m.order ≡ false = next.head.least n (has-filter (λ z. waits_in c k b z.place) n ms has waits) in
-        ⊎_elim
-        (λ (before : int_lt m.order n.order ≡ true). inr (turns_at ridx m n (Queued c k b) (Queued c k e) stands place
-            (lexical_same (rank_of k) (rank_of k) _ refl (lexical_same (depth_of ridx k b) (depth_of ridx k e) _ level before))))
-        (λ (not_before : int_lt m.order n.order ≡ false). inl (same_from_order c k b n m ms made has mine.0 waits mine.1 (int_same n.order m.order behind not_before)))
-        (cases_Bool (int_lt m.order n.order)))
+    let here : b ≡ e = bucket_from_depth ridx k b e small next.bucket within level in
+    let waits : waits_in c k b n.place ≡ true = waits_in_place c k b n.place (place ∙ ap (λ x. Queued c k x) (sym here)) in
+    let behind : int_lt n.order m.order ≡ false = next.head.least n (has-filter (λ z. waits_in c k b z.place) n ms has waits) in
+    ⊎_elim
+    (λ (before : int_lt m.order n.order ≡ true). inr (turns_at ridx m n (Queued c k b) (Queued c k e) stands place
+    (lexical_same (rank_of k) (rank_of k) _ refl (lexical_same (depth_of ridx k b) (depth_of ridx k e) _ level before))))
+    (λ (not_before : int_lt m.order n.order ≡ false). inl (same_from_order c k b n m ms made has mine.0 waits mine.1 (int_same n.order m.order behind not_before)))
+    (cases_Bool (int_lt m.order n.order)))
     (λ (apart : (depth_of ridx k b < depth_of ridx k e) ⊎ (depth_of ridx k e < depth_of ridx k b)). ⊎_elim
-        (λ (farther : depth_of ridx k b < depth_of ridx k e). inr (turns_at ridx m n (Queued c k b) (Queued c k e) stands place
-            (lexical_same (rank_of k) (rank_of k) _ refl (lexical_less (depth_of ridx k b) (depth_of ridx k e) _ farther))))
-        (λ (nearer : depth_of ridx k e < depth_of ridx k b). absurd (has_none n (members_in c k e ms) (next.nearer e within nearer)
-            (has-filter (λ z. waits_in c k e z.place) n ms has (waits_in_place c k e n.place place))))
-        apart)
+    (λ (farther : depth_of ridx k b < depth_of ridx k e). inr (turns_at ridx m n (Queued c k b) (Queued c k e) stands place
+    (lexical_same (rank_of k) (rank_of k) _ refl (lexical_less (depth_of ridx k b) (depth_of ridx k e) _ farther))))
+    (λ (nearer : depth_of ridx k e < depth_of ridx k b). absurd (has_none n (members_in c k e ms) (next.nearer e within nearer)
+    (has-filter (λ z. waits_in c k e z.place) n ms has (waits_in_place c k e n.place place))))
+    apart)
     (cases_order (depth_of ridx k b) (depth_of ridx k e))
 
 -- so is a thread of any of the queues
@@ -133,12 +134,12 @@ follows_next ridx c k j b e m n ms small made next has place within =
     let stands : m.place ≡ Queued c k b = place_from_waits_in c k b m.place mine.1 in
     ⊎_elim
     (λ (same : rank_of k ≡ rank_of j).
-        follows_in_queue ridx c k b e m n ms small made next has (place ∙ ap (λ x. Queued c x e) (sym (kind_from_rank k j same))) within)
+    follows_in_queue ridx c k b e m n ms small made next has (place ∙ ap (λ x. Queued c x e) (sym (kind_from_rank k j same))) within)
     (λ (apart : (rank_of k < rank_of j) ⊎ (rank_of j < rank_of k)). ⊎_elim
-        (λ (later : rank_of k < rank_of j). inr (turns_at ridx m n (Queued c k b) (Queued c j e) stands place (lexical_less (rank_of k) (rank_of j) _ later)))
-        (λ (earlier : rank_of j < rank_of k). absurd (has_none n (members_in c j e ms) (next.earlier j earlier e within)
-            (has-filter (λ z. waits_in c j e z.place) n ms has (waits_in_place c j e n.place place))))
-        apart)
+    (λ (later : rank_of k < rank_of j). inr (turns_at ridx m n (Queued c k b) (Queued c j e) stands place (lexical_less (rank_of k) (rank_of j) _ later)))
+    (λ (earlier : rank_of j < rank_of k). absurd (has_none n (members_in c j e ms) (next.earlier j earlier e within)
+    (has-filter (λ z. waits_in c j e z.place) n ms has (waits_in_place c j e n.place place))))
+    apart)
     (cases_order (rank_of k) (rank_of j))
 
 -- the bucket of a thread of a world is one of the 64
@@ -152,9 +153,9 @@ choice_is_next ridx c k b m ms small made next =
     let waits : waits_on c m.place ≡ true = waits_on_place c k b m.place (place_from_waits_in c k b m.place mine.1) in
     least_is ridx m (filter (λ z. waits_on c z.place) ms) (has-filter (λ z. waits_on c z.place) m ms mine.0 waits)
     (all_from_has (IsOrFollows ridx m) (filter (λ z. waits_on c z.place) ms) (λ n has.
-        let theirs = has_filtered (λ z. waits_on c z.place) n ms has in
-        let at = place_from_waits_on c n.place theirs.1 in
-        follows_next ridx c k at.0 b at.1.0 m n ms small made next theirs.0 at.1.1 (bucket_within c at.0 at.1.0 n ms made theirs.0 at.1.1)))
+    let theirs = has_filtered (λ z. waits_on c z.place) n ms has in
+    let at = place_from_waits_on c n.place theirs.1 in
+    follows_next ridx c k at.0 b at.1.0 m n ms small made next theirs.0 at.1.1 (bucket_within c at.0 at.1.0 n ms made theirs.0 at.1.1)))
 
 -- a filter that nothing passes leaves nothing
 none_from_has : (ms : List Member) → ((m : Member) → Has m ms → ⊥) → ms ≡ []
@@ -165,10 +166,10 @@ none_from_has (m ∷ ms) none = absurd (none m (inl refl))
 choice_none : (ridx c : ℕ) (ms : List Member) → IsWellMade ms → ((k : Kind) (b : ℕ) → b < 64 → members_in c k b ms ≡ []) → choice_of c ridx ms ≡ None
 choice_none ridx c ms made empty =
     ap (least ridx) (none_from_has (filter (λ z. waits_on c z.place) ms) (λ n has.
-        let theirs = has_filtered (λ z. waits_on c z.place) n ms has in
-        let at = place_from_waits_on c n.place theirs.1 in
-        has_none n (members_in c at.0 at.1.0 ms) (empty at.0 at.1.0 (bucket_within c at.0 at.1.0 n ms made theirs.0 at.1.1))
-        (has-filter (λ z. waits_in c at.0 at.1.0 z.place) n ms theirs.0 (waits_in_place c at.0 at.1.0 n.place at.1.1))))
+    let theirs = has_filtered (λ z. waits_on c z.place) n ms has in
+    let at = place_from_waits_on c n.place theirs.1 in
+    has_none n (members_in c at.0 at.1.0 ms) (empty at.0 at.1.0 (bucket_within c at.0 at.1.0 n ms made theirs.0 at.1.1))
+    (has-filter (λ z. waits_in c at.0 at.1.0 z.place) n ms theirs.0 (waits_in_place c at.0 at.1.0 n.place at.1.1))))
 
 -- ---- the queues that show a CPU
 
@@ -208,16 +209,18 @@ next_from_first : (lists : List (List ℕ)) (ridx c : ℕ) (k : Kind) (b t : ℕ
 next_from_first lists ridx c k b t ms shows small found earlier =
     let start : start_of ridx k < 64 = start_within ridx k small in
     let first : IsFirstFrom lists (start_of ridx k) b t = first_from_Some lists (start_of ridx k) b t shows.buckets start found in
-    let head = head_by_order t (members_in c k b ms) (ap (λ ids. slice_get ids 0) (sym (shows.each b first.bucket)) ∙ first.head) in
-    (head.0, record {
-      number = head.1;
-      next = record {
-        bucket = first.bucket;
-        head = head.2;
-        nearer = λ e within less. empty_from_shown lists c k ms shows e within (first.nearer e within (nearer_from_depth ridx k b e small first.bucket within less));
-        earlier = earlier;
-      };
-    })
+    let head = head_by_order t (members_in c k b ms) (ap (λ ids. slice_get ids 0) (sym (shows.each b first.bucket)) ∙ first.head) in (
+      head.0,
+      record {
+        number = head.1;
+        next = record {
+          bucket = first.bucket;
+          head = head.2;
+          nearer = λ e within less. empty_from_shown lists c k ms shows e within (first.nearer e within (nearer_from_depth ridx k b e small first.bucket within less));
+          earlier = earlier;
+        };
+      },
+    )
   where
     start_within : (ridx : ℕ) (k : Kind) → ridx < 64 → start_of ridx k < 64
     start_within ridx Real small = omega arith
@@ -265,14 +268,17 @@ choice_agrees real batch idle ridx c ms shows_real shows_batch shows_idle made s
     before_batch is_r Real less = none_from_first real c Real 0 ms shows_real (omega arith) is_r
     before_batch is_r Batch less = absurd (omega arith)
     before_batch is_r Idle less = absurd (omega arith)
+
     before_idle : first_from real 0 ≡ None → first_from batch ridx ≡ None → (j : Kind) → rank_of j < rank_of Idle → (e : ℕ) → e < 64 → members_in c j e ms ≡ []
     before_idle is_r is_b Real less = none_from_first real c Real 0 ms shows_real (omega arith) is_r
     before_idle is_r is_b Batch less = none_from_first batch c Batch ridx ms shows_batch small is_b
     before_idle is_r is_b Idle less = absurd (omega arith)
+
     all_empty : first_from real 0 ≡ None → first_from batch ridx ≡ None → first_from idle 0 ≡ None → (j : Kind) (e : ℕ) → e < 64 → members_in c j e ms ≡ []
     all_empty is_r is_b is_i Real = none_from_first real c Real 0 ms shows_real (omega arith) is_r
     all_empty is_r is_b is_i Batch = none_from_first batch c Batch ridx ms shows_batch small is_b
     all_empty is_r is_b is_i Idle = none_from_first idle c Idle 0 ms shows_idle (omega arith) is_i
+
     look : (r b i : Option (ℕ × ℕ)) → first_from real 0 ≡ r → first_from batch ridx ≡ b → first_from idle 0 ≡ i → Agrees c ms (first_of (in_kind Real r) (first_of (in_kind Batch b) (in_kind Idle i))) (choice_of c ridx ms)
     look (Some r) b i is_r is_b is_i =
         let first = next_from_first real ridx c Real r.0 r.1 ms shows_real small is_r (λ j less. absurd (omega arith)) in

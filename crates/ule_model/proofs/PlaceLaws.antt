@@ -1,10 +1,11 @@
 -- What the tests of a place say of it.
 use Rattle.std.proofs.Common.{◌≡◌, ℕ, true, ◌&&◌, ◌==◌, refl, sym, ◌∙◌, ap}
-use Rattle.std.proofs.lemmas.Bool.{and_parts, and_from, eqb-true, eq-eqb}
+use Rattle.std.proofs.lemmas.Bool.{and_parts, eqb-true, eq-eqb}
 use Rattle.ule_prio.specs.declared.kind.Kind.{Kind}
 use Rattle.ule_prio.specs.declared.kind.Kind.TheVariants.{Real, Batch, Idle}
 use Rattle.ule_score.specs.declared.place.Place.{Place}
 use Rattle.ule_score.specs.declared.place.Place.TheVariants.{Running, Queued, Asleep, Unborn, Gone, Hand}
+use Rattle.ule_model.proofs.Buckets.{waits_in_itself}
 use Rattle.ule_model.specs.Places.{rank_of, is_kind, waits_in, waits_on}
 
 -- two kinds of one rank are one
@@ -33,10 +34,9 @@ place_from_waits_in c k b Unborn waits = cc
 place_from_waits_in c k b Gone waits = cc
 place_from_waits_in c k b (Hand w) waits = cc
 
--- a bucket is in itself
+-- a place that is a bucket is in it
 pub waits_in_place : (c : ℕ) (k : Kind) (b : ℕ) (p : Place) → p ≡ Queued c k b → waits_in c k b p ≡ true
-waits_in_place c k b p is =
-    ap (waits_in c k b) is ∙ and_from (c == c) (is_kind k k && (b == b)) (eq-eqb c c refl) (and_from (is_kind k k) (b == b) (eq-eqb (rank_of k) (rank_of k) refl) (eq-eqb b b refl))
+waits_in_place c k b p is = ap (waits_in c k b) is ∙ waits_in_itself c k b
 
 -- a place in a CPU's queues is one of their buckets
 pub place_from_waits_on : (c : ℕ) (p : Place) → waits_on c p ≡ true → (k : Kind) × ((b : ℕ) × (p ≡ Queued c k b))

@@ -73,19 +73,19 @@ index_in_rising m (n ∷ ns) rising has all =
     let parts : count_by (λ z. int_lt z.order m.order) (n ∷ ns) ≡ cond (int_lt n.order m.order) 1 0 + count_by (λ z. int_lt z.order m.order) ns = sum_by-cons (λ z. cond (int_lt z.order m.order) 1 0) n ns in
     ⊎_elim
     (λ (same : n ≡ m).
-        let head : position_or_len (λ u. u == m.thread.id) (ids_of (n ∷ ns)) ≡ 0 =
-            ap (λ b. cond (not b) (1 + position_or_len (λ u. u == m.thread.id) (ids_of ns)) 0) (eq-eqb n.thread.id m.thread.id (ap (λ z. z.thread.id) same)) in
-        let none : count_by (λ z. int_lt z.order m.order) ns ≡ 0 = count_none (λ z. int_lt z.order m.order) ns (subst (λ (y : Member). AllByRecursion (λ z. int_lt z.order y.order ≡ false) ns) same rising.0) in
-        let here : cond {A = ℕ} (int_lt n.order m.order) 1 0 ≡ 0 = ap (λ b. cond {A = ℕ} b 1 0) (ap (λ (z : Member). int_lt z.order m.order) same ∙ int_lt_same m.order) in
-        omega arith)
+    let head : position_or_len (λ u. u == m.thread.id) (ids_of (n ∷ ns)) ≡ 0 =
+    ap (λ b. cond (not b) (1 + position_or_len (λ u. u == m.thread.id) (ids_of ns)) 0) (eq-eqb n.thread.id m.thread.id (ap (λ z. z.thread.id) same)) in
+    let none : count_by (λ z. int_lt z.order m.order) ns ≡ 0 = count_none (λ z. int_lt z.order m.order) ns (subst (λ (y : Member). AllByRecursion (λ z. int_lt z.order y.order ≡ false) ns) same rising.0) in
+    let here : cond {A = ℕ} (int_lt n.order m.order) 1 0 ≡ 0 = ap (λ b. cond {A = ℕ} b 1 0) (ap (λ (z : Member). int_lt z.order m.order) same ∙ int_lt_same m.order) in
+    omega arith)
     (λ (apart : (n.thread.id ≡ m.thread.id → ⊥) × (n.order ≡ m.order → ⊥)).
-        let rest : Has m ns = ⊎_elim (λ (one : n ≡ m). absurd (apart.0 (ap (λ z. z.thread.id) one))) (λ (h : Has m ns). h) has in
-        let step : position_or_len (λ u. u == m.thread.id) (ids_of (n ∷ ns)) ≡ 1 + position_or_len (λ u. u == m.thread.id) (ids_of ns) =
-            ap (λ b. cond (not b) (1 + position_or_len (λ u. u == m.thread.id) (ids_of ns)) 0) (ne_eqb n.thread.id m.thread.id apart.0) in
-        let less : int_lt n.order m.order ≡ true = int_lt_other m.order n.order (all_has (λ z. int_lt z.order n.order ≡ false) m ns rising.0 rest) apart.1 in
-        let one : cond {A = ℕ} (int_lt n.order m.order) 1 0 ≡ 1 = ap (λ b. cond {A = ℕ} b 1 0) less in
-        let behind = index_in_rising m ns rising.1 rest all.1 in
-        omega arith)
+    let rest : Has m ns = ⊎_elim (λ (one : n ≡ m). absurd (apart.0 (ap (λ z. z.thread.id) one))) (λ (h : Has m ns). h) has in
+    let step : position_or_len (λ u. u == m.thread.id) (ids_of (n ∷ ns)) ≡ 1 + position_or_len (λ u. u == m.thread.id) (ids_of ns) =
+    ap (λ b. cond (not b) (1 + position_or_len (λ u. u == m.thread.id) (ids_of ns)) 0) (ne_eqb n.thread.id m.thread.id apart.0) in
+    let less : int_lt n.order m.order ≡ true = int_lt_other m.order n.order (all_has (λ z. int_lt z.order n.order ≡ false) m ns rising.0 rest) apart.1 in
+    let one : cond {A = ℕ} (int_lt n.order m.order) 1 0 ≡ 1 = ap (λ b. cond {A = ℕ} b 1 0) less in
+    let behind = index_in_rising m ns rising.1 rest all.1 in
+    omega arith)
     all.0
 
 -- two threads of one bucket are one, or have two numbers and two orders
@@ -103,8 +103,8 @@ position_is_index c k b m ms made has place =
     let inside : Has m (members_in c k b ms) = has-filter (λ z. waits_in c k b z.place) m ms has waits in
     index_in_rising m (by_order (members_in c k b ms)) (rising-by_order (members_in c k b ms)) (by_order_has m (members_in c k b ms) inside)
     (all_from_has (IsOrDiffers m) (by_order (members_in c k b ms)) (λ n stands.
-        let theirs = has_filtered (λ z. waits_in c k b z.place) n ms (has_by_order n (members_in c k b ms) stands) in
-        is_or_differs c k b m n ms made has theirs.0 waits theirs.1))
+    let theirs = has_filtered (λ z. waits_in c k b z.place) n ms (has_by_order n (members_in c k b ms) stands) in
+    is_or_differs c k b m n ms made has theirs.0 waits theirs.1))
     ∙ count-by_order (λ n. int_lt n.order m.order) (members_in c k b ms)
     ∙ sym (count-filter (λ n. waits_in c k b n.place) (λ n. int_lt n.order m.order) ms)
     ∙ ap (λ (p : Place). position_of p m.order ms) (sym place)
@@ -130,8 +130,8 @@ lacks_number t (n ∷ ns) lacks =
 lacks_in_bucket : (lists : List (List ℕ)) (c : ℕ) (k : Kind) (ms : List Member) → ShowsQueue lists c k ms → (t b : ℕ) → b < 64 → ((n : Member) → Has n ms → n.thread.id ≡ t → n.place ≡ Queued c k b → ⊥) → list_any (λ u. u == t) (list_at lists b) ≡ false
 lacks_in_bucket lists c k ms shows t b within lacks =
     ap (list_any (λ u. u == t)) (shows.each b within) ∙ lacks_number t (by_order (members_in c k b ms)) (λ n has same.
-        let theirs = has_filtered (λ z. waits_in c k b z.place) n ms (has_by_order n (members_in c k b ms) has) in
-        lacks n theirs.0 same (place_from_waits_in c k b n.place theirs.1))
+    let theirs = has_filtered (λ z. waits_in c k b z.place) n ms (has_by_order n (members_in c k b ms) has) in
+    lacks n theirs.0 same (place_from_waits_in c k b n.place theirs.1))
 
 -- a queued thread stands in the queue that shows it at its bucket and its position
 pub place_in_shown : (lists : List (List ℕ)) (c : ℕ) (k : Kind) (b : ℕ) (m : Member) (ms : List Member) → ShowsQueue lists c k ms → IsWellMade ms → Has m ms → m.place ≡ Queued c k b → place_in lists m.thread.id ≡ Some (b, position_of m.place m.order ms)
@@ -141,13 +141,14 @@ place_in_shown lists c k b m ms shows made has place =
     let long = shows.buckets in
     let stands : Has m (by_order (members_in c k b ms)) = by_order_has m (members_in c k b ms) (has-filter (λ z. waits_in c k b z.place) m ms has (waits_in_place c k b m.place place)) in
     let found : position (list_any (λ u. u == m.thread.id)) lists ≡ Some b =
-        position-at (list_any (λ u. u == m.thread.id)) lists b [] (omega arith)
-        (λ e below. lacks_in_bucket lists c k ms shows m.thread.id e (omega arith) (λ n there same other. elsewhere c k b e below m n ms made has there same place other))
-        (ap (list_any (λ u. u == m.thread.id)) (shows.each b within) ∙ has_number m (by_order (members_in c k b ms)) stands) in
+    position-at (list_any (λ u. u == m.thread.id)) lists b [] (omega arith)
+    (λ e below. lacks_in_bucket lists c k ms shows m.thread.id e (omega arith) (λ n there same other. elsewhere c k b e below m n ms made has there same place other))
+    (ap (list_any (λ u. u == m.thread.id)) (shows.each b within) ∙ has_number m (by_order (members_in c k b ms)) stands) in
     rw found (ap (λ n. Some (b, n)) (ap (position_or_len (λ u. u == m.thread.id)) (shows.each b within) ∙ position_is_index c k b m ms made has place))
   where
     same_bucket : (c : ℕ) (k : Kind) (b e : ℕ) → Queued c k b ≡ Queued c k e → b ≡ e
     same_bucket c k b e same = cc
+
     elsewhere : (c : ℕ) (k : Kind) (b e : ℕ) → e < b → (m n : Member) (ms : List Member) → IsWellMade ms → Has m ms → Has n ms → n.thread.id ≡ m.thread.id → m.place ≡ Queued c k b → n.place ≡ Queued c k e → ⊥
     elsewhere c k b e below m n ms made has there same place other =
         let one : b ≡ e = same_bucket c k b e (sym place ∙ ap (λ (z : Member). z.place) (sym (same_from_number n m ms made there has same)) ∙ other) in
@@ -159,6 +160,6 @@ unfolding bucket_in
 place_in_lacks lists c k t ms shows lacks =
     let long = shows.buckets in
     let none : list_any (list_any (λ u. u == t)) lists ≡ false =
-        list_any_none (list_any (λ u. u == t)) lists (All-from_get_or (λ xs. list_any (λ u. u == t) xs ≡ false) lists [] (λ b below.
-            lacks_in_bucket lists c k ms shows t b (omega arith) (λ n has same. lacks n has same b))) in
+    list_any_none (list_any (λ u. u == t)) lists (All-from_get_or (λ xs. list_any (λ u. u == t) xs ≡ false) lists [] (λ b below.
+    lacks_in_bucket lists c k ms shows t b (omega arith) (λ n has same. lacks n has same b))) in
     rw (position-none (list_any (λ u. u == t)) lists none) refl

@@ -7,11 +7,8 @@ use Rattle.std.proofs.lemmas.Int.{ints}
 use Rattle.std.proofs.lemmas.Option.{slice_get-map, same_Some, none-some}
 use Rattle.ule_model.specs.Shows.{with_ordered, by_order, ids_of}
 use Rattle.ule_model.specs.World.{Member}
+use Rattle.ule_model.proofs.Orders.{lt_not_back}
 use Rattle.ule_model.proofs.Membership.{Has, all_has, all_from_has}
-
--- of two integers one at most is the smaller
-pub int_lt_flips : (x y : ℤ) → int_lt x y ≡ true → int_lt y x ≡ false
-int_lt_flips x y h = grind (arith, ints)
 
 -- two integers of which none is the smaller are equal
 pub int_same : (x y : ℤ) → int_lt x y ≡ false → int_lt y x ≡ false → x ≡ y
@@ -83,14 +80,21 @@ rising-with_ordered m [] rising = (tt, tt)
 rising-with_ordered m (n ∷ ns) rising = step m n ns (int_lt m.order n.order) refl rising (rising-with_ordered m ns rising.1)
   where
     step : (m n : Member) (ns : List Member) (b : Bool) → int_lt m.order n.order ≡ b → IsRising (n ∷ ns) → IsRising (with_ordered m ns) → IsRising (cond b (m ∷ n ∷ ns) (n ∷ with_ordered m ns))
-    step m n ns true is rising rest =
-        ((int_lt_flips m.order n.order is, all_from_has (λ z. int_lt z.order m.order ≡ false) ns (λ z has.
-            int_ge_from_lt z.order n.order m.order is (all_has (λ y. int_lt y.order n.order ≡ false) z ns rising.0 has))), rising)
-    step m n ns false is rising rest =
-        (all_from_has (λ z. int_lt z.order n.order ≡ false) (with_ordered m ns) (λ z has.
-            ⊎_elim (λ (same : m ≡ z). subst (λ (y : Member). int_lt y.order n.order ≡ false) same is)
-            (λ (other : Has z ns). all_has (λ y. int_lt y.order n.order ≡ false) z ns rising.0 other)
-            (has_with_ordered z m ns has)), rest)
+    step m n ns true is rising rest = (
+      (
+        lt_not_back m.order n.order is,
+        all_from_has (λ z. int_lt z.order m.order ≡ false) ns (λ z has.
+            int_ge_from_lt z.order n.order m.order is (all_has (λ y. int_lt y.order n.order ≡ false) z ns rising.0 has)),
+      ),
+      rising,
+    )
+    step m n ns false is rising rest = (
+      all_from_has (λ z. int_lt z.order n.order ≡ false) (with_ordered m ns) (λ z has.
+          ⊎_elim (λ (same : m ≡ z). subst (λ (y : Member). int_lt y.order n.order ≡ false) same is)
+          (λ (other : Has z ns). all_has (λ y. int_lt y.order n.order ≡ false) z ns rising.0 other)
+          (has_with_ordered z m ns has)),
+      rest,
+    )
 
 pub rising-by_order : (ms : List Member) → IsRising (by_order ms)
 unfolding by_order
@@ -108,7 +112,7 @@ rising_head m [] rising head = absurd (none-some m head)
 rising_head m (x ∷ xs) rising head = subst (λ (z : Member). IsLeastOf z (x ∷ xs)) (same_Some x m head) (record {
   here = inl refl;
   least = λ n has. ⊎_elim (λ (same : x ≡ n). subst (λ (z : Member). int_lt z.order x.order ≡ false) same (int_lt_same x.order))
-    (λ (rest : Has n xs). all_has (λ z. int_lt z.order x.order ≡ false) n xs rising.0 rest) has;
+      (λ (rest : Has n xs). all_has (λ z. int_lt z.order x.order ≡ false) n xs rising.0 rest) has;
 })
 
 -- the head of the numbers of ordered threads is the number of the least of them
@@ -118,8 +122,11 @@ head_by_order t ms head = step (slice_get (by_order ms) 0) refl (sym (slice_get-
     step : (o : Option Member) → slice_get (by_order ms) 0 ≡ o → option_map (λ (m : Member). m.thread.id) o ≡ Some t → (m : Member) × (m.thread.id ≡ t) × IsLeastOf m ms
     step None is found = absurd (none-some t found)
     step (Some m) is found =
-        let first : IsLeastOf m (by_order ms) = rising_head m (by_order ms) (rising-by_order ms) is in
-        (m, same_Some m.thread.id t found, record {
-          here = has_by_order m ms first.here;
-          least = λ n has. first.least n (by_order_has n ms has);
-        })
+        let first : IsLeastOf m (by_order ms) = rising_head m (by_order ms) (rising-by_order ms) is in (
+          m,
+          same_Some m.thread.id t found,
+          record {
+            here = has_by_order m ms first.here;
+            least = λ n has. first.least n (by_order_has n ms has);
+          },
+        )
