@@ -193,7 +193,7 @@ recorded_stands t change m v s kept stands w = record {
 -- ---- the choice
 
 -- what choosing gives, on the value and on the side
-pub record AreChosen (v : CpuValue) (s : Side) (made : CpuValue × Option ℕ) (meant : Side × Option ℕ) : Type 0 where
+pub record AreChosen (v : CpuValue) (made : CpuValue × Option ℕ) (meant : Side × Option ℕ) : Type 0 where
   pub stands : StandsFor made.0 meant.0
   pub answer : made.1 ≡ meant.1
   pub well_made : IsWellMade meant.0.members
@@ -214,7 +214,7 @@ cpu_kept Idle t v = refl
 
 -- the chosen thread runs, on the value and on the side
 running_stands : (now : ℕ) (k : Kind) (b : ℕ) (m : Member) (v : CpuValue) (s : Side) → StandsFor v s → IsWellMade s.members → Within m.thread.id m s.members → m.place ≡ Queued v.cpu k b → v.current ≡ None → s.line.ridx < 64 →
-    AreChosen v s (with_current now k m.thread.id v, Some m.thread.id) (with_running v.cpu now m s, Some m.thread.id)
+    AreChosen v (with_current now k m.thread.id v, Some m.thread.id) (with_running v.cpu now m s, Some m.thread.id)
 running_stands now k b m v s stands made w place none small =
     let t : ℕ = m.thread.id in
     let c : ℕ = v.cpu in
@@ -233,17 +233,17 @@ running_stands now k b m v s stands made w place none small =
     }
 
 -- the next thread is chosen, on the value and on the side
-pub choosing_stands : (now : ℕ) (v : CpuValue) (s : Side) → StandsFor v s → IsWellMade s.members → v.current ≡ None → v.line.ridx < 64 → AreChosen v s (chosen_next now v) (choosing_next v.cpu now s)
+pub choosing_stands : (now : ℕ) (v : CpuValue) (s : Side) → StandsFor v s → IsWellMade s.members → v.current ≡ None → v.line.ridx < 64 → AreChosen v (chosen_next now v) (choosing_next v.cpu now s)
 choosing_stands now v s stands made none small =
     look (first_in v) (choice_of v.cpu s.line.ridx s.members) (choices_agree v s stands made there)
   where
     there : s.line.ridx < 64
     there = subst (λ (line : CpuLine). line.ridx < 64) stands.line small
 
-    look : (first : Option (Kind × ℕ)) (choice : Option Member) → Agrees v.cpu s.members first choice → AreChosen v s (current_chosen now first v) (running_chosen v.cpu now choice s)
+    look : (first : Option (Kind × ℕ)) (choice : Option Member) → Agrees v.cpu s.members first choice → AreChosen v (current_chosen now first v) (running_chosen v.cpu now choice s)
     look None None agrees = record { stands = stands; answer = refl; well_made = made; cpu = refl }
     look None (Some m) agrees = absurd agrees
     look (Some first) None agrees = absurd agrees
     look (Some first) (Some m) agrees =
-        subst (λ (t : ℕ). AreChosen v s (with_current now first.0 t v, Some t) (with_running v.cpu now m s, Some m.thread.id)) agrees.number
+        subst (λ (t : ℕ). AreChosen v (with_current now first.0 t v, Some t) (with_running v.cpu now m s, Some m.thread.id)) agrees.number
         (running_stands now first.0 agrees.bucket m v s stands made (within_thread m.thread.id s.members m made (ap (λ (u : ℕ). thread_of u s.members) agrees.number ∙ agrees.found)) agrees.place none there)

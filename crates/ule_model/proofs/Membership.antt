@@ -1,5 +1,5 @@
 -- Which elements stand in a list, by recursion on it; and that well made threads are one where they agree.
-use Rattle.std.proofs.Common.{◌≡◌, ℕ, Bool, true, false, cond, List, [], ◌∷◌, filter, Some, ◌⊎◌, inl, inr, ⊎_elim, refl, sym, ◌∙◌, ap, subst}
+use Rattle.std.proofs.Common.{◌≡◌, ℕ, Bool, true, false, cond, List, [], ◌∷◌, ◌++◌, filter, Some, ◌⊎◌, inl, inr, ⊎_elim, refl, sym, ◌∙◌, ap, subst}
 use Rattle.std.specs.List.{AllByRecursion}
 use Rattle.std.proofs.lemmas.Option.{same_Some, none-some}
 use Rattle.std.proofs.lemmas.Bool.{eqb-true, both_ways, eq-eqb, ne_eqb, cond-true, cond-false}
@@ -7,6 +7,7 @@ use Rattle.ule_prio.specs.declared.kind.Kind.{Kind}
 use Rattle.ule_model.specs.Places.{waits_in}
 use Rattle.ule_model.specs.Shows.{AreApart, AllApart, IsWellMade}
 use Rattle.ule_model.specs.World.{Member, is_thread, thread_of}
+use Rattle.ule_model.proofs.Within.{Within}
 
 -- x stands in the list
 abbrev pub Has : {X : Type 0} → X → List X → Type 0
@@ -88,3 +89,12 @@ has_thread_of t m (x ∷ xs) found = step t m x xs (is_thread t x) refl (has_thr
         let same : x ≡ m = same_Some x m found in
         (inl same, ap (λ z. z.thread.id) (sym same) ∙ eqb-true x.thread.id t is)
     step t m x xs false is rest found = (inr (rest found).0, (rest found).1)
+
+-- a thread between others stands in the list
+pub has_between : {X : Type 0} (before : List X) (x : X) (after : List X) → Has x (before ++ x ∷ after)
+has_between [] x after = inl refl
+has_between (b ∷ bs) x after = inr (has_between bs x after)
+
+-- a thread within a list stands in it
+pub has_within : (t : ℕ) (m : Member) (ms : List Member) → Within t m ms → Has m ms
+has_within t m ms w = subst (Has m) (sym w.whole) (has_between w.before m w.after)

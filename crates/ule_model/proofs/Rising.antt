@@ -14,11 +14,7 @@ use Rattle.ule_model.proofs.Membership.{Has, all_has, all_from_has}
 pub int_same : (x y : ℤ) → int_lt x y ≡ false → int_lt y x ≡ false → x ≡ y
 int_same x y h g = grind (arith, ints)
 
--- what isn't smaller than one that isn't smaller isn't smaller
-pub int_ge_trans : (x y z : ℤ) → int_lt x y ≡ false → int_lt y z ≡ false → int_lt x z ≡ false
-int_ge_trans x y z h g = grind (arith, ints)
-
--- the same, where the lesser of the two steps is strict
+-- what isn't smaller than a second isn't smaller than a third that the second exceeds
 pub int_ge_from_lt : (x y z : ℤ) → int_lt z y ≡ true → int_lt x y ≡ false → int_lt x z ≡ false
 int_ge_from_lt x y z h g = grind (arith, ints)
 
