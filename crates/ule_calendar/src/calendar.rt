@@ -66,6 +66,7 @@ impl Calendar {
         requires batch { kind_at p ≡ Batch }
         requires absent { times self.old.lists t ≡ 0 }
         ensures bucket { result ≡ calendar_bucket self.old.idx self.old.ridx p }
+        ensures within { result < 64 }
         ensures filed { self.new ≡ with_ordinary self.old t p }
         ensures calendar { IsCalendar self.new }
     {
@@ -79,6 +80,7 @@ impl Calendar {
     pub fn insert_at_index(&mut self, t: ThreadId, head: bool) -> u8
         requires { times self.old.lists t ≡ 0 }
         ensures bucket { result ≡ self.old.ridx }
+        ensures within { result < 64 }
         ensures filed { self.new ≡ with_next self.old t head }
         ensures calendar { IsCalendar self.new }
     {

@@ -1,0 +1,2 @@
+pub mod QueuesLaws
+pub mod CpuLaws

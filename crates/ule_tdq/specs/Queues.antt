@@ -1,5 +1,5 @@
 -- The three queues of a CPU as one value.
-use Rattle.std.specs.Prelude.{◌≡◌, ℕ, ◌+◌, ◌/◌, false, true, List, Option, Some, None}
+use Rattle.std.specs.Prelude.{◌≡◌, ℕ, ◌+◌, ◌/◌, false, true, ◌==◌, List, Option, Some, None, if◌then◌else◌}
 use Rattle.std.specs.Option.{option_map}
 use Rattle.ule_calendar.specs.Calendar.{Dial, with_ordinary, with_next, after_removal}
 use Rattle.ule_model.specs.CpuValue.{with_inserted, in_kind, first_of}
@@ -15,6 +15,10 @@ pub record QueuesValue : Type 0 where
   pub real : List (List ℕ)
   pub batch : Dial
   pub idle : List (List ℕ)
+
+-- once for this thread, and not at all for another
+abbrev pub once : ℕ → ℕ → ℕ
+once t u = if u == t then 1 else 0
 
 -- how often a thread is queued
 abbrev pub times_queued : QueuesValue → ℕ → ℕ

@@ -1,9 +1,9 @@
-ghost use Rattle.std.specs.Prelude.{◌≡◌, ◌/◌, [], IfOk, IfSome, replicate};
+ghost use Rattle.std.specs.Prelude.{◌≡◌, ℕ, ◌+◌, ◌/◌, [], IfOk, IfSome, replicate};
 ghost use Rattle.ule_prio.specs.Kind.{kind_at};
 ghost use Rattle.ule_prio.specs.declared.kind.Kind.TheVariants.{Batch};
 ghost use Rattle.ule_runq.specs.Runq.{times};
 ghost use Rattle.ule_model.specs.CpuValue.{with_inserted};
-ghost use Rattle.ule_tdq.specs.Queues.{times_queued, times_in, dial_with, queues_with, queues_without, first_queued};
+ghost use Rattle.ule_tdq.specs.Queues.{once, times_queued, times_in, dial_with, queues_with, queues_without, first_queued};
 
 use std::alloc::{AllocError, Global};
 use std::marker::Model;
@@ -32,9 +32,10 @@ impl Queues {
     /// Three empty queues, with all the memory that they ever need.
     pub fn empty(alloc: Global) -> Result<Queues, AllocError>
         ensures { IfOk result (λ q. q ≡ record {
-            real = replicate 64 [];
-            batch = record { lists = replicate 64 []; idx = 0; ridx = 0 };
-            idle = replicate 64 [] }) }
+          real = replicate 64 [];
+          batch = record { lists = replicate 64 []; idx = 0; ridx = 0 };
+          idle = replicate 64 [];
+        }) }
     {
         Ok(Queues {
             real: Runq::empty(alloc)?,
@@ -46,7 +47,8 @@ impl Queues {
     /// Queues a thread of this priority, after `tdq_runq_add`.
     pub fn insert(&mut self, how: Insertion, p: Priority, t: ThreadId)
         requires { times_queued self.old t ≡ 0 }
-        ensures { self.new ≡ queues_with how p t self.old }
+        ensures filed { self.new ≡ queues_with how p t self.old }
+        ensures times { (u : ℕ) → times_queued self.new u ≡ times_queued self.old u + once t u }
     {
         match kind_of(p) {
             Kind::Real => insert_plain(&mut self.real, how, p, t),
@@ -58,7 +60,8 @@ impl Queues {
     /// Takes a thread out of its queue, after `tdq_runq_rem`.
     pub fn remove(&mut self, kind: Kind, t: ThreadId)
         requires { times_in kind self.old t ≡ 1 }
-        ensures { self.new ≡ queues_without kind t self.old }
+        ensures rest { self.new ≡ queues_without kind t self.old }
+        ensures times { (u : ℕ) → times_queued self.new u + once t u ≡ times_queued self.old u }
     {
         match kind {
             Kind::Real => {
@@ -94,11 +97,13 @@ impl Queues {
 /// Queues a thread in a queue that is filed by priority alone.
 fn insert_plain(queue: &mut Runq, how: Insertion, p: Priority, t: ThreadId)
     requires { times queue.old t ≡ 0 }
-    ensures { queue.new ≡ with_inserted how queue.old (p / 4) t }
+    ensures filed { queue.new ≡ with_inserted how queue.old (p / 4) t }
+    ensures times { (u : ℕ) → times queue.new u ≡ times queue.old u + once t u }
 {
     let bucket = p.0 / 4;
     match how {
-        Insertion::Ordinary | Insertion::Borrowing => queue.push_tail(bucket, t),
+        Insertion::Ordinary => queue.push_tail(bucket, t),
+        Insertion::Borrowing => queue.push_tail(bucket, t),
         Insertion::Preempted => queue.push_head(bucket, t),
     }
 }
@@ -107,7 +112,8 @@ fn insert_plain(queue: &mut Runq, how: Insertion, p: Priority, t: ThreadId)
 fn insert_batch(calendar: &mut Calendar, how: Insertion, p: Priority, t: ThreadId)
     requires batch { kind_at p ≡ Batch }
     requires absent { times calendar.old.lists t ≡ 0 }
-    ensures { calendar.new ≡ dial_with how calendar.old p t }
+    ensures filed { calendar.new ≡ dial_with how calendar.old p t }
+    ensures times { (u : ℕ) → times calendar.new.lists u ≡ times calendar.old.lists u + once t u }
 {
     match how {
         Insertion::Ordinary => calendar.insert(t, p),

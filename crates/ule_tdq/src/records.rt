@@ -14,6 +14,7 @@ pub fn after_running(r: ThreadRecord, now: u64) -> ThreadRecord
     requires in_time { r.usage.ltick ≤ now }
     ensures record { result ≡ after_running now r }
     ensures kept { KeepsBounds result }
+    ensures noted { result.usage.ltick ≡ now }
 {
     ThreadRecord {
         usage: update_use(r.usage, now, true),
@@ -30,6 +31,7 @@ pub fn before_running(r: ThreadRecord, now: u64) -> ThreadRecord
     requires in_time { r.usage.ltick ≤ now }
     ensures record { result ≡ before_running now r }
     ensures kept { KeepsBounds result }
+    ensures noted { result.usage.ltick ≡ now }
 {
     ThreadRecord {
         usage: update_use(r.usage, now, false),

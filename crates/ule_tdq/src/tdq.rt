@@ -1,8 +1,10 @@
-ghost use Rattle.std.specs.Prelude.{◌≡◌, ◌≤◌, ◌<◌, ◌^◌, None, Some, IfOk, IsNone};
+ghost use Rattle.std.specs.Prelude.{◌≡◌, ◌≤◌, ◌<◌, ◌^◌, None, Some, IfOk, IsTrue, if◌then◌else◌};
+ghost use Rattle.ule_types.specs.Rules.{are_settings};
+ghost use Rattle.ule_model.specs.Start.{balance_count, stepped_word};
 ghost use Rattle.ule_score.specs.Bounds.{KeepsBounds};
 ghost use Rattle.ule_model.specs.CpuValue.{value_switched, value_laid, chosen_next, with_given_way, without_marks, thread_in};
 ghost use Rattle.ule_model.specs.Switch.{started_reply};
-ghost use Rattle.ule_tdq.specs.Cpu.{IsNoEarlier};
+ghost use Rattle.ule_tdq.specs.Cpu.{IsNoEarlier, StartsAs};
 ghost use Rattle.ule_tdq.specs.Replies.{reply_of};
 
 use crate::queues::Queues;
@@ -29,6 +31,28 @@ pub enum SwitchOut {
         /// Whether the first was preempted.
         preempted: bool,
     },
+}
+
+/// Where CPU 0's balance word stands after its first step; another CPU's word takes none.
+fn first_word(is_first: bool, word: u32) -> u32
+    ensures { result ≡ (if is_first then stepped_word word else word) }
+{
+    if is_first {
+        ((u64::from(word) * 69069 + 5) % (1 << 32)) as u32
+    } else {
+        word
+    }
+}
+
+/// The balance count of CPU 0 that this word gives; another CPU has none.
+fn first_balance(is_first: bool, word: u32) -> u64
+    ensures { result ≡ (if is_first then balance_count word else 0) }
+{
+    if is_first {
+        64 + u64::from(word) / (1 << 25)
+    } else {
+        0
+    }
 }
 
 /// What a switch without a current thread came to.
@@ -75,24 +99,32 @@ impl Model for Tdq {
 
 impl Tdq {
     /// A CPU with no thread. It takes all the memory that it ever needs. `balance_word` is where
-    /// CPU 0's balance word stands.
+    /// CPU 0's balance word starts; its first draw gives that CPU's balance count, 64..=191.
     pub fn start(
         alloc: Global,
         cpu: Cpu,
         s: &Settings,
         balance_word: u32,
-    ) -> Result<Tdq, AllocError> {
+    ) -> Result<Tdq, AllocError>
+        requires { IsTrue (are_settings s.now) }
+        ensures { IfOk result (λ d. StartsAs d cpu s.now balance_word) }
+    {
+        let settings = *s;
+        let threads = Threads::none(alloc)?;
+        let queues = Queues::empty(alloc)?;
+        let is_first = cpu.0 == 0;
+        let balance_word = first_word(is_first, balance_word);
         Ok(Tdq {
             cpu,
-            settings: *s,
-            threads: Threads::none(alloc)?,
+            settings,
+            threads,
             current: None,
-            queues: Queues::empty(alloc)?,
+            queues,
             resched: false,
             slice_end: false,
             switches: 0,
             old_switches: 0,
-            balance: 0,
+            balance: first_balance(is_first, balance_word),
             balance_word,
         })
     }
@@ -178,7 +210,9 @@ impl Tdq {
         requires bounded { now < 2 ^ 36 }
         requires in_time { IsNoEarlier self.old now }
         requires current { self.old.current ≡ Some t }
-        ensures { self.new ≡ with_given_way preempted now t self.old }
+        ensures value { self.new ≡ with_given_way preempted now t self.old }
+        ensures no_earlier { IsNoEarlier self.new now }
+        ensures idle { self.new.current ≡ None }
     {
         let left = after_running(self.threads.get(t).unwrap(), now);
         let priority = left.priority;

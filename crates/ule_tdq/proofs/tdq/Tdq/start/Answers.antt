@@ -1,0 +1,10 @@
+use Rattle.std.proofs.Common.{refl, ap}
+use Rattle.ule_tdq.specs.Queues.{QueuesValue}
+use Rattle.ule_tdq.proofs.CpuLaws.{KeepsCpu_start}
+use Rattle.ule_tdq.proofs.tdq.Tdq.start.Goals as goal
+
+pub invariant_of-result : goal.invariant_of-result
+invariant_of-result c =
+    let empty = c.in_ok-queues.ensures in
+    KeepsCpu_start _ c.requires c.in_ok-threads.ensures.slots c.in_ok-threads.ensures.none refl
+    (ap (λ (q : QueuesValue). q.real) empty) (ap (λ (q : QueuesValue). q.batch.lists) empty) (ap (λ (q : QueuesValue). q.idle) empty)
