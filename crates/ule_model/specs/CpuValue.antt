@@ -133,7 +133,8 @@ thread_on c t ms = find (λ m. is_thread t m && is_on c m.place) ms
 pub record StandsFor (v : CpuValue) (s : Side) : Type 0 where
   pub settings : v.settings ≡ s.settings
   pub line : v.line ≡ s.line
-  pub balance_word : v.balance_word ≡ s.balance_word
+  -- the balance word is CPU 0's
+  pub balance_word : v.cpu ≡ 0 → v.balance_word ≡ s.balance_word
   pub current : v.current ≡ option_map (λ m. m.thread.id) (current_of v.cpu s.members)
   pub slots : length v.threads ≡ 256
   -- the records are those of the threads that run or wait on the CPU

@@ -8,14 +8,10 @@ use Rattle.ule_score.specs.declared.place.Place.{Place}
 use Rattle.ule_score.specs.declared.place.Place.TheVariants.{Queued}
 use Rattle.ule_score.specs.declared.record.CpuLine.{CpuLine}
 use Rattle.ule_model.specs.CalendarIndexes.{calendar_bucket}
+pub use Rattle.ule_model.specs.declared.insertion.Insertion.{Insertion}
+pub use Rattle.ule_model.specs.declared.insertion.Insertion.TheVariants.{Ordinary, Borrowing, Preempted}
 use Rattle.ule_model.specs.Places.{waits_in}
 use Rattle.ule_model.specs.World.{Member, Side, thread_of, moved_to}
-
--- why a thread is queued: it became ready or gave way; its priority got better; it was preempted
-pub data Insertion : Type 0 where
-  Ordinary : Insertion
-  Borrowing : Insertion
-  Preempted : Insertion
 
 -- the bucket in the calendar: by priority and index where it is ordinary, the next to be taken otherwise
 abbrev pub batch_bucket : Insertion → CpuLine → ℕ → ℕ

@@ -1,5 +1,5 @@
 -- How often a number stands in one list.
-use Rattle.std.proofs.Common.{◌≡◌, ◌==◌, ℕ, ◌+◌, ◌<◌, ◌≤◌, Bool, true, false, not, cond, ◌||◌, List, [], ◌∷◌, ◌++◌, length, filter, count_by, eqb, nat_lt, take, drop, get_or, slice_get, ◌-◌, zero, suc, Option, Some, None, refl, sym, ◌∙◌, ap, arith, ◌≢◌, length-drop, get_or-drop, one-add}
+use Rattle.std.proofs.Common.{◌≡◌, ◌==◌, ℕ, ◌+◌, ◌<◌, ◌≤◌, Bool, true, false, not, cond, ◌||◌, List, [], ◌∷◌, ◌++◌, length, filter, count_by, eqb, nat_lt, take, drop, get_or, slice_get, ◌-◌, suc, Some, None, refl, sym, ◌∙◌, ap, arith, ◌≢◌, length-drop, get_or-drop, one-add}
 use Rattle.std.specs.List.{AllByRecursion, IsDistinct, list_any, position, position_or_len, remove}
 use Rattle.std.proofs.lemmas.Bool.{ltb-true, lt-ltb, eq-eqb}
 use Rattle.std.proofs.lemmas.Bool.Decides.{nat_tests}
@@ -80,9 +80,10 @@ apart_from_count x (y ∷ ys) none =
 distinct_from_counts : (xs : List ℕ) → ((u : ℕ) → count u xs ≤ 1) → IsDistinct eqb xs
 unfolding IsDistinct
 distinct_from_counts [] few = tt
-distinct_from_counts (x ∷ xs) few =
-    (apart_from_count x xs (let parts : count x (x ∷ xs) ≡ once x x + count x xs = count-cons x x xs in let one = once_same x in let most : count x (x ∷ xs) ≤ 1 = few x in omega arith),
-     distinct_from_counts xs (λ u. let parts : count u (x ∷ xs) ≡ once x u + count u xs = count-cons u x xs in let most : count u (x ∷ xs) ≤ 1 = few u in omega arith))
+distinct_from_counts (x ∷ xs) few = (
+  apart_from_count x xs (let parts : count x (x ∷ xs) ≡ once x x + count x xs = count-cons x x xs in let one = once_same x in let most : count x (x ∷ xs) ≤ 1 = few x in omega arith),
+  distinct_from_counts xs (λ u. let parts : count u (x ∷ xs) ≡ once x u + count u xs = count-cons u x xs in let most : count u (x ∷ xs) ≤ 1 = few u in omega arith),
+)
 
 -- a number is found where it is counted
 pub has_count : (t : ℕ) (xs : List ℕ) → list_any (λ u. u == t) xs ≡ nat_lt 0 (count t xs)

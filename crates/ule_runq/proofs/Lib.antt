@@ -1,3 +1,4 @@
-mod Counts
+mod Access
 mod Rounds
+pub mod Counts
 pub mod RunqLaws

@@ -1,5 +1,5 @@
 -- Numbered lists, from one of them on and round to it, and the first element in them.
-use Rattle.std.proofs.Common.{◌≡◌, ℕ, ◌+◌, ◌-◌, ◌%◌, ◌<◌, ◌≤◌, zero, suc, Option, Some, None, List, [], ◌∷◌, ◌++◌, length, map, take, drop, get_or, slice_get, option_map, refl, sym, ◌∙◌, ap, ⊎_elim, inl, inr, ◌⊎◌, arith, length-drop, get_or-drop, get_or-take}
+use Rattle.std.proofs.Common.{◌≡◌, ℕ, ◌+◌, ◌-◌, ◌%◌, ◌<◌, ◌≤◌, zero, suc, Some, List, [], ◌∷◌, ◌++◌, length, map, take, drop, get_or, slice_get, option_map, refl, ◌∙◌, ap, ⊎_elim, inl, inr, ◌⊎◌, arith, length-drop, get_or-drop, get_or-take}
 use Rattle.std.specs.List.{enumerate_from, flat_map}
 use Rattle.std.proofs.lemmas.Bool.{cases_lt}
 use Rattle.std.proofs.lemmas.List.{get_or_append_left, get_or-append_right}
@@ -81,13 +81,13 @@ round_from-at q b k long from step =
     let rest : length (drop b (enumerate_from 0 q)) ≡ RQ_NQS - b = length-drop b (enumerate_from 0 q) ∙ ap (λ n. n - b) all in
     ⊎_elim
     (λ (ahead : b + k < RQ_NQS).
-        get_or_append_left (drop b (enumerate_from 0 q)) (take b (enumerate_from 0 q)) (0, []) k (omega arith)
-        ∙ get_or-drop b (enumerate_from 0 q) k (0, [])
-        ∙ numbered q (b + k) ((b + k) % RQ_NQS) (omega arith) (omega arith))
+    get_or_append_left (drop b (enumerate_from 0 q)) (take b (enumerate_from 0 q)) (0, []) k (omega arith)
+    ∙ get_or-drop b (enumerate_from 0 q) k (0, [])
+    ∙ numbered q (b + k) ((b + k) % RQ_NQS) (omega arith) (omega arith))
     (λ (around : RQ_NQS ≤ b + k).
-        get_or-append_right (drop b (enumerate_from 0 q)) (take b (enumerate_from 0 q)) (RQ_NQS - b) k (0, []) rest (omega arith)
-        ∙ get_or-take b (enumerate_from 0 q) (k - (RQ_NQS - b)) (0, []) (omega arith)
-        ∙ numbered q (k - (RQ_NQS - b)) ((b + k) % RQ_NQS) (omega arith) (omega arith))
+    get_or-append_right (drop b (enumerate_from 0 q)) (take b (enumerate_from 0 q)) (RQ_NQS - b) k (0, []) rest (omega arith)
+    ∙ get_or-take b (enumerate_from 0 q) (k - (RQ_NQS - b)) (0, []) (omega arith)
+    ∙ numbered q (k - (RQ_NQS - b)) ((b + k) % RQ_NQS) (omega arith) (omega arith))
     (cases_lt (b + k) RQ_NQS)
   where
     numbered : (q : List (List ℕ)) (i n : ℕ) → i < length q → i ≡ n → get_or (enumerate_from 0 q) i (0, []) ≡ (n, list_at q n)

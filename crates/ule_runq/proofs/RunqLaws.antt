@@ -1,19 +1,18 @@
 -- The laws of a run queue's lists.
-use Rattle.std.proofs.Common.{◌≡◌, ◌==◌, ℕ, ◌+◌, ◌-◌, ◌%◌, ◌<◌, ◌≤◌, ◌≢◌, Bool, true, false, not, cond, if◌then◌else◌, Option, Some, None, All, List, [], ◌∷◌, ◌++◌, length, map, take, drop, filter, replicate, slice_get, slice_set, get_or, option_map, sum_by, nat_lt, ◌⊎◌, ◌||◌, inl, inr, subst₂, refl, sym, ◌∙◌, ap, ⊎_elim, arith, ne_of_lt, ext_get_or, length-set, get_or-set_same, get_or-set_other}
-use Rattle.std.proofs.lemmas.Bool.{cases_lt, cases_eq, ltb-true, ltb-false, lt-ltb, eqb-true, eq-eqb, ne_eqb}
+use Rattle.std.proofs.Common.{◌≡◌, ◌==◌, ℕ, ◌+◌, ◌%◌, ◌<◌, ◌≤◌, ◌≢◌, Bool, true, false, not, cond, if◌then◌else◌, Option, Some, None, List, [], ◌∷◌, ◌++◌, length, filter, replicate, slice_get, slice_set, get_or, option_map, sum_by, nat_lt, ◌⊎◌, ◌||◌, inl, inr, subst₂, refl, sym, ◌∙◌, ap, ⊎_elim, arith, ne_of_lt, ext_get_or, length-set, get_or-set_same, get_or-set_other}
+use Rattle.std.proofs.lemmas.Bool.{cases_lt, cases_eq, ltb-true, ltb-false, lt-ltb, eqb-true, eqb-false, eq-eqb, ne_eqb}
 use Rattle.std.proofs.lemmas.Bool.Decides.{nat_tests}
-use Rattle.std.proofs.lemmas.List.{length-map, length-replicate, get_or-map, get_or_past, get_or_read, get_or-replicate}
+use Rattle.std.proofs.lemmas.List.{length-map, length-replicate, get_or-map, get_or_past, get_or_push, length_push, nil_from_length, get_or-replicate}
 use Rattle.std.proofs.lemmas.Grind.{common_steps}
-use Rattle.std.proofs.lemmas.List.Folds.{sum_by-replicate, list_any_none}
-use Rattle.std.proofs.lemmas.List.Elements.{All-from_get_or}
+use Rattle.std.proofs.lemmas.List.Folds.{sum_by-replicate}
 use Rattle.std.proofs.lemmas.List.Sums.{sum_by-cons, sum_by-set, get_or-le-sum_by, position_or_len_is, passes_at_first}
 use Rattle.std.proofs.lemmas.List.Quantifiers.{position-Some}
-use Rattle.std.proofs.lemmas.Option.{none-some, some_pair_parts, cond_some}
-use Rattle.std.specs.List.{list_any, position, position_or_len, remove}
-use Rattle.ule_runq.proofs.Counts.{count, once, count-cons, count_push, once_comm, once_same, once_other, count-filter_same, count-filter_other, length-le_from_counts, count_two, count_head, nil_from_head, filter_absent, remove_once, has_count, position-at, position-has, position_None, position-none}
+use Rattle.std.proofs.lemmas.Option.{none-some, some_pair_parts}
+use Rattle.std.specs.List.{list_any, position_or_len, remove}
+use Rattle.ule_runq.proofs.Counts.{count, once, count-cons, count_push, once_comm, once_same, count-filter_same, count-filter_other, length-le_from_counts, count_two, count_head, filter_absent, remove_once, has_count, position-at, position-has, position_None, position-none}
 use Rattle.ule_runq.proofs.Rounds.{IsFirstOf, first_of, none_of, first_or_none, round_from, round_from-at, length-round_from}
 use Rattle.ule_runq.specs.declared.runq.TheConstants.{RQ_NQS}
-use Rattle.ule_runq.specs.Runq.{list_at, with_tail, with_head, without, times, line_from, first_from, distance, IsFirstFrom, bucket_in, place_in, IsRunq}
+use Rattle.ule_runq.specs.Runq.{list_at, is_empty_at, with_tail, with_head, without, times, line_from, first_from, distance, IsFirstFrom, bucket_in, place_in, IsRunq}
 
 -- ---- the lists
 
@@ -42,8 +41,8 @@ pub list_at-without : (t : ℕ) (q : List (List ℕ)) (b : ℕ) → list_at (wit
 list_at-without t q b =
     ⊎_elim (λ (within : b < length q). get_or-map (filter (λ u. not (u == t))) q b [] [] within)
     (λ (past : length q ≤ b).
-        let none : list_at q b ≡ [] = get_or_past q b [] past in
-        get_or_past (without t q) b [] (let same = length-without t q in omega arith) ∙ sym (ap (filter (λ u. not (u == t))) none))
+    let none : list_at q b ≡ [] = get_or_past q b [] past in
+    get_or_past (without t q) b [] (let same = length-without t q in omega arith) ∙ sym (ap (filter (λ u. not (u == t))) none))
     (cases_lt b (length q))
 
 pub list_at-empty : (n b : ℕ) → list_at (replicate n []) b ≡ []
@@ -51,6 +50,12 @@ list_at-empty n b =
     ⊎_elim (λ (within : b < n). get_or-replicate n b [] [] within)
     (λ (past : n ≤ b). get_or_past (replicate n []) b [] (let same = length-replicate {A = List ℕ} n [] in omega arith))
     (cases_lt b n)
+
+pub is_empty_at_true : (q : List (List ℕ)) (b : ℕ) → is_empty_at q b ≡ true → list_at q b ≡ []
+is_empty_at_true q b empty = nil_from_length (list_at q b) (eqb-true (length (list_at q b)) 0 empty)
+
+pub is_empty_at_false : (q : List (List ℕ)) (b : ℕ) → is_empty_at q b ≡ false → list_at q b ≢ []
+is_empty_at_false q b some empty = eqb-false (length (list_at q b)) 0 some (ap length empty)
 
 -- ---- how often a thread stands in the queue
 
@@ -161,9 +166,9 @@ IsFirstFrom-from_round q b k t long from first =
       bucket = omega arith;
       head = ap (λ e. slice_get e.1 0) (sym (round_from-at q b k long from w)) ∙ first.head;
       nearer = λ a below closer.
-        let near : distance b a < k = omega arith in
-        let back : (b + distance b a) % RQ_NQS ≡ a = omega arith in
-        ap (list_at q) (sym back) ∙ ap (λ (e : ℕ × List ℕ). e.1) (sym (round_from-at q b (distance b a) long from (omega arith))) ∙ first.before (distance b a) near;
+          let near : distance b a < k = omega arith in
+          let back : (b + distance b a) % RQ_NQS ≡ a = omega arith in
+          ap (list_at q) (sym back) ∙ ap (λ (e : ℕ × List ℕ). e.1) (sym (round_from-at q b (distance b a) long from (omega arith))) ∙ first.before (distance b a) near;
     }
 
 -- the thread k buckets after bucket b, where the buckets before it are empty
@@ -192,8 +197,8 @@ unfolding line_from
 first_from-none q b long from empty =
     ap (λ es. slice_get es 0)
     (none_of (round_from q b) (0, []) (λ j below.
-        let all = length-round_from q b in
-        ap (λ (e : ℕ × List ℕ). e.1) (round_from-at q b j long from (omega arith)) ∙ empty ((b + j) % RQ_NQS) (omega arith)))
+    let all = length-round_from q b in
+    ap (λ (e : ℕ × List ℕ). e.1) (round_from-at q b j long from (omega arith)) ∙ empty ((b + j) % RQ_NQS) (omega arith)))
 
 -- either a thread is first, or no bucket has one
 first_from-cases : (q : List (List ℕ)) (b : ℕ) → length q ≡ RQ_NQS → b < RQ_NQS → ((c : ℕ) × ((t : ℕ) × IsFirstFrom q b c t)) ⊎ ((a : ℕ) → a < RQ_NQS → list_at q a ≡ [])
@@ -201,9 +206,9 @@ first_from-cases q b long from =
     ⊎_elim
     (λ (first : (k : ℕ) × ((t : ℕ) × IsFirstOf (round_from q b) (0, []) k t)). inl ((b + first.0) % RQ_NQS, (first.1.0, IsFirstFrom-from_round q b first.0 first.1.0 long from first.1.1)))
     (λ (none : (j : ℕ) → j < length (round_from q b) → (get_or (round_from q b) j (0, [])).1 ≡ []). inr (λ a below.
-        let all = length-round_from q b in
-        let back : (b + distance b a) % RQ_NQS ≡ a = omega arith in
-        ap (list_at q) (sym back) ∙ ap (λ (e : ℕ × List ℕ). e.1) (sym (round_from-at q b (distance b a) long from (omega arith))) ∙ none (distance b a) (omega arith)))
+    let all = length-round_from q b in
+    let back : (b + distance b a) % RQ_NQS ≡ a = omega arith in
+    ap (list_at q) (sym back) ∙ ap (λ (e : ℕ × List ℕ). e.1) (sym (round_from-at q b (distance b a) long from (omega arith))) ∙ none (distance b a) (omega arith)))
     (first_or_none (round_from q b) (0, []))
 
 -- the first thread is the head of the nearest bucket that has one
@@ -211,8 +216,8 @@ pub first_from_Some : (q : List (List ℕ)) (b c t : ℕ) → length q ≡ RQ_NQ
 first_from_Some q b c t long from found =
     ⊎_elim
     (λ (first : (a : ℕ) × ((u : ℕ) × IsFirstFrom q b a u)).
-        let same = some_pair_parts first.0 c first.1.0 t (sym (first_from-at q b first.0 first.1.0 long from first.1.1) ∙ found) in
-        subst₂ (λ a u. IsFirstFrom q b a u) same.0 same.1 first.1.1)
+    let same = some_pair_parts first.0 c first.1.0 t (sym (first_from-at q b first.0 first.1.0 long from first.1.1) ∙ found) in
+    subst₂ (λ a u. IsFirstFrom q b a u) same.0 same.1 first.1.1)
     (λ (empty : (a : ℕ) → a < RQ_NQS → list_at q a ≡ []). absurd (none-some (c, t) (sym (first_from-none q b long from empty) ∙ found)))
     (first_from-cases q b long from)
 
@@ -294,9 +299,9 @@ place_in-at q t b k few within inside here =
     let some : once (get_or (list_at q b) k 0) t ≤ count t (list_at q b) = get_or-le-sum_by (λ x. cond (x == t) 1 0) (list_at q b) k 0 inside in
     let is : once (get_or (list_at q b) k 0) t ≡ 1 = ap (λ x. once x t) here ∙ one in
     let spot : position_or_len (λ u. u == t) (list_at q b) ≡ k =
-        position_or_len_is (λ u. u == t) (list_at q b) k 0 (omega arith)
-        (λ j below. ne_eqb (get_or (list_at q b) j 0) t (λ also. absurd (let two = count_two t (list_at q b) j k below inside also here in omega arith)))
-        (λ w. eq-eqb (get_or (list_at q b) k 0) t here) in
+    position_or_len_is (λ u. u == t) (list_at q b) k 0 (omega arith)
+    (λ j below. ne_eqb (get_or (list_at q b) j 0) t (λ also. absurd (let two = count_two t (list_at q b) j k below inside also here in omega arith)))
+    (λ w. eq-eqb (get_or (list_at q b) k 0) t here) in
     rw (bucket_in-at q t b few within (omega arith)) (ap (λ n. Some (b, n)) spot)
 
 -- a place is a bucket and the first position there
@@ -319,7 +324,7 @@ place_in_Some q t b k found =
     let parts = place_parts q t b k found in
     let at = bucket_in_Some q t b parts.0 in
     let inside : position_or_len (λ u. u == t) (list_at q b) < length (list_at q b) =
-        ltb-true _ _ (position-has (λ u. u == t) (list_at q b) ∙ has_count t (list_at q b) ∙ lt-ltb 0 (count t (list_at q b)) at.1) in
+    ltb-true _ _ (position-has (λ u. u == t) (list_at q b) ∙ has_count t (list_at q b) ∙ lt-ltb 0 (count t (list_at q b)) at.1) in
     (at.0, (let spot = parts.1 in omega arith), ap (λ n. get_or (list_at q b) n 0) (sym parts.1) ∙ eqb-true _ t (passes_at_first (λ u. u == t) (list_at q b) 0 inside))
 
 -- taking a thread out at its place leaves the queue without it
@@ -329,94 +334,15 @@ removed_at_place q t b k few found =
     let at = bucket_in_Some q t b parts.0 in
     let part = count-list_at-le q b t in
     let taken : remove (list_at q b) k ≡ filter (λ u. not (u == t)) (list_at q b) =
-        ap (remove (list_at q b)) (sym parts.1) ∙ remove_once t (list_at q b) (omega arith) at.1 in
+    ap (remove (list_at q b)) (sym parts.1) ∙ remove_once t (list_at q b) (omega arith) at.1 in
     ext_get_or [] (slice_set q b (remove (list_at q b) k)) (without t q) (let n = length-without t q in let m = length-set q b (remove (list_at q b) k) in omega arith)
     (λ c below. ⊎_elim
-        (λ (here : c ≡ b). ap (list_at (slice_set q b (remove (list_at q b) k))) here ∙ get_or-set_same q b (remove (list_at q b) k) [] at.0 ∙ taken ∙ sym (list_at-without t q b) ∙ ap (list_at (without t q)) (sym here))
-        (λ (there : c ≡ b → ⊥).
-            let both = count_apart-le q b c t at.0 there in
-            let some = at.1 in
-            get_or-set_other q b c (remove (list_at q b) k) [] there ∙ sym (filter_absent t (list_at q c) (omega arith)) ∙ sym (list_at-without t q c))
-        (cases_eq c b))
-
--- ---- as the code reads and writes a bucket: x is what stands at place i of the buckets
-
-pub room_in_read : (q : List (List ℕ)) (b i t : ℕ) (x : List ℕ) → IsRunq q → b < RQ_NQS → t < 256 → times q t ≡ 0 → i ≡ b → x ≡ get_or q i x → length x < 256
-room_in_read q b i t x sound bucket small absent same read =
-    let n = sound.buckets in
-    let here : x ≡ list_at q b = get_or_read q i x (omega arith) read [] ∙ ap (list_at q) same in
-    let room = length-list_at-lt q b t sound bucket small absent in
-    rw here room
-
-pub IsRunq-tail_written : (q : List (List ℕ)) (b i t : ℕ) (x y : List ℕ) → IsRunq q → b < RQ_NQS → t < 256 → times q t ≡ 0 → i ≡ b → x ≡ get_or q i x → y ≡ x ++ t ∷ [] → IsRunq (slice_set q i y)
-IsRunq-tail_written q b i t x y sound bucket small absent same read write =
-    let n = sound.buckets in
-    let here : x ≡ list_at q b = get_or_read q i x (omega arith) read [] ∙ ap (list_at q) same in
-    rw (write, here, same) (IsRunq-with_tail q b t sound bucket small absent)
-
-pub IsRunq-head_written : (q : List (List ℕ)) (b i t : ℕ) (x y : List ℕ) → IsRunq q → b < RQ_NQS → t < 256 → times q t ≡ 0 → i ≡ b → x ≡ get_or q i x → y ≡ t ∷ x → IsRunq (slice_set q i y)
-IsRunq-head_written q b i t x y sound bucket small absent same read write =
-    let n = sound.buckets in
-    let here : x ≡ list_at q b = get_or_read q i x (omega arith) read [] ∙ ap (list_at q) same in
-    rw (write, here, same) (IsRunq-with_head q b t sound bucket small absent)
-
-pub removed_written : (q : List (List ℕ)) (t b k i m : ℕ) (x y : List ℕ) → IsRunq q → place_in q t ≡ Some (b, k) → i ≡ b → m ≡ k → x ≡ get_or q i x → y ≡ remove x m → slice_set q i y ≡ without t q
-removed_written q t b k i m x y sound found same spot read write =
-    let at = place_in_Some q t b k found in
-    let inside = at.0 in
-    let here : x ≡ list_at q b = get_or_read q i x (omega arith) read [] ∙ ap (list_at q) same in
-    rw (write, here, same, spot) (removed_at_place q t b k (sound.once t) found)
-
-pub place_in_read : (q : List (List ℕ)) (t b i n : ℕ) (x : List ℕ) → IsRunq q → b < RQ_NQS → ((k : ℕ) → k < b → position (λ u. u == t) (list_at q k) ≡ None) → i ≡ b → x ≡ get_or q i x → position (λ u. u == t) x ≡ Some n → (place_in q t ≡ Some (b, n)) × (n < 256)
-unfolding bucket_in
-place_in_read q t b i n x sound bucket before same read found =
-    let all = sound.buckets in
-    let here : x ≡ list_at q b = get_or_read q i x (omega arith) read [] ∙ ap (list_at q) same in
-    let spot : position (λ u. u == t) (list_at q b) ≡ Some n = ap (position (λ u. u == t)) (sym here) ∙ found in
-    let parts = cond_some (nat_lt (position_or_len (λ u. u == t) (list_at q b)) (length (list_at q b))) (position_or_len (λ u. u == t) (list_at q b)) n spot in
-    let first : position (list_any (λ u. u == t)) q ≡ Some b =
-        position-at (list_any (λ u. u == t)) q b [] (omega arith) (λ k below. position_None (λ u. u == t) (list_at q k) (before k below)) (sym (position-has (λ u. u == t) (list_at q b)) ∙ parts.0) in
-    (rw first (ap (λ m. Some (b, m)) parts.1),
-     (let most = length-list_at-le q b sound in let inside = ltb-true _ _ parts.0 in let is = parts.1 in omega arith))
-
-pub position_read : (q : List (List ℕ)) (t b i : ℕ) (x : List ℕ) → IsRunq q → b < RQ_NQS → i ≡ b → x ≡ get_or q i x → position (λ u. u == t) x ≡ None → position (λ u. u == t) (list_at q b) ≡ None
-position_read q t b i x sound bucket same read none =
-    let all = sound.buckets in
-    let here : x ≡ list_at q b = get_or_read q i x (omega arith) read [] ∙ ap (list_at q) same in
-    ap (position (λ u. u == t)) (sym here) ∙ none
-
-pub bucket_in_nowhere : (q : List (List ℕ)) (t b : ℕ) → IsRunq q → RQ_NQS ≤ b → ((k : ℕ) → k < b → position (λ u. u == t) (list_at q k) ≡ None) → bucket_in q t ≡ None
-unfolding bucket_in
-bucket_in_nowhere q t b sound all before =
-    let n = sound.buckets in
-    position-none (list_any (λ u. u == t)) q (list_any_none (list_any (λ u. u == t)) q
-        (All-from_get_or (λ xs. list_any (λ u. u == t) xs ≡ false) q [] (λ k below. position_None (λ u. u == t) (list_at q k) (before k (omega arith)))))
-
-pub first_from_read : (q : List (List ℕ)) (b k i t : ℕ) (x : List ℕ) → IsRunq q → b < RQ_NQS → k < RQ_NQS → ((j : ℕ) → j < k → list_at q ((b + j) % RQ_NQS) ≡ []) → i ≡ (b + k) % RQ_NQS → x ≡ get_or q i x → slice_get x 0 ≡ Some t → first_from q b ≡ Some ((b + k) % RQ_NQS, t)
-first_from_read q b k i t x sound from step before same read head =
-    let all = sound.buckets in
-    let here : x ≡ list_at q ((b + k) % RQ_NQS) = get_or_read q i x (omega arith) read [] ∙ ap (list_at q) same in
-    first_from-step q b k t sound.buckets from step before (ap (λ ys. slice_get ys 0) (sym here) ∙ head)
-
-pub empty_read : (q : List (List ℕ)) (b k i : ℕ) (x : List ℕ) → IsRunq q → i ≡ (b + k) % RQ_NQS → x ≡ get_or q i x → slice_get x 0 ≡ None → list_at q ((b + k) % RQ_NQS) ≡ []
-empty_read q b k i x sound same read none =
-    let all = sound.buckets in
-    let here : x ≡ list_at q ((b + k) % RQ_NQS) = get_or_read q i x (omega arith) read [] ∙ ap (list_at q) same in
-    sym here ∙ nil_from_head x none
-
--- every bucket is empty where the round meets no thread
-pub all_empty_round : (q : List (List ℕ)) (b k : ℕ) → IsRunq q → b < RQ_NQS → RQ_NQS ≤ k → ((j : ℕ) → j < k → list_at q ((b + j) % RQ_NQS) ≡ []) → All (λ xs. xs ≡ []) q
-all_empty_round q b k sound from whole before =
-    let n = sound.buckets in
-    All-from_get_or (λ xs. xs ≡ []) q [] (λ a below.
-        let back : (b + distance b a) % RQ_NQS ≡ a = omega arith in
-        ap (list_at q) (sym back) ∙ before (distance b a) (omega arith))
-
--- no thread is first where every bucket is empty
-pub first_from-all_empty : (q : List (List ℕ)) (b : ℕ) → IsRunq q → b < RQ_NQS → All (λ xs. xs ≡ []) q → first_from q b ≡ None
-first_from-all_empty q b sound from empty =
-    let n = sound.buckets in
-    first_from-none q b sound.buckets from (λ a below. empty a [] (omega arith))
+    (λ (here : c ≡ b). ap (list_at (slice_set q b (remove (list_at q b) k))) here ∙ get_or-set_same q b (remove (list_at q b) k) [] at.0 ∙ taken ∙ sym (list_at-without t q b) ∙ ap (list_at (without t q)) (sym here))
+    (λ (there : c ≡ b → ⊥).
+    let both = count_apart-le q b c t at.0 there in
+    let some = at.1 in
+    get_or-set_other q b c (remove (list_at q b) k) [] there ∙ sym (filter_absent t (list_at q c) (omega arith)) ∙ sym (list_at-without t q c))
+    (cases_eq c b))
 
 -- a thread without a bucket has no place
 pub place_in-none : (q : List (List ℕ)) (t : ℕ) → bucket_in q t ≡ None → place_in q t ≡ None
@@ -431,10 +357,30 @@ times_place q t b k sound found =
     let some = at.1 in
     omega arith
 
-pub removed_inside : (q : List (List ℕ)) (t b k i m : ℕ) (x : List ℕ) → place_in q t ≡ Some (b, k) → i ≡ b → m ≡ k → x ≡ get_or q i x → m < length x
-removed_inside q t b k i m x found same spot read =
-    let at = place_in_Some q t b k found in
-    let inside = at.0 in
-    let here : x ≡ list_at q b = get_or_read q i x (omega arith) read [] ∙ ap (list_at q) same in
-    let long = at.1 in
-    rw (here, spot) long
+-- a thread that stands in the queue has a place
+pub place_of_present : (q : List (List ℕ)) (t : ℕ) → 0 < times q t → (b : ℕ) × ((k : ℕ) × (place_in q t ≡ Some (b, k)))
+place_of_present q t some = step (bucket_in q t) refl
+  where
+    step : (o : Option ℕ) → bucket_in q t ≡ o → (b : ℕ) × ((k : ℕ) × (place_in q t ≡ Some (b, k)))
+    step None is = absurd (let none = bucket_in_None q t is in omega arith)
+    step (Some b) is = (b, (position_or_len (λ u. u == t) (list_at q b), rw is refl))
+
+-- a thread that was put at the tail has the last place of its bucket
+pub place_in-with_tail : (q : List (List ℕ)) (b t : ℕ) → times q t ≡ 0 → b < length q → place_in (with_tail q b t) t ≡ Some (b, length (list_at q b))
+place_in-with_tail q b t absent within =
+    let more = list_at-with_tail q b t within in
+    place_in-at (with_tail q b t) t b (length (list_at q b))
+    (let law = times-with_tail q b t t within in let one = once_same t in omega arith)
+    (let n = length-with_tail q b t in omega arith)
+    (rw more (let n = length_push (list_at q b) t in omega arith))
+    (rw more (get_or_push (list_at q b) t 0 (length (list_at q b)) refl))
+
+-- a thread that was put at the head has the first place of its bucket
+pub place_in-with_head : (q : List (List ℕ)) (b t : ℕ) → times q t ≡ 0 → b < length q → place_in (with_head q b t) t ≡ Some (b, 0)
+place_in-with_head q b t absent within =
+    let more = list_at-with_head q b t within in
+    place_in-at (with_head q b t) t b 0
+    (let law = times-with_head q b t t within in let one = once_same t in omega arith)
+    (let n = length-with_head q b t in omega arith)
+    (rw more (omega arith))
+    (rw more refl)

@@ -1,11 +1,10 @@
-ghost use Rattle.std.specs.Prelude.{◌≡◌, ◌<◌, ◌↔◌, [], replicate, All, IfOk, IsNone, IfSome};
-ghost use Rattle.ule_runq.specs.Runq.{IsRunq, is_empty_at, with_tail, with_head, without, times, first_from, bucket_in, place_in};
+ghost use Rattle.std.specs.Prelude.{◌≡◌, ◌<◌, ◌↔◌, [], replicate, All, IfOk, IsNone, IfSome, OnSome};
+ghost use Rattle.ule_runq.specs.Runq.{IsRunq, is_empty_at, with_tail, with_head, without, times, first_from, IsFirstFrom, bucket_in, place_in};
 
+use crate::bucket::Bucket;
 use std::alloc::{AllocError, Global};
 use std::marker::Model;
 use ule_prio::ThreadId;
-
-use crate::bucket::Bucket;
 
 /// The number of buckets of a run queue, after `RQ_NQS` of `runq.h`.
 pub const RQ_NQS: u8 = 64;
@@ -46,7 +45,7 @@ impl Runq {
         requires absent { times self.old t ≡ 0 }
         ensures { self.new ≡ with_tail self.old b t }
     {
-        let _number = t.0;
+        let _number = t.0; // so that it is known to be below 256
         let bucket = &mut self.buckets[usize::from(b)];
         bucket.push_tail(t);
     }
@@ -57,7 +56,7 @@ impl Runq {
         requires absent { times self.old t ≡ 0 }
         ensures { self.new ≡ with_head self.old b t }
     {
-        let _number = t.0;
+        let _number = t.0; // so that it is known to be below 256
         let bucket = &mut self.buckets[usize::from(b)];
         bucket.push_head(t);
     }
@@ -80,7 +79,8 @@ impl Runq {
         requires { b < RQ_NQS }
         ensures value { result ≡ first_from self.now b }
         ensures none { IsNone result ↔ All (λ xs. xs ≡ []) self.now }
-        ensures found { IfSome result (λ p. (p.0 < RQ_NQS) × (times self.now p.1 ≡ 1)) }
+        ensures found { IfSome result (λ p. times self.now p.1 ≡ 1) }
+        ensures nearest { IfSome result (λ p. IsFirstFrom self.now b p.0 p.1) }
     {
         for step in 0..RQ_NQS {
             let bucket = (b + step) % RQ_NQS;
@@ -104,6 +104,7 @@ impl Runq {
     pub fn find(&self, t: ThreadId) -> Option<(u8, u16)>
         ensures value { result ≡ place_in self.now t }
         ensures none { IsNone result ↔ (times self.now t ≡ 0) }
+        ensures found { OnSome result (times self.now t ≡ 1) }
         ensures whole { IsRunq self.now }
     {
         for b in 0..RQ_NQS {
@@ -112,5 +113,83 @@ impl Runq {
             }
         }
         None
+    }
+}
+
+#[cfg(test)]
+mod tests {
+    use super::*;
+    use std::test::Fail;
+
+    /// Puts a thread that the queue lacks at the tail of a bucket.
+    fn add(q: &mut Runq, b: u8, t: u8) -> bool {
+        let t = ThreadId(t);
+        if b >= RQ_NQS || q.find(t).is_some() {
+            return false;
+        }
+        q.push_tail(b, t);
+        true
+    }
+
+    /// Puts a thread that the queue lacks at the head of a bucket.
+    fn add_first(q: &mut Runq, b: u8, t: u8) -> bool {
+        let t = ThreadId(t);
+        if b >= RQ_NQS || q.find(t).is_some() {
+            return false;
+        }
+        q.push_head(b, t);
+        true
+    }
+
+    /// Takes out a thread that the queue has.
+    fn take_out(q: &mut Runq, t: u8) -> Option<u8> {
+        let t = ThreadId(t);
+        if q.find(t).is_none() {
+            return None;
+        }
+        Some(q.remove(t))
+    }
+
+    #[test]
+    fn preempted_threads_go_first(rt: HostRuntime) -> Result<(), Fail> {
+        let mut q = Runq::empty(rt.alloc())?;
+        assert!(rt; add(&mut q, 0, 1));
+        assert!(rt; add_first(&mut q, 0, 2));
+        assert!(rt; add(&mut q, 0, 3));
+        assert_eq!(rt; q.find(ThreadId(2)), Some((0, 0)));
+        assert_eq!(rt; q.find(ThreadId(1)), Some((0, 1)));
+        assert_eq!(rt; q.find(ThreadId(3)), Some((0, 2)));
+        assert_eq!(rt; take_out(&mut q, 1), Some(0));
+        assert_eq!(rt; q.find(ThreadId(1)), None);
+        assert_eq!(rt; q.find(ThreadId(3)), Some((0, 1)));
+        Ok(())
+    }
+
+    #[test]
+    fn the_choice_goes_round(rt: HostRuntime) -> Result<(), Fail> {
+        let mut q = Runq::empty(rt.alloc())?;
+        assert_eq!(rt; q.first_from(5), None);
+        assert!(rt; add(&mut q, 3, 10));
+        assert!(rt; add(&mut q, 63, 11));
+        assert_eq!(rt; q.first_from(0), Some((3, ThreadId(10))));
+        assert_eq!(rt; q.first_from(3), Some((3, ThreadId(10))));
+        assert_eq!(rt; q.first_from(4), Some((63, ThreadId(11))));
+        assert!(rt; q.is_empty_bucket(4));
+        assert!(rt; !q.is_empty_bucket(63));
+        assert_eq!(rt; take_out(&mut q, 11), Some(63));
+        assert_eq!(rt; q.first_from(4), Some((3, ThreadId(10))));
+        Ok(())
+    }
+
+    #[test]
+    fn one_bucket_holds_all_threads(rt: HostRuntime) -> Result<(), Fail> {
+        let mut q = Runq::empty(rt.alloc())?;
+        for t in 0..=255 {
+            assert!(rt; add(&mut q, 17, t));
+        }
+        assert!(rt; !add(&mut q, 18, 255));
+        assert_eq!(rt; q.find(ThreadId(255)), Some((17, 255)));
+        assert_eq!(rt; q.first_from(18), Some((17, ThreadId(0))));
+        Ok(())
     }
 }

@@ -1,0 +1,2 @@
+pub mod ScoreLemmas
+pub mod TimesharePriorityLemmas

@@ -1,6 +1,5 @@
-use Rattle.std.proofs.Common.{◌≡◌, sym, subst, List, ℕ, [], replicate, arith}
+use Rattle.std.proofs.Common.{◌≡◌, arith}
 use Rattle.ule_runq.specs.declared.runq.TheConstants.{RQ_NQS}
-use Rattle.ule_runq.specs.Runq.{IsRunq}
 use Rattle.ule_runq.proofs.RunqLaws.{IsRunq_empty}
 use Rattle.ule_runq.proofs.runq.Runq.empty.Goals as goal
 

@@ -1,8 +1,8 @@
-use Rattle.std.proofs.Common.{◌≡◌, ◌==◌, ◌<◌, Some, None, sym, ◌∙◌, ap, arith, Fits-lit, Fits-le, w16}
-use Rattle.std.proofs.lemmas.Option.{none-some}
+use Rattle.std.proofs.Common.{sym, ◌∙◌, ap, arith}
 use Rattle.std.proofs.lemmas.Bool.{true≢false}
-use Rattle.ule_runq.specs.Runq.{times, place_in, bucket_in, list_at}
-use Rattle.ule_runq.proofs.RunqLaws.{place_in_read, bucket_in_nowhere, bucket_in_None, place_in-none, place_in_Some, times_place}
+use Rattle.ule_runq.specs.Runq.{times, place_in}
+use Rattle.ule_runq.proofs.Access.{place_in_read, bucket_in_nowhere}
+use Rattle.ule_runq.proofs.RunqLaws.{bucket_in_None, place_in-none, times_place}
 use Rattle.ule_runq.proofs.runq.Runq.find.Goals as goal
 
 pub overflow_cast-result : goal.overflow_cast-result
@@ -29,3 +29,8 @@ pub returns-clause-none : goal.returns-clause-none
 returns-clause-none c =
     let absent = bucket_in_None _ c.args.t (bucket_in_nowhere _ c.args.t c.loop-b.b c.self.invariant (omega arith) c.loop-b.invariant) in
     ((λ none. sym (ap (λ q. times q c.args.t) c.self.view_is) ∙ absent), (λ none. cc))
+
+pub returns-in-Some-clause-found : goal.returns-in-Some-clause-found
+returns-in-Some-clause-found c =
+    sym (ap (λ q. times q c.args.t) c.self.view_is)
+    ∙ times_place _ c.args.t c.loop-b.b _ c.self.invariant (place_in_read _ c.args.t c.loop-b.b _ _ _ c.self.invariant c.loop-b-test.true c.loop-b.invariant c.from.ensures c.index.ensures (sym c.in-Some.ensures)).0

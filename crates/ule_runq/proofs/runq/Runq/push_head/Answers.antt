@@ -1,6 +1,6 @@
 use Rattle.std.proofs.Common.{◌∙◌, ap, arith}
 use Rattle.ule_runq.specs.Runq.{times}
-use Rattle.ule_runq.proofs.RunqLaws.{room_in_read, IsRunq-head_written}
+use Rattle.ule_runq.proofs.Access.{room_in_read, IsRunq-head_written}
 use Rattle.ule_runq.proofs.runq.Runq.push_head.Goals as goal
 
 pub push_head-requires : goal.push_head-requires

@@ -1,6 +1,6 @@
 use Rattle.std.proofs.Common.{◌∙◌, ap, arith}
 use Rattle.ule_runq.specs.Runq.{times}
-use Rattle.ule_runq.proofs.RunqLaws.{room_in_read, IsRunq-tail_written}
+use Rattle.ule_runq.proofs.Access.{room_in_read, IsRunq-tail_written}
 use Rattle.ule_runq.proofs.runq.Runq.push_tail.Goals as goal
 
 pub push_tail-requires : goal.push_tail-requires

@@ -1,6 +1,7 @@
-use Rattle.std.proofs.Common.{◌≡◌, Some, sym, ◌∙◌, ap, subst, arith}
+use Rattle.std.proofs.Common.{sym, ◌∙◌, ap, subst, arith}
 use Rattle.ule_runq.specs.Runq.{place_in, without, IsRunq}
-use Rattle.ule_runq.proofs.RunqLaws.{IsRunq-without, removed_written, removed_inside, place_in_Some}
+use Rattle.ule_runq.proofs.Access.{removed_written, removed_inside}
+use Rattle.ule_runq.proofs.RunqLaws.{IsRunq-without, place_in_Some}
 use Rattle.ule_runq.proofs.runq.Runq.remove.Goals as goal
 
 pub index_mut-bucket-requires : goal.index_mut-bucket-requires

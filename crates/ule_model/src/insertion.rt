@@ -1,0 +1,10 @@
+/// Why a thread is queued, which says where in its queue it goes.
+#[derive(Clone, Copy, Debug, PartialEq, Eq)]
+pub enum Insertion {
+    /// It became ready, or gave way of its own accord.
+    Ordinary,
+    /// Its priority got better while it was queued, after `SRQ_BORROWING`.
+    Borrowing,
+    /// It was preempted, after `SRQ_PREEMPTED`.
+    Preempted,
+}

@@ -1,0 +1,4 @@
+pub mod Queues
+pub mod Cpu
+pub mod TdqFields
+pub mod Replies

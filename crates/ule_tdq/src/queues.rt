@@ -1,0 +1,117 @@
+ghost use Rattle.std.specs.Prelude.{◌≡◌, ◌/◌, [], IfOk, IfSome, replicate};
+ghost use Rattle.ule_prio.specs.Kind.{kind_at};
+ghost use Rattle.ule_prio.specs.declared.kind.Kind.TheVariants.{Batch};
+ghost use Rattle.ule_runq.specs.Runq.{times};
+ghost use Rattle.ule_model.specs.CpuValue.{with_inserted};
+ghost use Rattle.ule_tdq.specs.Queues.{times_queued, times_in, dial_with, queues_with, queues_without, first_queued};
+
+use std::alloc::{AllocError, Global};
+use std::marker::Model;
+use ule_calendar::Calendar;
+use ule_model::Insertion;
+use ule_prio::{Kind, Priority, ThreadId, kind_of};
+use ule_runq::Runq;
+
+/// The three queues of a CPU, after `tdq_realtime`, `tdq_timeshare` and `tdq_idle`.
+#[derive(Drop)]
+pub struct Queues {
+    pub real: Runq,
+    pub batch: Calendar,
+    pub idle: Runq,
+}
+
+impl Model for Queues {
+    ghost use Rattle.ule_tdq.specs.Queues.{QueuesValue};
+
+    ghost Value = { QueuesValue };
+
+    ghost view = { λ q. record { real = q.real; batch = q.batch; idle = q.idle } };
+}
+
+impl Queues {
+    /// Three empty queues, with all the memory that they ever need.
+    pub fn empty(alloc: Global) -> Result<Queues, AllocError>
+        ensures { IfOk result (λ q. q ≡ record {
+            real = replicate 64 [];
+            batch = record { lists = replicate 64 []; idx = 0; ridx = 0 };
+            idle = replicate 64 [] }) }
+    {
+        Ok(Queues {
+            real: Runq::empty(alloc)?,
+            batch: Calendar::empty(alloc)?,
+            idle: Runq::empty(alloc)?,
+        })
+    }
+
+    /// Queues a thread of this priority, after `tdq_runq_add`.
+    pub fn insert(&mut self, how: Insertion, p: Priority, t: ThreadId)
+        requires { times_queued self.old t ≡ 0 }
+        ensures { self.new ≡ queues_with how p t self.old }
+    {
+        match kind_of(p) {
+            Kind::Real => insert_plain(&mut self.real, how, p, t),
+            Kind::Batch => insert_batch(&mut self.batch, how, p, t),
+            Kind::Idle => insert_plain(&mut self.idle, how, p, t),
+        }
+    }
+
+    /// Takes a thread out of its queue, after `tdq_runq_rem`.
+    pub fn remove(&mut self, kind: Kind, t: ThreadId)
+        requires { times_in kind self.old t ≡ 1 }
+        ensures { self.new ≡ queues_without kind t self.old }
+    {
+        match kind {
+            Kind::Real => {
+                self.real.remove(t);
+            }
+            Kind::Batch => {
+                self.batch.remove(t);
+            }
+            Kind::Idle => {
+                self.idle.remove(t);
+            }
+        }
+    }
+
+    /// The thread whose turn comes first, with its kind, after `tdq_choose`.
+    pub fn first(&self) -> Option<(Kind, ThreadId)>
+        ensures value { result ≡ first_queued self.now }
+        ensures found { IfSome result (λ f. times_in f.0 self.now f.1 ≡ 1) }
+    {
+        if let Some((_, t)) = self.real.first_from(0) {
+            return Some((Kind::Real, t));
+        }
+        if let Some(t) = self.batch.first() {
+            return Some((Kind::Batch, t));
+        }
+        match self.idle.first_from(0) {
+            Some((_, t)) => Some((Kind::Idle, t)),
+            None => None,
+        }
+    }
+}
+
+/// Queues a thread in a queue that is filed by priority alone.
+fn insert_plain(queue: &mut Runq, how: Insertion, p: Priority, t: ThreadId)
+    requires { times queue.old t ≡ 0 }
+    ensures { queue.new ≡ with_inserted how queue.old (p / 4) t }
+{
+    let bucket = p.0 / 4;
+    match how {
+        Insertion::Ordinary | Insertion::Borrowing => queue.push_tail(bucket, t),
+        Insertion::Preempted => queue.push_head(bucket, t),
+    }
+}
+
+/// Queues a thread in the calendar.
+fn insert_batch(calendar: &mut Calendar, how: Insertion, p: Priority, t: ThreadId)
+    requires batch { kind_at p ≡ Batch }
+    requires absent { times calendar.old.lists t ≡ 0 }
+    ensures { calendar.new ≡ dial_with how calendar.old p t }
+{
+    match how {
+        Insertion::Ordinary => calendar.insert(t, p),
+        Insertion::Borrowing => calendar.insert_at_index(t, false),
+        Insertion::Preempted => calendar.insert_at_index(t, true),
+    };
+}

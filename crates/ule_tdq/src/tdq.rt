@@ -1,0 +1,209 @@
+ghost use Rattle.std.specs.Prelude.{◌≡◌, ◌≤◌, ◌<◌, ◌^◌, None, Some, IfOk, IsNone};
+ghost use Rattle.ule_score.specs.Bounds.{KeepsBounds};
+ghost use Rattle.ule_model.specs.CpuValue.{value_switched, value_laid, chosen_next, with_given_way, without_marks, thread_in};
+ghost use Rattle.ule_model.specs.Switch.{started_reply};
+ghost use Rattle.ule_tdq.specs.Cpu.{IsNoEarlier};
+ghost use Rattle.ule_tdq.specs.Replies.{reply_of};
+
+use crate::queues::Queues;
+use crate::records::{after_running, before_running, is_preemption, is_unasked};
+use crate::threads::Threads;
+use std::alloc::{AllocError, Global};
+use std::marker::Model;
+use ule_model::Insertion;
+use ule_prio::{Cpu, Kind, ThreadId};
+use ule_score::{CpuLine, Place, Settings, ThreadRecord, Why};
+
+/// What a switch came to.
+#[derive(Clone, Copy, Debug, PartialEq, Eq)]
+pub enum SwitchOut {
+    /// No switch was asked for.
+    Unmarked,
+    /// There was no current thread and none to choose.
+    Nothing,
+    Switched {
+        /// The thread that left the processor, if there was one.
+        out: Option<ThreadId>,
+        /// The thread that got it.
+        into: Option<ThreadId>,
+        /// Whether the first was preempted.
+        preempted: bool,
+    },
+}
+
+/// What a switch without a current thread came to.
+fn started(into: Option<ThreadId>) -> SwitchOut
+    ensures { reply_of result ≡ started_reply into }
+{
+    match into {
+        None => SwitchOut::Nothing,
+        Some(_) => SwitchOut::Switched {
+            out: None,
+            into,
+            preempted: false,
+        },
+    }
+}
+
+/// One CPU, after `struct tdq`: the records of the threads that run or wait on it.
+#[derive(Drop)]
+pub struct Tdq {
+    cpu: Cpu,
+    settings: Settings,
+    threads: Threads,
+    current: Option<ThreadId>,
+    queues: Queues,
+    resched: bool,
+    slice_end: bool,
+    switches: u64,
+    old_switches: u64,
+    balance: u64,
+    balance_word: u32,
+}
+
+impl Model for Tdq {
+    ghost use Rattle.ule_model.specs.CpuValue.{CpuValue};
+
+    ghost Value = { CpuValue };
+
+    ghost use Rattle.ule_tdq.specs.TdqFields.{value_of, KeepsFields};
+
+    ghost view = { value_of };
+
+    ghost invariant = { KeepsFields };
+}
+
+impl Tdq {
+    /// A CPU with no thread. It takes all the memory that it ever needs. `balance_word` is where
+    /// CPU 0's balance word stands.
+    pub fn start(
+        alloc: Global,
+        cpu: Cpu,
+        s: &Settings,
+        balance_word: u32,
+    ) -> Result<Tdq, AllocError> {
+        Ok(Tdq {
+            cpu,
+            settings: *s,
+            threads: Threads::none(alloc)?,
+            current: None,
+            queues: Queues::empty(alloc)?,
+            resched: false,
+            slice_end: false,
+            switches: 0,
+            old_switches: 0,
+            balance: 0,
+            balance_word,
+        })
+    }
+
+    /// Chooses what the CPU runs next, after `sched_switch`. A switch that wants to be asked for
+    /// does nothing where the mark isn't set.
+    pub fn switch(&mut self, why: Why, now: u64) -> SwitchOut
+        requires begun { 20000 ≤ now }
+        requires bounded { now < 2 ^ 36 }
+        requires in_time { IsNoEarlier self.old now }
+        ensures value { self.new ≡ (value_switched why now self.old).0 }
+        ensures reply { reply_of result ≡ (value_switched why now self.old).1 }
+    {
+        if is_unasked(why, self.resched) {
+            return SwitchOut::Unmarked;
+        }
+        let preempted = is_preemption(why, self.slice_end);
+        self.clear_marks();
+        match self.current {
+            None => started(self.choose_next(now)),
+            Some(t) => {
+                self.give_way(preempted, now, t);
+                SwitchOut::Switched {
+                    out: Some(t),
+                    into: self.choose_next(now),
+                    preempted,
+                }
+            }
+        }
+    }
+
+    /// Queues a thread of the start, by ordinary insertion and without a preemption test.
+    pub fn lay(&mut self, r: ThreadRecord)
+        requires absent { thread_in self.old r.id ≡ None }
+        requires bounds { KeepsBounds r }
+        ensures { self.new ≡ value_laid r self.old }
+    {
+        self.threads.put(r.id, Some(r));
+        self.queues.insert(Insertion::Ordinary, r.priority, r.id);
+    }
+
+    /// The current thread, after `tdq_curthread`.
+    pub fn current(&self) -> Option<ThreadId>
+        ensures { result ≡ self.now.current }
+    {
+        self.current
+    }
+
+    /// The record of a thread, if it runs or waits here.
+    pub fn thread(&self, t: ThreadId) -> Option<ThreadRecord>
+        ensures { result ≡ thread_in self.now t }
+    {
+        self.threads.get(t)
+    }
+
+    /// The CPU's numbers.
+    pub fn line(&self) -> CpuLine
+        ensures { result ≡ self.now.line }
+    {
+        CpuLine {
+            idx: self.queues.batch.idx(),
+            ridx: self.queues.batch.ridx(),
+            resched: self.resched,
+            slice_end: self.slice_end,
+            switches: self.switches,
+            old_switches: self.old_switches,
+            balance: self.balance,
+        }
+    }
+
+    fn clear_marks(&mut self)
+        ensures { self.new ≡ without_marks self.old }
+    {
+        self.resched = false;
+        self.slice_end = false;
+    }
+
+    /// Queues the current thread again, as it leaves the processor.
+    fn give_way(&mut self, preempted: bool, now: u64, t: ThreadId)
+        requires begun { 20000 ≤ now }
+        requires bounded { now < 2 ^ 36 }
+        requires in_time { IsNoEarlier self.old now }
+        requires current { self.old.current ≡ Some t }
+        ensures { self.new ≡ with_given_way preempted now t self.old }
+    {
+        let record = after_running(self.threads.get(t).unwrap(), now);
+        self.threads.put(t, Some(record));
+        self.current = None;
+        self.switches = self.switches.saturating_add(1);
+        let how = if preempted {
+            Insertion::Preempted
+        } else {
+            Insertion::Ordinary
+        };
+        self.queues.insert(how, record.priority, t);
+    }
+
+    /// Runs the thread whose turn comes first, after `choosethread`.
+    fn choose_next(&mut self, now: u64) -> Option<ThreadId>
+        requires begun { 20000 ≤ now }
+        requires bounded { now < 2 ^ 36 }
+        requires in_time { IsNoEarlier self.old now }
+        requires idle { self.old.current ≡ None }
+        ensures value { self.new ≡ (chosen_next now self.old).0 }
+        ensures into { result ≡ (chosen_next now self.old).1 }
+    {
+        let (kind, t) = self.queues.first()?;
+        self.queues.remove(kind, t);
+        let record = before_running(self.threads.get(t).unwrap(), now);
+        self.threads.put(t, Some(record));
+        self.current = Some(t);
+        Some(t)
+    }
+}
