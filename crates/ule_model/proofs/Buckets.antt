@@ -66,7 +66,7 @@ orders_in c k b ms = map (λ m. m.order) (members_in c k b ms)
 orders_front : (P : ℤ → Type 0) (c : ℕ) (k : Kind) (b : ℕ) (before after : List Member) → AllByRecursion P (orders_in c k b (before ++ after)) → AllByRecursion (λ n. P n.order) (members_in c k b before) × AllByRecursion (λ n. P n.order) (members_in c k b after)
 orders_front P c k b before after all =
     let both : AllByRecursion (λ n. P n.order) (members_in c k b before ++ members_in c k b after) =
-        subst (AllByRecursion (λ n. P n.order)) (filter-append (λ n. waits_in c k b n.place) before after) (all_from_map (λ n. n.order) P (members_in c k b (before ++ after)) all) in
+    subst (AllByRecursion (λ n. P n.order)) (filter-append (λ n. waits_in c k b n.place) before after) (all_from_map (λ n. n.order) P (members_in c k b (before ++ after)) all) in
     (all_front (λ n. P n.order) (members_in c k b before) (members_in c k b after) both, all_back (λ n. P n.order) (members_in c k b before) (members_in c k b after) both)
 
 -- a thread with the order of the tail is last
@@ -74,7 +74,7 @@ pub bucket_ids_last : (c : ℕ) (k : Kind) (b : ℕ) (before : List Member) (m :
     bucket_ids c k b (before ++ m ∷ after) ≡ bucket_ids c k b (before ++ after) ++ m.thread.id ∷ []
 bucket_ids_last c k b before m after here order =
     let above : AllByRecursion (λ o. int_lt o m.order ≡ true) (orders_in c k b (before ++ after)) =
-        subst (λ r. AllByRecursion (λ o. int_lt o r ≡ true) (orders_in c k b (before ++ after))) (sym order) (tail_order_above (orders_in c k b (before ++ after))) in
+    subst (λ r. AllByRecursion (λ o. int_lt o r ≡ true) (orders_in c k b (before ++ after))) (sym order) (tail_order_above (orders_in c k b (before ++ after))) in
     let parts = orders_front (λ o. int_lt o m.order ≡ true) c k b before after above in
     ap (λ ns. ids_of (by_order ns)) (filter_keeps (λ n. waits_in c k b n.place) before m after here) ∙
     ap ids_of (by_order_last (members_in c k b before) m (members_in c k b after) parts.0 parts.1) ∙
@@ -86,7 +86,7 @@ pub bucket_ids_first : (c : ℕ) (k : Kind) (b : ℕ) (before : List Member) (m 
     bucket_ids c k b (before ++ m ∷ after) ≡ m.thread.id ∷ bucket_ids c k b (before ++ after)
 bucket_ids_first c k b before m after here order =
     let below : AllByRecursion (λ o. int_lt m.order o ≡ true) (orders_in c k b (before ++ after)) =
-        subst (λ r. AllByRecursion (λ o. int_lt r o ≡ true) (orders_in c k b (before ++ after))) (sym order) (head_order_below (orders_in c k b (before ++ after))) in
+    subst (λ r. AllByRecursion (λ o. int_lt r o ≡ true) (orders_in c k b (before ++ after))) (sym order) (head_order_below (orders_in c k b (before ++ after))) in
     let parts = orders_front (λ o. int_lt m.order o ≡ true) c k b before after below in
     ap (λ ns. ids_of (by_order ns)) (filter_keeps (λ n. waits_in c k b n.place) before m after here) ∙
     ap ids_of (by_order_first (members_in c k b before) m (members_in c k b after) parts.0 parts.1) ∙
@@ -108,6 +108,7 @@ bucket_ids_without c k b t m ms w =
   where
     lacks : (ns : List Member) → Lacks t ns → Lacks t (members_in c k b ns)
     lacks ns all = all-filter (λ n. waits_in c k b n.place) (λ n. is_thread t n ≡ false) ns all
+
     split : (d : Bool) → waits_in c k b m.place ≡ d → filter (λ u. not (u == t)) (bucket_ids c k b (w.before ++ m ∷ w.after)) ≡ bucket_ids c k b (w.before ++ w.after)
     split true here =
         ap (λ ns. filter (λ u. not (u == t)) (ids_of (by_order ns))) (filter_keeps (λ n. waits_in c k b n.place) w.before m w.after here) ∙
@@ -140,9 +141,11 @@ bucket_ids-with_record c k b t change ms kept =
     place_kept : (n : Member) (d : Bool) → waits_in c k b (if d then record n { thread = change n.thread } else n).place ≡ waits_in c k b n.place
     place_kept n true = refl
     place_kept n false = refl
+
     order_kept : (n : Member) (d : Bool) → (if d then record n { thread = change n.thread } else n).order ≡ n.order
     order_kept n true = refl
     order_kept n false = refl
+
     ids_kept : (ns : List Member) → ids_of (map (recorded t change) ns) ≡ ids_of ns
     ids_kept [] = refl
     ids_kept (n ∷ ns) = ap (λ u. u ∷ ids_of (map (recorded t change) ns)) (recorded_id t change n kept) ∙ ap (λ r. n.thread.id ∷ r) (ids_kept ns)
@@ -214,6 +217,7 @@ shows_joined lists c k b t m ms w o xs old small shows joined = record {
         ap (λ i. slice_index_or (slice_set lists b xs) i []) same ∙ get_or-set_same lists b xs [] (let n = shows.buckets in omega arith) ∙ joined ∙
         ap (bucket_ids c k b) (sym (changed_within t m ms w (λ n. record n { place = Queued c k b; order = o }))) ∙
         ap (λ i. bucket_ids c k i (moved_to t (Queued c k b) o ms)) (sym same)
+
     there : (e : ℕ) → e < 64 → (e ≡ b → ⊥) → slice_index_or (slice_set lists b xs) e [] ≡ bucket_ids c k e (moved_to t (Queued c k b) o ms)
     there e below apart =
         get_or-set_other lists b e xs [] apart ∙ shows.each e below ∙ bucket_ids_others c k e t m ms w (old e) ∙
@@ -226,8 +230,8 @@ shows_with_tail lists c k b t m ms w old small shows =
     let order : ℤ = tail_order (orders_in c k b ms) in
     shows_joined lists c k b t m ms w order (list_at lists b ++ t ∷ []) old small shows
     (ap (λ r. r ++ t ∷ []) (shows.each b small ∙ bucket_ids_others c k b t m ms w (old b)) ∙
-     ap (λ u. bucket_ids c k b (w.before ++ w.after) ++ u ∷ []) (sym w.number) ∙
-     sym (bucket_ids_last c k b w.before (record m { place = Queued c k b; order = order }) w.after (waits_in_itself c k b) (ap (λ ns. tail_order (map (λ n. n.order) ns)) (members_in_others c k b t m ms w (old b)))))
+    ap (λ u. bucket_ids c k b (w.before ++ w.after) ++ u ∷ []) (sym w.number) ∙
+    sym (bucket_ids_last c k b w.before (record m { place = Queued c k b; order = order }) w.after (waits_in_itself c k b) (ap (λ ns. tail_order (map (λ n. n.order) ns)) (members_in_others c k b t m ms w (old b)))))
 
 -- a thread that joins the queue at the head of a bucket is put there
 pub shows_with_head : (lists : List (List ℕ)) (c : ℕ) (k : Kind) (b t : ℕ) (m : Member) (ms : List Member) (w : Within t m ms) → IsOut c k m.place → b < 64 → ShowsQueue lists c k ms →
@@ -236,8 +240,8 @@ shows_with_head lists c k b t m ms w old small shows =
     let order : ℤ = head_order (orders_in c k b ms) in
     shows_joined lists c k b t m ms w order (t ∷ list_at lists b) old small shows
     (ap (λ r. t ∷ r) (shows.each b small ∙ bucket_ids_others c k b t m ms w (old b)) ∙
-     ap (λ u. u ∷ bucket_ids c k b (w.before ++ w.after)) (sym w.number) ∙
-     sym (bucket_ids_first c k b w.before (record m { place = Queued c k b; order = order }) w.after (waits_in_itself c k b) (ap (λ ns. head_order (map (λ n. n.order) ns)) (members_in_others c k b t m ms w (old b)))))
+    ap (λ u. u ∷ bucket_ids c k b (w.before ++ w.after)) (sym w.number) ∙
+    sym (bucket_ids_first c k b w.before (record m { place = Queued c k b; order = order }) w.after (waits_in_itself c k b) (ap (λ ns. head_order (map (λ n. n.order) ns)) (members_in_others c k b t m ms w (old b)))))
 
 -- ---- empty buckets
 

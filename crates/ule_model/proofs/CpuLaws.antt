@@ -1,5 +1,5 @@
 -- Each step of a switch on a CPU's value, and on the side of a world that it stands for.
-use Rattle.std.proofs.Common.{◌≡◌, ◌≢◌, ℕ, ◌+◌, ◌*◌, ◌/◌, ◌%◌, ◌-◌, ◌<◌, ◌==◌, ℤ, pos, Bool, true, false, not, ◌&&◌, List, [], ◌∷◌, ◌++◌, map, length, slice_set, slice_index_or, if◌then◌else◌, Option, Some, None, ⊎_elim, refl, sym, ◌∙◌, ap, subst, arith, length-set, get_or-set_same, get_or-set_other}
+use Rattle.std.proofs.Common.{◌≡◌, ◌≢◌, ℕ, ◌+◌, ◌%◌, ◌<◌, ◌==◌, ℤ, Bool, true, false, not, ◌&&◌, List, [], ◌∷◌, ◌++◌, length, slice_set, if◌then◌else◌, Option, Some, None, ⊎_elim, refl, sym, ◌∙◌, ap, subst, arith, length-set, get_or-set_same, get_or-set_other}
 use Rattle.std.specs.Option.{option_map}
 use Rattle.std.proofs.lemmas.Bool.{cases_eq, eq-eqb, ne_eqb, and_left, and_right, or_parts, or_left, both_ways, false_from_ne_true}
 use Rattle.std.proofs.lemmas.Option.{none-some}
@@ -13,9 +13,10 @@ use Rattle.ule_score.specs.declared.record.ThreadRecord.{ThreadRecord}
 use Rattle.ule_score.specs.declared.record.Why.{Why}
 use Rattle.ule_types.specs.declared.event.Reply.{Reply}
 use Rattle.ule_types.specs.declared.event.Reply.TheVariants.{Unmarked, Switched}
-use Rattle.ule_model.specs.CalendarIndexes.{reach_of, calendar_bucket, short_of_removal}
-use Rattle.ule_model.specs.CpuValue.{CpuValue, StandsFor, thread_in, with_thread, with_inserted, inserted_in, inserted, inserted_thread, with_given_way, without_marks, value_laid, thread_on, chosen_next, value_switched_from, value_switched}
-use Rattle.ule_model.specs.Insertion.{Insertion, Ordinary, Borrowing, Preempted, batch_bucket, bucket_of, order_of, place_of_insertion, order_of_insertion, with_queued, queued}
+use Rattle.ule_runq.specs.Runq.{is_empty_at, without}
+use Rattle.ule_model.specs.CalendarIndexes.{reach_of, calendar_bucket}
+use Rattle.ule_model.specs.CpuValue.{CpuValue, StandsFor, thread_in, with_thread, with_inserted, inserted_in, inserted, inserted_thread, removed_from, first_in, current_chosen, with_given_way, without_marks, value_laid, thread_on, chosen_next, value_switched_from, value_switched}
+use Rattle.ule_model.specs.Insertion.{Insertion, Ordinary, Borrowing, Preempted, bucket_of, order_of, place_of_insertion, order_of_insertion, with_queued, queued}
 use Rattle.ule_model.specs.Places.{rank_of, is_kind, runs_on, waits_on, waits_in, is_on}
 use Rattle.ule_model.specs.Shows.{ShowsQueue, IsWellMade}
 use Rattle.ule_model.specs.Start.{unborn_member, laid_on}
@@ -29,8 +30,8 @@ use Rattle.ule_model.proofs.Within.{Within, changed_within, within_thread, all-a
 
 -- ---- a thread that joins a queue
 
--- this value is CPU v.cpu's side of a world, but for thread m, whose record it has and which it has
--- in no place, as the world has it in no queue of the CPU; the others are those of the world
+-- this value is CPU v.cpu's side of a world but for thread m: the value has its record and has it in
+-- no place, and the world has it in no queue of the CPU; the others are the rest of the world
 pub record StandsBeside (m : Member) (v : CpuValue) (s : Side) (others : List Member) : Type 0 where
   pub settings : v.settings ≡ s.settings
   pub line : v.line ≡ s.line
@@ -50,7 +51,7 @@ joined_current : (m : Member) (v : CpuValue) (s : Side) (w : Within m.thread.id 
 joined_current m v s w h k b o =
     h.current ∙ ap (option_map (λ (n : Member). n.thread.id))
     (sym (ap (current_of v.cpu) (changed_within m.thread.id m s.members w (λ n. record n { place = Queued v.cpu k b; order = o })) ∙
-     find_skips (λ n. runs_on v.cpu n.place) w.before (record m { place = Queued v.cpu k b; order = o }) w.after refl))
+    find_skips (λ n. runs_on v.cpu n.place) w.before (record m { place = Queued v.cpu k b; order = o }) w.after refl))
 
 -- the records after thread m joined a queue
 joined_threads : (m : Member) (v : CpuValue) (s : Side) (w : Within m.thread.id m s.members) → StandsBeside m v s (w.before ++ w.after) → (k : Kind) (b : ℕ) (o : ℤ) (u : ℕ) →
@@ -61,14 +62,15 @@ joined_threads m v s w h k b o u = ⊎_elim same other (cases_eq u m.thread.id)
     same is =
         subst (λ (i : ℕ). thread_in v i ≡ option_map (λ n. n.thread) (thread_on v.cpu i (moved_to m.thread.id (Queued v.cpu k b) o s.members))) (sym is)
         (h.own ∙ ap (option_map (λ (n : Member). n.thread))
-         (sym (thread_on-changed v.cpu m.thread.id m s.members w (λ n. record n { place = Queued v.cpu k b; order = o }) refl ∙
-          ap (λ d. if d then Some (record m { place = Queued v.cpu k b; order = o }) else None) (eq-eqb v.cpu v.cpu refl))))
+        (sym (thread_on-changed v.cpu m.thread.id m s.members w (λ n. record n { place = Queued v.cpu k b; order = o }) refl ∙
+        ap (λ d. if d then Some (record m { place = Queued v.cpu k b; order = o }) else None) (eq-eqb v.cpu v.cpu refl))))
+
     other : (u ≡ m.thread.id → ⊥) → thread_in v u ≡ option_map (λ n. n.thread) (thread_on v.cpu u (moved_to m.thread.id (Queued v.cpu k b) o s.members))
     other apart =
         h.threads u apart ∙ ap (option_map (λ (n : Member). n.thread))
         (sym (ap (thread_on v.cpu u) (changed_within m.thread.id m s.members w (λ n. record n { place = Queued v.cpu k b; order = o })) ∙
-         find_skips (λ n. is_thread u n && is_on v.cpu n.place) w.before (record m { place = Queued v.cpu k b; order = o }) w.after
-         (and_left (is_thread u m) (is_on v.cpu (Queued v.cpu k b)) (ne_eqb m.thread.id u (λ e. apart (sym e))))))
+        find_skips (λ n. is_thread u n && is_on v.cpu n.place) w.before (record m { place = Queued v.cpu k b; order = o }) w.after
+        (and_left (is_thread u m) (is_on v.cpu (Queued v.cpu k b)) (ne_eqb m.thread.id u (λ e. apart (sym e))))))
 
 -- its queue after thread m joined it
 joined_same : (m : Member) (c : ℕ) (ms : List Member) (w : Within m.thread.id m ms) (how : Insertion) (q : List (List ℕ)) (k : Kind) (b : ℕ) → b < 64 → IsOut c k m.place → ShowsQueue q c k ms →
@@ -186,6 +188,7 @@ inserted_stands how m v s w h small =
   where
     p : ℕ
     p = m.thread.priority
+
     joined : IsJoined v (inserted how p m.thread.id v) (record s { members = moved_to m.thread.id (place_of_insertion how v.cpu v.line p) (order_of_insertion how v.cpu v.line p s.members) s.members })
     joined = record {
       stands = joined_stands (kind_at p) how (bucket_of (kind_at p) how v.line p) m v s w small h;
@@ -215,7 +218,7 @@ beside_threads : (m : Member) (v : CpuValue) (s : Side) (w : Within m.thread.id 
 beside_threads m v s w stands u apart =
     stands.threads u ∙ ap (option_map (λ (n : Member). n.thread))
     (ap (thread_on v.cpu u) w.whole ∙
-     find_skips (λ n. is_thread u n && is_on v.cpu n.place) w.before m w.after (and_left (is_thread u m) (is_on v.cpu m.place) (ne_eqb m.thread.id u (λ e. apart (sym e)))))
+    find_skips (λ n. is_thread u n && is_on v.cpu n.place) w.before m w.after (and_left (is_thread u m) (is_on v.cpu m.place) (ne_eqb m.thread.id u (λ e. apart (sym e)))))
 
 -- the current thread, once the CPU has none
 pub beside_current : (m : Member) (v : CpuValue) (s : Side) (w : Within m.thread.id m s.members) → StandsFor v s → runs_on v.cpu m.place ≡ true → StandsBeside m (record v { current = None }) s (w.before ++ w.after)
@@ -226,7 +229,7 @@ beside_current m v s w stands runs = record {
   current =
       ap (option_map (λ (n : Member). n.thread.id))
       (sym (find_nowhere (λ n. runs_on v.cpu n.place) (w.before ++ w.after)
-       (all-append (λ n. runs_on v.cpu n.place ≡ false) w.before w.after (no_other_runs v.cpu m w.before w.apart_before runs) (no_other_runs v.cpu m w.after w.apart_after runs))));
+      (all-append (λ n. runs_on v.cpu n.place ≡ false) w.before w.after (no_other_runs v.cpu m w.before w.apart_before runs) (no_other_runs v.cpu m w.after w.apart_after runs))));
   slots = stands.slots;
   own =
       stands.threads m.thread.id ∙ ap (option_map (λ (n : Member). n.thread))
@@ -303,20 +306,28 @@ given_way_stands preempted now m v s stands made found small =
   where
     t : ℕ
     t = m.thread.id
+
     n : Member
     n = record m { thread = after_running now m.thread }
+
     at : Within t m s.members
     at = within_current v.cpu s.members m made found
+
     runs : runs_on v.cpu m.place ≡ true
     runs = current_runs v.cpu s.members m found
+
     changed_side : Side
     changed_side = record s { members = with_record t (after_running now) s.members }
+
     left : CpuValue
     left = value_left now t v
+
     well : IsWellMade changed_side.members
     well = well_made-with_record t (after_running now) s.members (λ r. refl) (λ r low. low) made
+
     within : Within t n changed_side.members
     within = within_thread t changed_side.members n well (thread_of-changed t m s.members at (λ x. record x { thread = after_running now x.thread }) refl)
+
     beside : StandsBeside n left (counted changed_side) (within.before ++ within.after)
     beside =
         beside_current n (value_counted (with_thread t (after_running now) v)) (counted changed_side) within
@@ -352,10 +363,13 @@ laid_stands r v s stands made number priority new =
   where
     n : Member
     n = unborn_member r
+
     more : Side
     more = record s { members = s.members ++ n ∷ [] }
+
     well : IsWellMade more.members
     well = well_made_appended s.members n made (record { number = number; priority = priority; place = tt }) (λ c. refl) new
+
     within : Within r.id n more.members
     within = within_thread r.id more.members n well (find-appended_new (is_thread r.id) s.members n new (eq-eqb r.id r.id refl))
 
@@ -382,8 +396,8 @@ replaced_stands preempted now m v s stands made found small =
     let t : ℕ = m.thread.id in
     let gave : IsJoined (value_left now t v) (with_given_way preempted now t v) (given_way v.cpu preempted now t s) = given_way_stands preempted now m v s stands made found small in
     let next : AreChosen (with_given_way preempted now t v) (given_way v.cpu preempted now t s) (chosen_next now (with_given_way preempted now t v)) (choosing_next v.cpu now (given_way v.cpu preempted now t s)) =
-        subst (λ (c : ℕ). AreChosen (with_given_way preempted now t v) (given_way v.cpu preempted now t s) (chosen_next now (with_given_way preempted now t v)) (choosing_next c now (given_way v.cpu preempted now t s))) gave.cpu
-        (choosing_stands now (with_given_way preempted now t v) (given_way v.cpu preempted now t s) gave.stands gave.well_made gave.current (subst (λ (line : CpuLine). line.ridx < 64) (sym gave.line) small)) in
+    subst (λ (c : ℕ). AreChosen (with_given_way preempted now t v) (given_way v.cpu preempted now t s) (chosen_next now (with_given_way preempted now t v)) (choosing_next c now (given_way v.cpu preempted now t s))) gave.cpu
+    (choosing_stands now (with_given_way preempted now t v) (given_way v.cpu preempted now t s) gave.stands gave.well_made gave.current (subst (λ (line : CpuLine). line.ridx < 64) (sym gave.line) small)) in
     record { stands = next.stands; answer = ap (λ (o : Option ℕ). Switched (Some t) o preempted) next.answer; well_made = next.well_made; cpu = next.cpu ∙ gave.cpu }
 
 -- a switch from the current thread, if there is one
@@ -411,3 +425,35 @@ switched_stands why now v s stands made small =
     split false =
         let marks = switched_from_stands (is_preemption why v.line.slice_end) now (without_marks v) (unmarked s) (marks_stand v s stands) made small in
         record { stands = marks.stands; answer = marks.answer; well_made = marks.well_made; cpu = marks.cpu }
+
+-- a switch leaves the calendar's removal index that of a bucket
+pub switched_index : (why : Why) (now : ℕ) (v : CpuValue) → v.line.ridx < 64 → (value_switched why now v).0.line.ridx < 64
+switched_index why now v small = split (is_unasked why v.line.resched)
+  where
+    removed : (k : Kind) (t : ℕ) (u : CpuValue) → u.line.ridx < 64 → (removed_from k t u).line.ridx < 64
+    removed Real t u at = at
+    removed Batch t u at = step (not (u.line.idx == u.line.ridx) && is_empty_at (without t u.batch) u.line.ridx)
+      where
+        step : (d : Bool) → (if d then (u.line.ridx + 1) % 64 else u.line.ridx) < 64
+        step true = omega arith
+        step false = at
+    removed Idle t u at = at
+
+    chosen : (u : CpuValue) (first : Option (Kind × ℕ)) → u.line.ridx < 64 → (current_chosen now first u).0.line.ridx < 64
+    chosen u None at = at
+    chosen u (Some first) at = removed first.0 first.1 u at
+
+    joined : (how : Insertion) (t : ℕ) (o : Option ThreadRecord) (u : CpuValue) → u.line.ridx < 64 → (inserted_thread how t o u).line.ridx < 64
+    joined how t None u at = at
+    joined how t (Some r) u at = subst (λ (line : CpuLine). line.ridx < 64) (sym (inserted_line (kind_at r.priority) how (bucket_of (kind_at r.priority) how u.line r.priority) t u)) at
+
+    from : (o : Option ℕ) (preempted : Bool) → (value_switched_from o preempted now (without_marks v)).0.line.ridx < 64
+    from None preempted = chosen (without_marks v) (first_in (without_marks v)) small
+    from (Some t) preempted =
+        let left : CpuValue = value_left now t (without_marks v) in
+        let gave : CpuValue = with_given_way preempted now t (without_marks v) in
+        chosen gave (first_in gave) (joined (insertion_of preempted) t (thread_in left t) left small)
+
+    split : (d : Bool) → (if d then (v, Unmarked) else value_switched_from v.current (is_preemption why v.line.slice_end) now (without_marks v)).0.line.ridx < 64
+    split true = small
+    split false = from v.current (is_preemption why v.line.slice_end)

@@ -53,6 +53,7 @@ lt_flip a b apart = grind (arith, ints)
 lt_between : (a b c : ℤ) → int_lt a c ≡ true → int_lt b c ≡ false → int_lt a b ≡ true
 lt_between a b c low high = grind (arith, ints)
 
+-- of two orders of which one is less the other is not
 pub lt_not_back : (a b : ℤ) → int_lt a b ≡ true → int_lt b a ≡ false
 lt_not_back a b low = grind (arith, ints)
 
@@ -70,6 +71,7 @@ with_ordered_comm x m (n ∷ ns) apart =
     pick : (b : Bool) → (if b then x ∷ m ∷ n ∷ ns else m ∷ x ∷ n ∷ ns) ≡ (if not b then m ∷ x ∷ n ∷ ns else x ∷ m ∷ n ∷ ns)
     pick true = refl
     pick false = refl
+
     step : (b d : Bool) → int_lt x.order n.order ≡ b → int_lt m.order n.order ≡ d → with_ordered x (with_ordered m ns) ≡ with_ordered m (with_ordered x ns) →
         with_ordered x (if d then m ∷ n ∷ ns else n ∷ with_ordered m ns) ≡ with_ordered m (if b then x ∷ n ∷ ns else n ∷ with_ordered x ns)
     step true true e f rest = rw (e, f, lt_flip x.order m.order apart) (pick (int_lt x.order m.order))
@@ -110,6 +112,7 @@ map-with_ordered g kept m (n ∷ ns) =
     step true rest = refl
     step false rest = ap (λ r. g n ∷ r) rest
 
+-- a list of threads changed alike too
 pub map-by_order : (g : Member → Member) → ((n : Member) → (g n).order ≡ n.order) → (ms : List Member) → by_order (map g ms) ≡ map g (by_order ms)
 unfolding by_order
 map-by_order g kept [] = refl
@@ -169,9 +172,10 @@ all_from_map g P (x ∷ xs) all = (all.0, all_from_map g P xs all.1)
 pub tail_order_above : (os : List ℤ) → AllByRecursion (λ o. int_lt o (tail_order os) ≡ true) os
 tail_order_above [] = tt
 tail_order_above (o ∷ os) =
-    let bounds = fold-int_max_bounds o os (fold int_max o os) refl in
-    (raised o (fold int_max o os) bounds.0,
-     all_along (λ x. x ≤ℤ fold int_max o os) (λ x. int_lt x (fold int_max o os +ℤ pos 1) ≡ true) os (λ x le. raised x (fold int_max o os) le) (recursion_from_All (λ x. x ≤ℤ fold int_max o os) os bounds.1))
+    let bounds = fold-int_max_bounds o os (fold int_max o os) refl in (
+      raised o (fold int_max o os) bounds.0,
+      all_along (λ x. x ≤ℤ fold int_max o os) (λ x. int_lt x (fold int_max o os +ℤ pos 1) ≡ true) os (λ x le. raised x (fold int_max o os) le) (recursion_from_All (λ x. x ≤ℤ fold int_max o os) os bounds.1),
+    )
   where
     raised : (x r : ℤ) → x ≤ℤ r → int_lt x (r +ℤ pos 1) ≡ true
     raised x r le = grind (arith, ints)
@@ -180,9 +184,10 @@ tail_order_above (o ∷ os) =
 pub head_order_below : (os : List ℤ) → AllByRecursion (λ o. int_lt (head_order os) o ≡ true) os
 head_order_below [] = tt
 head_order_below (o ∷ os) =
-    let bounds = fold-int_min_bounds o os (fold int_min o os) refl in
-    (lowered o (fold int_min o os) bounds.0,
-     all_along (λ x. fold int_min o os ≤ℤ x) (λ x. int_lt (fold int_min o os -ℤ pos 1) x ≡ true) os (λ x le. lowered x (fold int_min o os) le) (recursion_from_All (λ x. fold int_min o os ≤ℤ x) os bounds.1))
+    let bounds = fold-int_min_bounds o os (fold int_min o os) refl in (
+      lowered o (fold int_min o os) bounds.0,
+      all_along (λ x. fold int_min o os ≤ℤ x) (λ x. int_lt (fold int_min o os -ℤ pos 1) x ≡ true) os (λ x le. lowered x (fold int_min o os) le) (recursion_from_All (λ x. fold int_min o os ≤ℤ x) os bounds.1),
+    )
   where
     lowered : (x r : ℤ) → r ≤ℤ x → int_lt (r -ℤ pos 1) x ≡ true
     lowered x r le = grind (arith, ints)
@@ -197,8 +202,8 @@ by_order_last before m after front back =
     by_order-between before m after (all_along (λ n. int_lt n.order m.order ≡ true) (λ n. n.order ≢ m.order) before (λ n low. lt_apart n.order m.order low) front) ∙
     with_ordered_last m (by_order (before ++ after))
     (all-by_order (λ n. int_lt m.order n.order ≡ false) (before ++ after)
-     (all_along (λ n. int_lt n.order m.order ≡ true) (λ n. int_lt m.order n.order ≡ false) (before ++ after) (λ n low. lt_not_back n.order m.order low)
-      (all-append (λ n. int_lt n.order m.order ≡ true) before after front back)))
+    (all_along (λ n. int_lt n.order m.order ≡ true) (λ n. int_lt m.order n.order ≡ false) (before ++ after) (λ n low. lt_not_back n.order m.order low)
+    (all-append (λ n. int_lt n.order m.order ≡ true) before after front back)))
 
 -- a thread below all the others comes first
 pub by_order_first : (before : List Member) (m : Member) (after : List Member) → AllByRecursion (λ n. int_lt m.order n.order ≡ true) before → AllByRecursion (λ n. int_lt m.order n.order ≡ true) after → by_order (before ++ m ∷ after) ≡ m ∷ by_order (before ++ after)

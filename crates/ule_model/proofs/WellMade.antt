@@ -44,15 +44,19 @@ well_made-with_record t change ms kept small made = record {
   where
     one : Member → Member
     one n = if is_thread t n then record n { thread = change n.thread } else n
+
     made_still : (n : Member) → IsMade n → (d : Bool) → IsMade (if d then record n { thread = change n.thread } else n)
     made_still n h true = record { number = subst (λ u. u < 256) (sym (kept n.thread)) h.number; priority = small n.thread h.priority; place = h.place }
     made_still n h false = h
+
     id_kept : (n : Member) (d : Bool) → (if d then record n { thread = change n.thread } else n).thread.id ≡ n.thread.id
     id_kept n true = kept n.thread
     id_kept n false = refl
+
     place_kept : (n : Member) (d : Bool) → (if d then record n { thread = change n.thread } else n).place ≡ n.place
     place_kept n true = refl
     place_kept n false = refl
+
     order_kept : (n : Member) (d : Bool) → (if d then record n { thread = change n.thread } else n).order ≡ n.order
     order_kept n true = refl
     order_kept n false = refl

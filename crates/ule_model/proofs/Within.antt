@@ -63,16 +63,18 @@ apart_after (b ∷ bs) m after all = apart_after bs m after all.1
 -- without it they are apart still
 pub apart_without : (before : List Member) (m : Member) (after : List Member) → AllApart (before ++ m ∷ after) → AllApart (before ++ after)
 apart_without [] m after all = all.1
-apart_without (b ∷ bs) m after all =
-    (all-append (AreApart b) bs after (all_front (AreApart b) bs (m ∷ after) all.0) (all_back (AreApart b) bs (m ∷ after) all.0).1,
-     apart_without bs m after all.1)
+apart_without (b ∷ bs) m after all = (
+  all-append (AreApart b) bs after (all_front (AreApart b) bs (m ∷ after) all.0) (all_back (AreApart b) bs (m ∷ after) all.0).1,
+  apart_without bs m after all.1,
+)
 
 -- and with another that is apart from them
 pub apart_with : (before : List Member) (m : Member) (after : List Member) → AllApart (before ++ after) → AllByRecursion (AreApart m) before → AllByRecursion (AreApart m) after → AllApart (before ++ m ∷ after)
 apart_with [] m after all front back = (back, all)
-apart_with (b ∷ bs) m after all front back =
-    (all-append (AreApart b) bs (m ∷ after) (all_front (AreApart b) bs after all.0) (apart-sym m b front.0, all_back (AreApart b) bs after all.0),
-     apart_with bs m after all.1 front.1 back)
+apart_with (b ∷ bs) m after all front back = (
+  all-append (AreApart b) bs (m ∷ after) (all_front (AreApart b) bs after all.0) (apart-sym m b front.0, all_back (AreApart b) bs after all.0),
+  apart_with bs m after all.1 front.1 back,
+)
 
 -- ---- one thread within a list
 
@@ -115,6 +117,7 @@ pub record FoundAt {X : Type 0} (p : X → Bool) (x : X) (xs : List X) : Type 0 
   pub passes : p x ≡ true
   pub earlier : AllByRecursion (λ y. p y ≡ false) before
 
+-- the first that passes is found, at its place
 pub found_at : {X : Type 0} (p : X → Bool) (xs : List X) (x : X) → find p xs ≡ Some x → FoundAt p x xs
 found_at p [] x found = absurd (none-some x found)
 found_at p (y ∷ ys) x found = split (p y) refl found (found_at p ys x)
