@@ -9,3 +9,4 @@ pub mod Rising
 pub mod ChoiceLaws
 pub mod Positions
 pub mod ChoosingLaws
+pub mod CpuLaws

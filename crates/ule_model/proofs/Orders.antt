@@ -53,6 +53,7 @@ lt_flip a b apart = grind (arith, ints)
 lt_between : (a b c : ℤ) → int_lt a c ≡ true → int_lt b c ≡ false → int_lt a b ≡ true
 lt_between a b c low high = grind (arith, ints)
 
+-- of two orders of which one is less the other is not
 pub lt_not_back : (a b : ℤ) → int_lt a b ≡ true → int_lt b a ≡ false
 lt_not_back a b low = grind (arith, ints)
 
@@ -111,6 +112,7 @@ map-with_ordered g kept m (n ∷ ns) =
     step true rest = refl
     step false rest = ap (λ r. g n ∷ r) rest
 
+-- a list of threads changed alike too
 pub map-by_order : (g : Member → Member) → ((n : Member) → (g n).order ≡ n.order) → (ms : List Member) → by_order (map g ms) ≡ map g (by_order ms)
 unfolding by_order
 map-by_order g kept [] = refl

@@ -49,11 +49,12 @@ find_only p (b ∷ bs) x after front back = let fails : p b ≡ false = front.0 
 
 -- ---- one thread of a well-made list
 
--- the threads among which thread t is m, with t changed
+-- a look-up that a thread fails before and after its change finds what it found
 pub find-changed_kept : (p : Member → Bool) (t : ℕ) (m : Member) (ms : List Member) (w : Within t m ms) (f : Member → Member) → p m ≡ false → p (f m) ≡ false → find p (changed t f ms) ≡ find p ms
 find-changed_kept p t m ms w f old new =
     ap (find p) (changed_within t m ms w f) ∙ find_kept p w.before m (f m) w.after old new ∙ ap (find p) (sym w.whole)
 
+-- a look-up that no other thread passes finds the changed one, if it passes
 pub find-changed_only : (p : Member → Bool) (t : ℕ) (m : Member) (ms : List Member) (w : Within t m ms) (f : Member → Member) → AllByRecursion (λ n. p n ≡ false) w.before → AllByRecursion (λ n. p n ≡ false) w.after → find p (changed t f ms) ≡ (if p (f m) then Some (f m) else None)
 find-changed_only p t m ms w f front back =
     ap (find p) (changed_within t m ms w f) ∙ find_only p w.before (f m) w.after front back
@@ -125,10 +126,11 @@ pub no_other_runs : (c : ℕ) (m : Member) (ns : List Member) → AllByRecursion
 no_other_runs c m ns apart runs =
     all_along (AreApart m) (λ n. runs_on c n.place ≡ false) ns (λ n h. false_from_ne_true (runs_on c n.place) (λ there. h.running c runs there)) apart
 
--- the current thread is within the list, and runs
+-- the current thread is within the list
 pub within_current : (c : ℕ) (ms : List Member) (m : Member) → IsWellMade ms → current_of c ms ≡ Some m → Within m.thread.id m ms
 within_current c ms m made found = within_found (λ n. runs_on c n.place) ms m made found
 
+-- the current thread runs on the CPU
 pub current_runs : (c : ℕ) (ms : List Member) (m : Member) → current_of c ms ≡ Some m → runs_on c m.place ≡ true
 current_runs c ms m found = (found_at (λ n. runs_on c n.place) ms m found).passes
 

@@ -117,6 +117,7 @@ pub record FoundAt {X : Type 0} (p : X → Bool) (x : X) (xs : List X) : Type 0 
   pub passes : p x ≡ true
   pub earlier : AllByRecursion (λ y. p y ≡ false) before
 
+-- the first that passes is found, at its place
 pub found_at : {X : Type 0} (p : X → Bool) (xs : List X) (x : X) → find p xs ≡ Some x → FoundAt p x xs
 found_at p [] x found = absurd (none-some x found)
 found_at p (y ∷ ys) x found = split (p y) refl found (found_at p ys x)
