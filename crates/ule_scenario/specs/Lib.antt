@@ -1,2 +1,3 @@
 pub mod Scenario
 pub mod Cut
+pub mod Sections

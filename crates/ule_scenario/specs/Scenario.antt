@@ -1,6 +1,6 @@
 -- Scenario text: the lines of a setup, each a list of words, and the bytes that spell it.
-use Rattle.std.specs.Prelude.{◌≡◌, ℕ, ◌+◌, ◌≤◌, Bool, true, false, List, [], ◌∷◌, ◌++◌, length, map, take, codes}
-use Rattle.std.specs.List.{flat_map, join_with_byte}
+use Rattle.std.specs.Prelude.{◌≡◌, ℕ, ◌+◌, ◌^◌, ◌<◌, ◌≤◌, ℤ, pos, negsuc, nat_lt, nat_le, Bool, true, false, ◌&&◌, List, [], ◌∷◌, ◌++◌, length, map, take, codes, IsTrue}
+use Rattle.std.specs.List.{flat_map, list_all, join_with_byte}
 use Rattle.std.specs.Fmt.{decimal, signed_decimal}
 use Rattle.ule_types.specs.Form.{IsOfForm}
 use Rattle.ule_types.specs.declared.command.Command.{Command}
@@ -21,7 +21,7 @@ abbrev pub Line : Type 0
 Line = List Word
 
 abbrev pub header_line : Line
-header_line = codes "ule-scenario" ∷ codes "1" ∷ []
+header_line = codes "ule-scenario" ∷ decimal 1 ∷ []
 
 abbrev pub jitter_line : ℕ → Line
 jitter_line n = codes "jitter" ∷ decimal n ∷ []
@@ -67,11 +67,27 @@ lines_of s =
 abbrev pub text : List Line → List ℕ
 text lines = flat_map (λ line. join_with_byte 32 line ++ 10 ∷ []) lines
 
--- the bytes are the text of a setup of the form so far, 1,048,576 of them at most
+-- whether a nice value is one of -20..20
+abbrev pub is_nice : ℤ → Bool
+is_nice (pos n) = nat_le n 20
+is_nice (negsuc n) = nat_lt n 20
+
+-- whether the nice value of a timeshare thread is in range
+abbrev pub has_nice : Form → Bool
+has_nice (Ts n) = is_nice n
+has_nice _ = true
+
+-- whether a thread's number is one of 0..255, and its nice value in range
+abbrev pub is_in_range : ThreadSpec → Bool
+is_in_range spec = nat_lt spec.id 256 && has_nice spec.form
+
+-- the bytes are the text of a setup of the form so far, 1,048,576 of them at most, and its numbers are in range
 pub record Spells (bytes : List ℕ) (s : Setup) : Type 0 where
   pub spelled : bytes ≡ text (lines_of s)
   pub limit : length bytes ≤ 1048576
   pub form : IsOfForm s
+  pub jitter : s.jitter < 2 ^ 32
+  pub threads : IsTrue (list_all is_in_range s.threads)
 
 -- what makes a reader give up: the bytes spell no setup, and no reason is told yet; want of memory is free
 abbrev pub IsCause : List ℕ → ScenarioFault → Type 0

@@ -1,20 +1,31 @@
 //! How bytes are cut: a text into lines, and a line into words.
 
-ghost use Rattle.std.specs.Prelude.{◌≡◌, ◌≢◌, ℕ, ◌<◌, ◌==◌, List, [], ◌∷◌, length, IfSome, IfNone, IsTrue, ◌↔◌};
+ghost use Rattle.std.specs.Prelude.{◌≡◌, ◌≢◌, ℕ, ◌<◌, ◌≤◌, ℤ, ◌==◌, List, [], ◌∷◌, length, position, IfSome, IfNone, IsTrue, ◌↔◌};
 ghost use Rattle.std.specs.List.{slice_split};
-ghost use Rattle.ule_scenario.specs.Scenario.{Word, Line};
+ghost use Rattle.std.specs.Fmt.{decimal, signed_decimal};
+ghost use Rattle.ule_scenario.specs.Scenario.{Word, is_nice};
 ghost use Rattle.ule_scenario.specs.Cut.{words_of, cut};
 
+use crate::number::{nice_value, number};
 use std::marker::Model;
+use ule_prio::Nice;
+
+/// The index of the first separator.
+fn place_of(bytes: &[u8], separator: u8) -> Option<usize>
+    ensures { result ≡ position (λ b. b == separator) bytes.now }
+{
+    bytes.iter().position(|b| *b == separator)
+}
 
 /// The bytes before the first separator, and those after it; none where there is no separator.
+#[tactic(auto, using(crate::proofs::Pieces::split_some, crate::proofs::Pieces::split_none))]
 fn split_once(bytes: &[u8], separator: u8) -> Option<(&[u8], &[u8])>
     ensures found { IfSome result (λ r. slice_split (λ b. b == separator) bytes.now
         ≡ r.0.now ∷ slice_split (λ b. b == separator) r.1.now) }
     ensures shorter { IfSome result (λ r. length r.1.now < length bytes.now) }
     ensures none { IfNone result (slice_split (λ b. b == separator) bytes.now ≡ bytes.now ∷ []) }
 {
-    let place = bytes.iter().position(|b| *b == separator)?;
+    let place = place_of(bytes, separator)?;
     let (piece, rest) = bytes.split_at(place);
     let (_, rest) = rest.split_at(1);
     Some((piece, rest))
@@ -81,5 +92,27 @@ impl<'a> Words<'a> {
     {
         let (next, words) = self.next()?;
         if next == word { Some(words) } else { None }
+    }
+
+    /// The number that stands next, if it is no greater than this, and the words after it.
+    pub(crate) fn number(&self, greatest: u32) -> Option<(u32, Words<'a>)>
+        ensures found { IfSome result (λ r. self.now ≡ decimal r.0 ∷ r.1) }
+        ensures within { IfSome result (λ r. r.0 ≤ greatest) }
+        ensures none { IfNone result ((n : ℕ) (words : List Word) → n ≤ greatest → self.now ≢ decimal n ∷ words) }
+    {
+        let (next, words) = self.next()?;
+        let n = number(next, greatest)?;
+        Some((n, words))
+    }
+
+    /// The nice value that stands next, and the words after it.
+    pub(crate) fn nice_value(&self) -> Option<(Nice, Words<'a>)>
+        ensures found { IfSome result (λ r. self.now ≡ signed_decimal r.0 ∷ r.1) }
+        ensures within { IfSome result (λ r. IsTrue (is_nice r.0)) }
+        ensures none { IfNone result ((n : ℤ) (words : List Word) → IsTrue (is_nice n) → self.now ≢ signed_decimal n ∷ words) }
+    {
+        let (next, words) = self.next()?;
+        let n = nice_value(next)?;
+        Some((n, words))
     }
 }
