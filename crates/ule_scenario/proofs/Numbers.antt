@@ -63,3 +63,6 @@ not_nice_of_digits word (negsuc n) minus none nice e = minus (ap (λ bytes. get_
 pub zero_is_none : (word : List ℕ) (m : ℕ) → word ≡ decimal 0 → 0 < m → m ≤ 20 → word ≢ decimal m
 zero_is_none word m e some small f =
     omega (arith, decimal_injective 0 m (omega arith) (omega arith) (sym e ∙ f))
+
+pub same_number : (m n : ℕ) → m < 2 ^ 32 → n < 2 ^ 32 → decimal m ≡ decimal n → m ≡ n
+same_number m n fits fits' e = decimal_injective m n (omega arith) (omega arith) e

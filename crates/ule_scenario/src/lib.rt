@@ -4,9 +4,7 @@
 ghost use Rattle.std.specs.Prelude.{◌≤◌, length, IfOk, IfErr};
 ghost use Rattle.ule_scenario.specs.Scenario.{Spells, IsCause};
 
-use crate::cut::next_line;
-use crate::line::{is_end, is_script};
-use crate::section::{REFUSED, read_head, read_script, read_threads};
+use crate::section::{REFUSED, after_script_line, is_last_line, read_head, read_script, read_threads};
 use std::alloc::Global;
 use ule_score::Settings;
 use ule_types::{Groups, ScenarioFault, Setup, Turns, Unborn};
@@ -49,17 +47,11 @@ fn read_within(alloc: Global, bytes: &[u8]) -> Result<Setup, ScenarioFault>
         return Err(REFUSED);
     };
     let (threads, text) = read_threads(alloc, text)?;
-    let Some((line, text)) = next_line(text) else {
+    let Some(text) = after_script_line(text) else {
         return Err(REFUSED);
     };
-    if !is_script(line) {
-        return Err(REFUSED);
-    }
     let (scripts, text) = read_script(alloc, text)?;
-    let Some((line, text)) = next_line(text) else {
-        return Err(REFUSED);
-    };
-    if !is_end(line) || !text.is_empty() {
+    if !is_last_line(text) {
         return Err(REFUSED);
     }
     let Ok(groups) = Groups::empty(alloc) else {

@@ -13,12 +13,6 @@ use crate::cut::Words;
 use ule_prio::{Cpu, ThreadId};
 use ule_types::{Command, Form, ThreadSpec};
 
-pub(crate) fn is_header(line: &[u8]) -> bool
-    ensures { IsTrue result ↔ (words_of line.now ≡ header_line) }
-{
-    number_after(line, b"ule-scenario", 1) == Some(1)
-}
-
 /// The number of a line that has a keyword and a number, if it is no greater than this.
 fn number_after(line: &[u8], keyword: &[u8], greatest: u32) -> Option<u32>
     ensures found { IfSome result (λ n. words_of line.now ≡ keyword.now ∷ decimal n ∷ []) }
@@ -28,6 +22,23 @@ fn number_after(line: &[u8], keyword: &[u8], greatest: u32) -> Option<u32>
     let words = Words::of(line).after(keyword)?;
     let (n, words) = words.number(greatest)?;
     if words.is_end() { Some(n) } else { None }
+}
+
+/// Whether a line has this keyword and this number.
+#[tactic(auto, using(crate::proofs::Numbers::same_number))]
+fn has_number(line: &[u8], keyword: &[u8], number: u32) -> bool
+    ensures { IsTrue result ↔ (words_of line.now ≡ keyword.now ∷ decimal number ∷ []) }
+{
+    match number_after(line, keyword, number) {
+        Some(n) => n == number,
+        None => false,
+    }
+}
+
+pub(crate) fn is_header(line: &[u8]) -> bool
+    ensures { IsTrue result ↔ (words_of line.now ≡ header_line) }
+{
+    has_number(line, b"ule-scenario", 1)
 }
 
 pub(crate) fn jitter_of(line: &[u8]) -> Option<u32>
@@ -41,14 +52,14 @@ pub(crate) fn jitter_of(line: &[u8]) -> Option<u32>
 pub(crate) fn is_cpus(line: &[u8]) -> bool
     ensures { IsTrue result ↔ (words_of line.now ≡ cpus_line 1) }
 {
-    number_after(line, b"cpus", 1) == Some(1)
+    has_number(line, b"cpus", 1)
 }
 
 /// Whether the line begins the script of worker 0.
 pub(crate) fn is_script(line: &[u8]) -> bool
     ensures { IsTrue result ↔ (words_of line.now ≡ script_line 0) }
 {
-    number_after(line, b"script", 0).is_some()
+    has_number(line, b"script", 0)
 }
 
 /// The thread that a line declares: a timeshare thread on CPU 0, bound to none.
