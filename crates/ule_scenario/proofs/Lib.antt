@@ -1,3 +1,6 @@
 pub mod Items
 pub mod Numbers
 pub mod Pieces
+pub mod Runs
+pub mod Rules
+pub mod Text
