@@ -3,4 +3,5 @@ pub mod Numbers
 pub mod Pieces
 pub mod Runs
 pub mod Rules
+pub mod Setups
 pub mod Text

@@ -15,6 +15,9 @@ none_then (Some x) h f = tt
 own : IsNumeralModel (AllDigits 10) (digits_value 10)
 own = numerals_by_value (AllDigits 10) tells_digits
 
+pub decimal_digits : (n : ℕ) → n < 2 ^ 32 → AllDigits 10 (decimal n)
+decimal_digits n fits = digits_decimal own n (omega arith)
+
 -- more digits only add to a value
 pub too_large : (ds : List ℕ) (i n : ℕ) → n < digits_value 10 (take i ds) → n < digits_value 10 ds
 too_large ds i n h = omega (arith, digits_value-take-le 10 ds i (omega arith))

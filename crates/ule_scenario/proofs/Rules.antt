@@ -39,7 +39,7 @@ all_weaker p q each (x ∷ xs) all =
     let parts = and_parts (p x) (list_all p xs) all in
     and_from (q x) (list_all q xs) (each x parts.0) (all_weaker p q each xs parts.1)
 
-yield_is : (c : Command) → is_yield c ≡ true → c ≡ Yield
+pub yield_is : (c : Command) → is_yield c ≡ true → c ≡ Yield
 yield_is Yield e = refl
 yield_is Tick e = absurd (false≢true e)
 yield_is (Time k) e = absurd (false≢true e)

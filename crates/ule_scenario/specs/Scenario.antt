@@ -89,6 +89,17 @@ pub record Spells (bytes : List ℕ) (s : Setup) : Type 0 where
   pub jitter : s.jitter < 2 ^ 32
   pub threads : IsTrue (list_all is_in_range s.threads)
 
+-- two setups with the same fields
+pub record IsSame (s t : Setup) : Type 0 where
+  pub settings : s.settings ≡ t.settings
+  pub jitter : s.jitter ≡ t.jitter
+  pub cpus : s.cpus ≡ t.cpus
+  pub groups : s.groups ≡ t.groups
+  pub threads : s.threads ≡ t.threads
+  pub unborn : s.unborn ≡ t.unborn
+  pub scripts : s.scripts ≡ t.scripts
+  pub turns : s.turns ≡ t.turns
+
 -- what makes a reader give up: the bytes spell no setup, and no reason is told yet; want of memory is free
 abbrev pub IsCause : List ℕ → ScenarioFault → Type 0
 IsCause bytes (Refused line reason detail) = (line ≡ 0) × (reason ≡ 0) × (detail ≡ 0) × ((s : Setup) → ¬ Spells bytes s)

@@ -2,7 +2,8 @@
 #![tactic(auto)]
 
 ghost use Rattle.std.specs.Prelude.{◌≤◌, length, IfOk, IfErr};
-ghost use Rattle.ule_scenario.specs.Scenario.{Spells, IsCause};
+ghost use Rattle.ule_types.specs.declared.setup.Setup.{Setup};
+ghost use Rattle.ule_scenario.specs.Scenario.{Spells, IsSame, IsCause};
 
 use crate::section::{REFUSED, after_script_line, is_last_line, read_head, read_script, read_threads};
 use std::alloc::Global;
@@ -25,10 +26,15 @@ const DEFAULT_SETTINGS: Settings = Settings {
     steal: 2,
 };
 
-/// The setup that the bytes spell. It is refused where they spell none; line, reason and detail
+/// The setup that the bytes spell. They are refused where they spell none; line, reason and detail
 /// of the refusal are 0 while the grammar isn't whole.
+#[tactic(auto, using(crate::proofs::Setups::one_setup))]
 pub fn read(alloc: Global, bytes: &[u8]) -> Result<Setup, ScenarioFault>
+    // What is read is spelled so.
     ensures ok { IfOk result (λ s. Spells bytes.now s) }
+    // The bytes spell no other setup.
+    ensures only { IfOk result (λ s. (t : Setup) → Spells bytes.now t → IsSame s t) }
+    // They are refused only where they spell none.
     ensures refused { IfErr result (λ e. IsCause bytes.now e) }
 {
     if bytes.len() > LIMIT {

@@ -43,6 +43,7 @@ pub(crate) fn is_header(line: &[u8]) -> bool
 
 pub(crate) fn jitter_of(line: &[u8]) -> Option<u32>
     ensures found { IfSome result (λ n. words_of line.now ≡ jitter_line n) }
+    ensures within { IfSome result (λ n. n < 2 ^ 32) }
     ensures none { IfNone result ((n : ℕ) → n < 2 ^ 32 → words_of line.now ≢ jitter_line n) }
 {
     number_after(line, b"jitter", u32::MAX)

@@ -27,6 +27,7 @@ const BUDGET: u32 = 65_536;
 /// follow.
 pub(crate) fn read_head(text: &[u8]) -> Option<(u32, &[u8])>
     ensures found { IfSome result (λ r. cut text.now ≡ head_lines r.0 (cut r.1.now)) }
+    ensures within { IfSome result (λ r. r.0 < 2 ^ 32) }
     ensures shorter { IfSome result (λ r. length r.1.now < length text.now) }
     ensures none { IfNone result ((n : ℕ) (next : Line) (more : List Line) → n < 2 ^ 32
         → cut text.now ≢ head_lines n (next ∷ more)) }
