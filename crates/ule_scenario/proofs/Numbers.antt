@@ -1,6 +1,6 @@
 -- Digits without a leading zero are the decimal text of their value, and no other.
-use Rattle.std.proofs.Common.{◌≡◌, ◌≢◌, ℕ, ◌+◌, ◌-◌, ◌*◌, ◌^◌, ◌<◌, ◌≤◌, Bool, true, false, IsTrue, List, [], ◌∷◌, length, take, drop, get_or, refl, sym, ap, subst, ◌∙◌, arith, ⊎_elim, ℤ, pos, negsuc, suc, Option, Some, None, IfNone}
-use Rattle.std.specs.Char.{digit_value, IsNotAsciiDigit}
+use Rattle.std.proofs.Common.{◌≡◌, ◌≢◌, ℕ, ◌^◌, ◌<◌, ◌≤◌, IsTrue, List, length, take, drop, get_or, sym, ap, ◌∙◌, arith, ⊎_elim, ℤ, pos, negsuc, suc, Option, Some, None, IfNone}
+use Rattle.std.specs.Char.{IsNotAsciiDigit}
 use Rattle.std.specs.Fmt.{decimal, signed_decimal}
 use Rattle.std.specs.Str.Parse.{AllDigits, digits_value}
 use Rattle.std.proofs.lemmas.Bool.{leb-true, ltb-true, cases_eq}

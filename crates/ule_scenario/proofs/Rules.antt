@@ -1,5 +1,5 @@
 -- A setup of the form so far keeps every rule.
-use Rattle.std.proofs.Common.{◌≡◌, ℕ, ◌+◌, ◌<◌, ◌≤◌, ◌==◌, Bool, true, false, ◌&&◌, not, IsTrue, List, [], ◌∷◌, ◌++◌, map, length, sum, replicate, refl, sym, ap, ◌∙◌, arith, ltb, drop}
+use Rattle.std.proofs.Common.{◌≡◌, ℕ, ◌+◌, ◌≤◌, ◌==◌, Bool, true, ◌&&◌, not, List, [], ◌∷◌, ◌++◌, map, length, sum, refl, sym, ap, ◌∙◌, arith, ltb, drop}
 use Rattle.std.specs.Prelude.{nat_le}
 use Rattle.ule_prio.specs.Class.{is_within}
 use Rattle.ule_score.specs.declared.record.Settings.{Settings}
@@ -9,7 +9,7 @@ use Rattle.std.proofs.lemmas.List.{append-nil}
 use Rattle.std.proofs.lemmas.List.Sums.{sum_by-cons}
 use Rattle.ule_types.specs.Form.{default_settings, is_plain, is_timeshare, is_yield}
 use Rattle.ule_types.specs.Commands.{is_among, greatest_of, is_command, forked_by}
-use Rattle.ule_types.specs.Rules.{are_settings, are_turns, is_distinct, is_form, is_spec, declared_ids, budget_from, are_scripts, keeps_rules}
+use Rattle.ule_types.specs.Rules.{are_settings, are_turns, is_distinct, is_form, is_spec, declared_ids, are_scripts, keeps_rules}
 use Rattle.ule_types.specs.declared.command.Command.{Command}
 use Rattle.ule_types.specs.declared.command.Command.TheVariants.{Tick, Time, Yield, Resched, Sleep, Wake, Lend, Unlend, Renice, Fork, Exit, Idle, Balance, Look}
 use Rattle.ule_types.specs.declared.setup.Form.{Form}

@@ -1,5 +1,5 @@
 -- Runs of lines of one kind, one line more or compared with another run.
-use Rattle.std.proofs.Common.{◌≡◌, ◌≢◌, ℕ, ◌+◌, ◌<◌, ◌≤◌, ◌==◌, Bool, true, false, ◌&&◌, ◌||◌, not, IsTrue, List, [], ◌∷◌, ◌++◌, map, length, refl, sym, ap, ◌∙◌, arith, ⊎_elim}
+use Rattle.std.proofs.Common.{◌≡◌, ◌≢◌, ℕ, ◌==◌, Bool, true, false, ◌&&◌, ◌||◌, not, IsTrue, List, [], ◌∷◌, ◌++◌, map, refl, sym, ap, ◌∙◌, arith, ⊎_elim}
 use Rattle.std.specs.List.{list_all, list_any}
 use Rattle.std.proofs.lemmas.Bool.{and_from, and_parts, and_left, and_right, or_cases, not-true, true≢false, false≢true}
 use Rattle.std.proofs.lemmas.Bool.Decides.{nat_tests}
@@ -14,9 +14,9 @@ use Rattle.ule_scenario.specs.Sections.{Begins, Stops, ids_of, is_thread, Repeat
 -- one item more
 pub begins_more : {A : Type 0} (p : A → Bool) (f : A → Line) (lines : List Line) (items : List A) (x : A) (rest after : List Line) → Begins p f lines items rest → rest ≡ f x ∷ after → IsTrue (p x) → Begins p f lines (items ++ x ∷ []) after
 begins_more p f lines items x rest after begins e good = record {
-    front = begins.front ∙ ap (λ r. map f items ++ r) e ∙ sym (ap (λ front. front ++ after) (map-append f items (x ∷ [])) ∙ append_assoc (map f items) (f x ∷ []) after);
-    each = list_all-append p items (x ∷ []) ∙ and_from (list_all p items) (p x && true) begins.each (and_from (p x) true good refl);
-  }
+  front = begins.front ∙ ap (λ r. map f items ++ r) e ∙ sym (ap (λ front. front ++ after) (map-append f items (x ∷ [])) ∙ append_assoc (map f items) (f x ∷ []) after);
+  each = list_all-append p items (x ∷ []) ∙ and_from (list_all p items) (p x && true) begins.each (and_from (p x) true good refl);
+}
 
 or_false : (b : Bool) → (b || false) ≡ b
 or_false true = refl
@@ -72,9 +72,12 @@ distinct_more threads spec all none =
 
 -- one thread more, of a number that is there
 pub repeats_more : (lines : List Line) (threads : List ThreadSpec) (spec : ThreadSpec) (rest after : List Line) → Begins is_thread thread_line lines threads rest → rest ≡ thread_line spec ∷ after → IsTrue (is_thread spec) → list_any (λ other. other.id == spec.id) threads ≡ true → RepeatsThread lines
-repeats_more lines threads spec rest after begins e good some =
-    (threads ++ spec ∷ [], after, begins_more is_thread thread_line lines threads spec rest after begins e good,
-    ap is_distinct (map_push (λ (s : ThreadSpec). s.id) threads spec) ∙ repeated_push (ids_of threads) spec.id (sym (any_is_among threads spec.id) ∙ some))
+repeats_more lines threads spec rest after begins e good some = (
+  threads ++ spec ∷ [],
+  after,
+  begins_more is_thread thread_line lines threads spec rest after begins e good,
+  ap is_distinct (map_push (λ (s : ThreadSpec). s.id) threads spec) ∙ repeated_push (ids_of threads) spec.id (sym (any_is_among threads spec.id) ∙ some),
+)
 
 pub front_distinct : (threads more : List ThreadSpec) → is_distinct (ids_of (threads ++ more)) ≡ true → is_distinct (ids_of threads) ≡ true
 front_distinct threads more all =

@@ -1,15 +1,14 @@
 -- The lines of a setup that a text spells, and that no text spells two.
-use Rattle.std.proofs.Common.{◌≡◌, ◌≢◌, ℕ, ◌+◌, ◌^◌, ◌<◌, ◌≤◌, ◌==◌, Bool, true, false, ◌&&◌, not, IsTrue, List, [], ◌∷◌, ◌++◌, map, length, take, replicate, refl, sym, ap, subst, ◌∙◌, arith, ℤ, pos, negsuc, suc, ltb, eqb, get_or}
+use Rattle.std.proofs.Common.{◌≡◌, ◌≢◌, ℕ, ◌^◌, ◌<◌, ◌≤◌, ◌==◌, Bool, true, false, ◌&&◌, IsTrue, List, [], ◌∷◌, ◌++◌, map, length, take, refl, sym, ap, subst, ◌∙◌, arith, ℤ, pos, negsuc, suc, ltb, get_or}
 use Rattle.std.specs.Prelude.{codes}
 use Rattle.std.specs.List.{list_all}
 use Rattle.std.specs.Fmt.{decimal, signed_decimal}
 use Rattle.std.specs.Str.Parse.{AllDigits}
-use Rattle.std.specs.Char.{digit_value}
 use Rattle.std.proofs.lemmas.Bool.{and_from, and_parts, eqb-true, ne_eqb, leb-true, ltb-true, false≢true}
 use Rattle.std.proofs.lemmas.Fmt.{signed_decimal_injective}
 use Rattle.std.proofs.lemmas.List.{append_assoc, append-nil, nil_from_length, length-append}
 use Rattle.std.proofs.lemmas.Str.Parse.{digit_from_value}
-use Rattle.ule_types.specs.Form.{default_settings, is_plain, is_yield, IsOfForm}
+use Rattle.ule_types.specs.Form.{default_settings, is_plain, is_yield}
 use Rattle.ule_types.specs.Rules.{is_distinct, is_spec, is_form, keeps_rules}
 use Rattle.ule_types.specs.declared.command.Command.{Command}
 use Rattle.ule_types.specs.declared.fault.ScenarioFault.{ScenarioFault}
@@ -23,12 +22,12 @@ use Rattle.ule_types.specs.declared.command.Command.TheVariants.{Yield}
 use Rattle.std.specs.Int.Signed.{mag}
 use Rattle.ule_scenario.specs.Scenario.{Word, Line, header_line, jitter_line, cpus_line, thread_line, script_line, script_lines, command_line, end_line, lines_of, text, is_nice, is_in_range, Spells, IsSame, IsCause}
 use Rattle.ule_scenario.specs.Cut.{cut}
-use Rattle.ule_scenario.specs.Sections.{head_lines, is_thread, Stops, Begins, ids_of, TakesThreads, RepeatsThread, TakesScript, PassesBudget, RefusedOnlyIf, one_script}
-use Rattle.ule_scenario.proofs.Items.{thread_words, IsThreadLine}
+use Rattle.ule_scenario.specs.Sections.{head_lines, is_thread, ids_of, TakesThreads, RepeatsThread, TakesScript, PassesBudget, RefusedOnlyIf, one_script}
+use Rattle.ule_scenario.proofs.Items.{thread_words}
 use Rattle.ule_scenario.proofs.Numbers.{decimal_digits, same_number}
-use Rattle.ule_scenario.proofs.Rules.{all_weaker, yield_is, rules_of_form, parts_of_rules, KeptRules}
+use Rattle.ule_scenario.proofs.Rules.{all_weaker, yield_is, rules_of_form, parts_of_rules}
 use Rattle.ule_scenario.proofs.Runs.{longer, exact, cons_of, front_distinct}
-use Rattle.ule_scenario.proofs.Text.{is_clean_byte, CleanWords, CleanLine, CleanLines, last_piece, cut-text, text_from_cut}
+use Rattle.ule_scenario.proofs.Text.{is_clean_byte, CleanLine, CleanLines, last_piece, cut-text, text_from_cut}
 
 -- the lines from those of the threads, and from those of the commands
 abbrev pub after_head : List ThreadSpec → List Command → List Line → List Line
@@ -249,9 +248,10 @@ spelled bytes jitter rest threads after commands script over e takes begins scri
 
 -- threads and commands that were read are of the form and in range
 pub plain_threads : (threads : List ThreadSpec) → list_all is_thread threads ≡ true → (list_all is_plain threads ≡ true) × (list_all is_in_range threads ≡ true)
-plain_threads threads all =
-    (all_weaker is_thread is_plain (λ spec good. (and_parts (is_plain spec) (is_in_range spec) (and_parts (is_plain spec && is_in_range spec) (ltb spec.cpu 1) good).0).0) threads all,
-    all_weaker is_thread is_in_range (λ spec good. (and_parts (is_plain spec) (is_in_range spec) (and_parts (is_plain spec && is_in_range spec) (ltb spec.cpu 1) good).0).1) threads all)
+plain_threads threads all = (
+  all_weaker is_thread is_plain (λ spec good. (and_parts (is_plain spec) (is_in_range spec) (and_parts (is_plain spec && is_in_range spec) (ltb spec.cpu 1) good).0).0) threads all,
+  all_weaker is_thread is_in_range (λ spec good. (and_parts (is_plain spec) (is_in_range spec) (and_parts (is_plain spec && is_in_range spec) (ltb spec.cpu 1) good).0).1) threads all,
+)
 
 -- no text spells two setups
 pub one_setup : (bytes : List ℕ) (s t : Setup) → Spells bytes s → Spells bytes t → IsSame s t

@@ -1,6 +1,6 @@
 -- The text of lines is cut into these lines.
-use Rattle.std.proofs.Common.{◌≡◌, ◌≢◌, ℕ, ◌+◌, ◌<◌, ◌≤◌, ◌==◌, Bool, true, false, ◌&&◌, ◌||◌, not, IsTrue, List, [], ◌∷◌, ◌++◌, map, length, get_or, refl, sym, ap, ◌∙◌, arith, eqb}
-use Rattle.std.specs.List.{list_all, slice_split, join_with_byte, flat_map, All, AllByRecursion}
+use Rattle.std.proofs.Common.{◌≡◌, ℕ, ◌==◌, Bool, true, false, ◌&&◌, not, IsTrue, List, [], ◌∷◌, ◌++◌, map, length, refl, sym, ap, ◌∙◌}
+use Rattle.std.specs.List.{list_all, slice_split, join_with_byte, All, AllByRecursion}
 use Rattle.std.proofs.lemmas.Bool.{and_parts, not-true, eqb-true, eq-eqb}
 use Rattle.std.proofs.lemmas.List.{append_assoc, append-nil, nil_from_length}
 use Rattle.std.proofs.lemmas.List.Elements.{All-from_recursion, All-append}
@@ -93,6 +93,7 @@ empty_from_cut bytes e = text_from_cut bytes [] e
 
 -- whether the last line stands first, and nothing after it
 pub last_line : (bytes rest : List ℕ) (line : Line) (empty : Bool) → cut bytes ≡ line ∷ cut rest → line ≡ end_line → empty ≡ (length rest == 0) → (IsTrue empty → cut bytes ≡ end_line ∷ last_piece) × (cut bytes ≡ end_line ∷ last_piece → IsTrue empty)
-last_line bytes rest line empty e is_end is_empty =
-    (λ h. let none : rest ≡ [] = nil_from_length rest (eqb-true (length rest) 0 (sym is_empty ∙ h)) in e ∙ rw (is_end, none) refl,
-    λ over. let last : cut rest ≡ last_piece = cc in is_empty ∙ eq-eqb (length rest) 0 (ap length (empty_from_cut rest last)))
+last_line bytes rest line empty e is_end is_empty = (
+  λ h. let none : rest ≡ [] = nil_from_length rest (eqb-true (length rest) 0 (sym is_empty ∙ h)) in e ∙ rw (is_end, none) refl,
+  λ over. let last : cut rest ≡ last_piece = cc in is_empty ∙ eq-eqb (length rest) 0 (ap length (empty_from_cut rest last)),
+)

@@ -1,5 +1,5 @@
 -- What the reader of each section finds in the lines.
-use Rattle.std.specs.Prelude.{◌≡◌, ◌≢◌, ℕ, ◌^◌, ◌<◌, ◌≤◌, nat_lt, Bool, false, ◌&&◌, List, [], ◌∷◌, ◌++◌, length, map, replicate, IsTrue}
+use Rattle.std.specs.Prelude.{◌≡◌, ◌≢◌, ℕ, ◌<◌, ◌≤◌, nat_lt, Bool, false, ◌&&◌, List, [], ◌∷◌, ◌++◌, length, map, replicate, IsTrue}
 use Rattle.std.specs.List.{list_all}
 use Rattle.ule_types.specs.Form.{is_plain, is_yield}
 use Rattle.ule_types.specs.Rules.{is_distinct}
@@ -7,7 +7,7 @@ use Rattle.ule_types.specs.declared.command.Command.{Command}
 use Rattle.ule_types.specs.declared.fault.ScenarioFault.{ScenarioFault}
 use Rattle.ule_types.specs.declared.fault.ScenarioFault.TheVariants.{Refused, Memory}
 use Rattle.ule_types.specs.declared.setup.ThreadSpec.{ThreadSpec}
-use Rattle.ule_scenario.specs.Scenario.{Line, header_line, jitter_line, cpus_line, thread_line, script_line, command_line, is_in_range}
+use Rattle.ule_scenario.specs.Scenario.{Line, header_line, jitter_line, cpus_line, thread_line, command_line, is_in_range}
 
 -- whether a line can declare a thread so far: a plain one, on CPU 0, its numbers in range
 abbrev pub is_thread : ThreadSpec → Bool

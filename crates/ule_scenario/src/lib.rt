@@ -5,7 +5,9 @@ ghost use Rattle.std.specs.Prelude.{◌≤◌, length, IfOk, IfErr};
 ghost use Rattle.ule_types.specs.declared.setup.Setup.{Setup};
 ghost use Rattle.ule_scenario.specs.Scenario.{Spells, IsSame, IsCause};
 
-use crate::section::{REFUSED, after_script_line, is_last_line, read_head, read_script, read_threads};
+use crate::section::{
+    REFUSED, after_script_line, is_last_line, read_head, read_script, read_threads,
+};
 use std::alloc::Global;
 use ule_score::Settings;
 use ule_types::{Groups, ScenarioFault, Setup, Turns, Unborn};
@@ -80,3 +82,6 @@ fn read_within(alloc: Global, bytes: &[u8]) -> Result<Setup, ScenarioFault>
         turns,
     })
 }
+
+#[cfg(test)]
+mod tests;

@@ -7,11 +7,7 @@ ghost use Rattle.ule_scenario.specs.Scenario.{is_nice};
 
 use ule_prio::Nice;
 
-#[tactic(auto, using(
-    crate::proofs::Numbers::too_large,
-    std::proofs::lemmas::Int::Digits::digits_more,
-    std::proofs::lemmas::Int::Digits::digits_value_more
-))]
+#[tactic(auto, using(crate::proofs::Numbers::too_large, std::proofs::lemmas::Int::Digits::digits_more, std::proofs::lemmas::Int::Digits::digits_value_more))]
 /// The value of digits, which may begin with zeros, if it is no greater than this.
 fn value_of(word: &[u8], greatest: u32) -> Option<u32>
     ensures found { IfSome result (λ n. AllDigits 10 word.now × (n ≡ digits_value 10 word.now) × (n ≤ greatest)) }

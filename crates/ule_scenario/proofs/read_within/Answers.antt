@@ -33,8 +33,8 @@ returns-then-not-is_last_line-clause-refused c =
 
 pub invariant_of-result : goal.invariant_of-result
 invariant_of-result c = record {
-    rules = found_rules _ c.in_ok-threads.threads _ _ _ _ _ _ _ _ c.in-Ok.ensures c.in-Ok-empty.ensures c.in-Ok-empty-2.ensures c.in_ok-scripts.ensures.alone c.in_ok-threads.ensures.ok c.in_ok-scripts.ensures.ok;
-  }
+  rules = found_rules _ c.in_ok-threads.threads _ _ _ _ _ _ _ _ c.in-Ok.ensures c.in-Ok-empty.ensures c.in-Ok-empty-2.ensures c.in_ok-scripts.ensures.alone c.in_ok-threads.ensures.ok c.in_ok-scripts.ensures.ok;
+}
 
 pub returns-clause-ok : goal.returns-clause-ok
 returns-clause-ok c =
