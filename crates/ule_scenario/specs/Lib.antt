@@ -1,0 +1,3 @@
+pub mod Scenario
+pub mod Cut
+pub mod Sections

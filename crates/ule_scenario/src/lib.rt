@@ -1,2 +1,87 @@
-//! TODO
+//! The reader of a scenario: from the bytes of a scenario to the setup that they spell.
 #![tactic(auto)]
+
+ghost use Rattle.std.specs.Prelude.{◌≤◌, length, IfOk, IfErr};
+ghost use Rattle.ule_types.specs.declared.setup.Setup.{Setup};
+ghost use Rattle.ule_scenario.specs.Scenario.{Spells, IsSame, IsCause};
+
+use crate::section::{
+    REFUSED, after_script_line, is_last_line, read_head, read_script, read_threads,
+};
+use std::alloc::Global;
+use ule_score::Settings;
+use ule_types::{Groups, ScenarioFault, Setup, Turns, Unborn};
+
+mod cut;
+mod line;
+mod number;
+mod section;
+
+/// The most bytes that a scenario may have.
+const LIMIT: usize = 1_048_576;
+
+/// The settings of a scenario that sets none.
+const DEFAULT_SETTINGS: Settings = Settings {
+    interact: 30,
+    slice: 12,
+    preempt: 80,
+    steal: 2,
+};
+
+/// The setup that the bytes spell. They are refused where they spell none; line, reason and detail
+/// of the refusal are 0 while the grammar isn't whole.
+#[tactic(auto, using(crate::proofs::Setups::one_setup))]
+pub fn read(alloc: Global, bytes: &[u8]) -> Result<Setup, ScenarioFault>
+    // What is read is spelled so.
+    ensures ok { IfOk result (λ s. Spells bytes.now s) }
+    // The bytes spell no other setup.
+    ensures only { IfOk result (λ s. (t : Setup) → Spells bytes.now t → IsSame s t) }
+    // They are refused only where they spell none.
+    ensures refused { IfErr result (λ e. IsCause bytes.now e) }
+{
+    if bytes.len() > LIMIT {
+        return Err(REFUSED);
+    }
+    read_within(alloc, bytes)
+}
+
+/// Reads a scenario that isn't too long.
+fn read_within(alloc: Global, bytes: &[u8]) -> Result<Setup, ScenarioFault>
+    requires { length bytes.now ≤ 1048576 }
+    ensures ok { IfOk result (λ s. Spells bytes.now s) }
+    ensures refused { IfErr result (λ e. IsCause bytes.now e) }
+{
+    let Some((jitter, text)) = read_head(bytes) else {
+        return Err(REFUSED);
+    };
+    let (threads, text) = read_threads(alloc, text)?;
+    let Some(text) = after_script_line(text) else {
+        return Err(REFUSED);
+    };
+    let (scripts, text) = read_script(alloc, text)?;
+    if !is_last_line(text) {
+        return Err(REFUSED);
+    }
+    let Ok(groups) = Groups::empty(alloc) else {
+        return Err(ScenarioFault::Memory);
+    };
+    let Ok(unborn) = Unborn::empty(alloc) else {
+        return Err(ScenarioFault::Memory);
+    };
+    let Ok(turns) = Turns::empty(alloc) else {
+        return Err(ScenarioFault::Memory);
+    };
+    Ok(Setup {
+        settings: DEFAULT_SETTINGS,
+        jitter,
+        cpus: 1,
+        groups,
+        threads,
+        unborn,
+        scripts,
+        turns,
+    })
+}
+
+#[cfg(test)]
+mod tests;

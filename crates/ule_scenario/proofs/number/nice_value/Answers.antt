@@ -1,0 +1,14 @@
+use Rattle.std.proofs.Common.{refl, sym, ◌∙◌}
+use Rattle.ule_scenario.proofs.Numbers.{not_nice_of_minus, zero_is_none}
+use Rattle.ule_scenario.proofs.number.nice_value.Goals as goal
+
+pub returns-in_err-size-clause-none : goal.returns-in_err-size-clause-none
+returns-in_err-size-clause-none c =
+    rw c.from_residual.ensures (λ n. not_nice_of_minus c.args.word.now n (c.if-is_negative.ensures.0 refl)
+    (λ m within some e. c.in_err-size.ensures.none m within (c.split_at.ensures.back ∙ e)))
+
+pub returns-then-size-eq0-clause-none : goal.returns-then-size-eq0-clause-none
+returns-then-size-eq0-clause-none c =
+    let zero_is = rw c.if-size-eq0.true at c.in_ok-size.ensures.found in
+    λ n. not_nice_of_minus c.args.word.now n (c.if-is_negative.ensures.0 refl)
+    (λ m within some. zero_is_none _ m (sym c.split_at.ensures.back ∙ zero_is) some within)
