@@ -1,0 +1,3 @@
+pub mod Counter
+pub mod Source
+pub mod Sink
