@@ -1,12 +1,11 @@
 -- How writes compose: what is told goes on telling, and pieces written one after another are one text.
-use Rattle.std.proofs.Common.{◌≡◌, ◌≢◌, ℕ, ◌<◌, List, [], ◌++◌, take, drop, Option, Some, None, Result, Ok, Err, OnOk, refl, sym, ap, ◌∙◌, subst, append_assoc}
-use Rattle.std.specs.Prelude.{is_some}
-use Rattle.std.proofs.lemmas.List.{append-nil, take-append-drop}
-use Rattle.std.proofs.lemmas.Result.{on_ok_weaker}
-use Rattle.ule_io.specs.Counter.{Rose}
-use Rattle.ule_io.specs.Sink.{SinkState, with_back, Appends, Takes, WriteFails, WroteWhole}
+use Rattle.std.proofs.Common.{◌≡◌, ℕ, ◌+◌, ◌<◌, List, [], ◌++◌, length, get_or, take, Option, Some, None, Result, Ok, Err, refl, sym, ap, ◌∙◌, append_assoc, arith}
+use Rattle.std.specs.List.{flat_map}
+use Rattle.std.proofs.lemmas.List.{append-nil, nil_from_length, take_more, take-append-drop}
+use Rattle.std.proofs.lemmas.List.Concat.{flat_map-append}
+use Rattle.ule_io.specs.Sink.{SinkState, with_back, Appends, AppendsFront, WriteFails, WroteWhole}
 use Rattle.ule_io.specs.declared.writing.WriteFault.{WriteFault}
-use Rattle.ule_io.specs.declared.writing.WriteFault.TheVariants.{Failed, TookNothing}
+use Rattle.ule_io.specs.declared.writing.WriteFault.TheVariants.{Failed}
 
 pub with_back-nil : (taken : Option (List ℕ)) → with_back taken [] ≡ taken
 with_back-nil None = refl
@@ -16,85 +15,50 @@ pub with_back-append : (taken : Option (List ℕ)) (a b : List ℕ) → with_bac
 with_back-append None a b = refl
 with_back-append (Some bytes) a b = ap (λ xs. Some xs) (append_assoc bytes a b)
 
-pub is_some-with_back : (taken : Option (List ℕ)) (a : List ℕ) → is_some (with_back taken a) ≡ is_some taken
-is_some-with_back None a = refl
-is_some-with_back (Some bytes) a = refl
+-- what is written whole is written to its front
+pub AppendsFront-whole : (old new : Option (List ℕ)) (text : List ℕ) → Appends old new text → AppendsFront old new text
+unfolding AppendsFront
+AppendsFront-whole old new text e = (text, [], sym (append-nil text), e)
 
--- a front of the text was written and the rest is still to come
-pub record WroteFront (old new : SinkState) (text rest : List ℕ) : Type 0 where
-  pub front : List ℕ
-  pub parts : text ≡ front ++ rest
-  pub taken : Appends old.taken new.taken front
-  pub faults : new.faults ≡ old.faults
-  pub empty_takes : new.empty_takes ≡ old.empty_takes
+-- a front of a text is a front of a longer text
+pub AppendsFront-longer : (old new : Option (List ℕ)) (text more : List ℕ) → AppendsFront old new text → AppendsFront old new (text ++ more)
+unfolding AppendsFront
+AppendsFront-longer old new text more f = (f.0, f.1 ++ more, ap (λ xs. xs ++ more) f.2 ∙ append_assoc f.0 f.1 more, f.3)
 
--- one more write that took something
-pub goes_on : {old mid new : SinkState} {text rest : List ℕ} (n : ℕ) → WroteFront old mid text rest → Takes mid new rest n → 0 < n → WroteFront old new text (drop n rest)
-goes_on {old} {mid} {new} {text} {rest} n w t some = record {
-  front = w.front ++ take n rest;
-  parts = w.parts ∙ (ap (λ xs. w.front ++ xs) (sym (take-append-drop n rest)) ∙ sym (append_assoc w.front (take n rest) (drop n rest)));
-  taken = t.taken ∙ (ap (λ known. with_back known (take n rest)) w.taken ∙ with_back-append old.taken w.front (take n rest));
-  faults = t.faults ∙ w.faults;
-  empty_takes = t.else_took some ∙ w.empty_takes;
-}
+-- a whole text and then a front of another are a front of both
+pub AppendsFront-after : (old mid new : Option (List ℕ)) (text more : List ℕ) → Appends old mid text → AppendsFront mid new more → AppendsFront old new (text ++ more)
+unfolding AppendsFront
+AppendsFront-after old mid new text more e f = (
+  text ++ f.0,
+  f.1,
+  ap (λ xs. text ++ xs) f.2 ∙ sym (append_assoc text f.0 f.1),
+  f.3 ∙ (ap (λ known. with_back known f.0) e ∙ with_back-append old text f.0),
+)
 
--- an empty text is written by doing nothing
-pub wrote_nothing : (s : SinkState) → WroteWhole s s [] (Ok tt)
-wrote_nothing s = record {
-  whole = sym (with_back-nil s.taken);
-  front = ([], [], refl, sym (with_back-nil s.taken));
-  failed = λ e. cc;
-  else_kept = λ _. refl;
-  took_nothing = λ e. cc;
-  else_took = λ _. refl;
-  told = refl;
-}
+-- for `grind`, where texts are written one after another
+pub ruleset writes = (append_assoc, append-nil, nil_from_length, with_back-nil, with_back-append, AppendsFront-whole, AppendsFront-longer, AppendsFront-after)
 
 -- a text and then another are one text
-pub wrote_both : {old mid new : SinkState} {a b : List ℕ} {result : Result Unit WriteFault} → WroteWhole old mid a (Ok tt) → WroteWhole mid new b result → WroteWhole old new (a ++ b) result
-wrote_both {old} {mid} {new} {a} {b} {result} first second = record {
-  whole = on_ok_weaker result (λ e. e ∙ (ap (λ known. with_back known b) first.whole ∙ with_back-append old.taken a b)) second.whole;
-  front = (
-    a ++ second.front.0,
-    second.front.1,
-    ap (λ xs. a ++ xs) second.front.2 ∙ sym (append_assoc a second.front.0 second.front.1),
-    second.front.3 ∙ (ap (λ known. with_back known second.front.0) first.whole ∙ with_back-append old.taken a second.front.0),
-  );
-  failed = λ e. subst (λ n. Rose n new.faults) (first.else_kept (λ h. cc)) (second.failed e);
-  else_kept = λ ne. second.else_kept ne ∙ first.else_kept (λ h. cc);
-  took_nothing = λ e. subst (λ n. Rose n new.empty_takes) (first.else_took (λ h. cc)) (second.took_nothing e);
-  else_took = λ ne. second.else_took ne ∙ first.else_took (λ h. cc);
-  told = second.told ∙ first.told;
-}
+pub wrote_both : (old mid new : SinkState) (a b : List ℕ) (result : Result Unit WriteFault) → WroteWhole old mid a (Ok tt) → WroteWhole mid new b result → WroteWhole old new (a ++ b) result
+wrote_both old mid new a b result first second = grind (arith, writes)
 
 -- a fault in a text leaves what was to follow it unwritten
-pub wrote_front : {old new : SinkState} {a : List ℕ} {fault : WriteFault} (b : List ℕ) → WroteWhole old new a (Err fault) → WroteWhole old new (a ++ b) (Err fault)
-wrote_front {old} {new} {a} {fault} b first = record {
-  whole = tt;
-  front = (
-    first.front.0,
-    first.front.1 ++ b,
-    ap (λ xs. xs ++ b) first.front.2 ∙ append_assoc first.front.0 first.front.1 b,
-    first.front.3,
-  );
-  failed = first.failed;
-  else_kept = first.else_kept;
-  took_nothing = first.took_nothing;
-  else_took = first.else_took;
-  told = first.told;
-}
+pub wrote_front : (old new : SinkState) (a b : List ℕ) (fault : WriteFault) → WroteWhole old new a (Err fault) → WroteWhole old new (a ++ b) (Err fault)
+wrote_front old new a b fault first = grind (arith, writes)
 
 -- a flush behind a whole text, done or failed
-pub flushed : {old mid new : SinkState} {text : List ℕ} → WroteWhole old mid text (Ok tt) → new ≡ mid → WroteWhole old new text (Ok tt)
-flushed {old} {mid} {new} {text} written same = subst (λ s. WroteWhole old s text (Ok tt)) (sym same) written
+pub wrote_flushed : (old mid new : SinkState) (text : List ℕ) → WroteWhole old mid text (Ok tt) → new ≡ mid → WroteWhole old new text (Ok tt)
+wrote_flushed old mid new text whole same = grind (arith, writes)
 
-pub flush_failed : {old mid new : SinkState} {text : List ℕ} → WroteWhole old mid text (Ok tt) → WriteFails mid new → WroteWhole old new text (Err Failed)
-flush_failed {old} {mid} {new} {text} written f = record {
-  whole = tt;
-  front = (text, [], sym (append-nil text), f.taken ∙ written.whole);
-  failed = λ _. subst (λ n. Rose n new.faults) (written.else_kept (λ h. cc)) f.rose;
-  else_kept = λ ne. absurd (ne refl);
-  took_nothing = λ e. cc;
-  else_took = λ _. f.empty_takes ∙ written.else_took (λ h. cc);
-  told = ap is_some f.taken ∙ written.told;
-}
+pub flush_failed : (old mid new : SinkState) (text : List ℕ) → WroteWhole old mid text (Ok tt) → WriteFails mid new → WroteWhole old new text (Err Failed)
+flush_failed old mid new text whole failed = grind (arith, writes)
+
+-- the texts of a list, one after another: one more of them
+pub wrote_next : {X : Type 0} (f : X → List ℕ) (xs : List X) (i : ℕ) (d : X) (old mid new : SinkState) (result : Result Unit WriteFault) → i < length xs → WroteWhole old mid (flat_map f (take i xs)) (Ok tt) → WroteWhole mid new (f (get_or xs i d)) result → WroteWhole old new (flat_map f (take (i + 1) xs)) result
+wrote_next f xs i d old mid new result lt first second =
+    rw (take_more xs i d lt) (rw flat_map-append (rw append-nil (wrote_both old mid new _ _ result first second)))
+
+-- and a fault in one of them
+pub wrote_part : {X : Type 0} (f : X → List ℕ) (xs : List X) (i : ℕ) (old new : SinkState) (fault : WriteFault) → WroteWhole old new (flat_map f (take i xs)) (Err fault) → WroteWhole old new (flat_map f xs) (Err fault)
+wrote_part f xs i old new fault first =
+    rw (← take-append-drop i xs) (rw flat_map-append (wrote_front old new _ _ fault first))

@@ -19,6 +19,10 @@ with_back (Some bytes) piece = Some (bytes ++ piece)
 abbrev pub Appends : Option (List ℕ) → Option (List ℕ) → List ℕ → Type 0
 Appends old new piece = new ≡ with_back old piece
 
+-- some front of the text stands behind what was taken
+unfoldable pub AppendsFront : Option (List ℕ) → Option (List ℕ) → List ℕ → Type 0
+AppendsFront old new text = (front : List ℕ) × (rest : List ℕ) × (text ≡ front ++ rest) × Appends old new front
+
 -- a write that took the first n bytes of a piece
 pub record Takes (old new : SinkState) (piece : List ℕ) (n : ℕ) : Type 0 where
   pub within : n ≤ length piece
@@ -37,7 +41,7 @@ pub record WriteFails (old new : SinkState) : Type 0 where
 -- writing a whole text, or a front of it
 pub record WroteWhole (old new : SinkState) (text : List ℕ) (result : Result Unit WriteFault) : Type 0 where
   pub whole : OnOk result (Appends old.taken new.taken text)
-  pub front : (front : List ℕ) × (rest : List ℕ) × (text ≡ front ++ rest) × Appends old.taken new.taken front
+  pub front : AppendsFront old.taken new.taken text
   pub failed : result ≡ Err Failed → Rose old.faults new.faults
   pub else_kept : result ≢ Err Failed → new.faults ≡ old.faults
   pub took_nothing : result ≡ Err TookNothing → Rose old.empty_takes new.empty_takes

@@ -16,6 +16,7 @@ pub enum WriteFault {
 }
 
 /// Writes `piece` whole. After a fault a front of it was taken.
+#[tactic(auto, using(crate::proofs::Written::writes))]
 pub fn write_all<K: Sink>(out: &mut K, piece: &[u8]) -> Result<(), WriteFault>
     ensures { WroteWhole (K.state out.old) (K.state out.new) piece.now result }
 {

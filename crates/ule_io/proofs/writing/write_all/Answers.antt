@@ -1,7 +1,19 @@
-use Rattle.std.proofs.Common.{List, ℕ, subst, sym, arith, drop}
-use Rattle.ule_io.proofs.Written.{WroteFront, goes_on}
+use Rattle.std.proofs.Common.{◌++◌, take, arith}
+use Rattle.std.proofs.lemmas.Grind.{common_steps}
+use Rattle.ule_io.proofs.Written.{writes}
 use Rattle.ule_io.proofs.writing.write_all.Goals as goal
 
 pub loop-rest-preserved : goal.loop-rest-preserved
 loop-rest-preserved g c =
-    rw c.split_at.ensures.back (goes_on c.in-Ok.n c.loop-rest.invariant c.in-Ok.ensures.ok (omega arith))
+    let rest = c.loop-rest.rest.now in
+    let took = c.in-Ok.ensures.ok in
+    record {
+      front = c.loop-rest.invariant.front ++ take c.in-Ok.n rest;
+      parts = grind (arith, common_steps);
+      taken = grind (arith, writes);
+      faults = grind arith;
+      empty_takes = grind arith;
+    }
+
+pub returns : goal.returns
+returns g c = grind (arith, writes)
