@@ -2,12 +2,15 @@
 //! over the standard streams, and the two calls that read all and write all.
 #![tactic(auto)]
 
+mod mem;
 mod reading;
 mod writing;
 
 ghost use Rattle.std.specs.Prelude.{◌≡◌, IfOk, OnOk, OnErr};
 
+pub use mem::{MemSink, MemSource};
 pub use reading::{Bytes, ReadAllFault, read_all};
+use std::alloc::AllocError;
 pub use writing::{WriteFault, write_all};
 
 /// A read, a write or a flush failed. The count of faults of the stream says that it did.
@@ -17,6 +20,12 @@ pub struct Failed;
 /// Memory ran out.
 #[derive(Clone, Copy, Debug, PartialEq, Eq)]
 pub struct Memory;
+
+impl From<AllocError> for Memory {
+    fn from(_: AllocError) -> Memory {
+        Memory
+    }
+}
 
 /// Where bytes come from. It may tell which bytes are left, and counts its faults.
 pub trait Source {
