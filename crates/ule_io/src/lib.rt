@@ -4,12 +4,14 @@
 
 mod mem;
 mod reading;
+mod standard;
 mod writing;
 
 ghost use Rattle.std.specs.Prelude.{◌≡◌, IfOk, OnOk, OnErr};
 
 pub use mem::{MemSink, MemSource};
 pub use reading::{Bytes, ReadAllFault, read_all};
+pub use standard::{StdSink, StdSource};
 use std::alloc::AllocError;
 pub use writing::{WriteFault, write_all};
 
