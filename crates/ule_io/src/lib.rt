@@ -61,3 +61,6 @@ pub trait Sink {
         ensures ok { OnOk result (state self.new ≡ state self.old) }
         ensures failed { OnErr result (WriteFails (state self.old) (state self.new)) };
 }
+
+#[cfg(test)]
+mod tests;
