@@ -47,7 +47,10 @@ pub record ReadAll (old new : SourceState) (limit : ℕ) (result : Result (List 
   pub whole : IfOk result (ReadsWhole old new limit)
   -- one byte more than the limit was taken
   pub too_long : result ≡ Err TooLong → (taken : List ℕ) × Gives old.left new.left taken × (length taken ≡ limit + 1)
+  -- so more than the limit was left, where that is told
   pub more : (left : List ℕ) → result ≡ Err TooLong → old.left ≡ Some left → limit < length left
+  -- want of memory may come in the place of either
+  pub memory : result ≡ Err Memory → (taken : List ℕ) × Gives old.left new.left taken × (length taken ≤ limit + 1)
   pub failed : result ≡ Err ReadFault → Rose old.faults new.faults
   pub else_kept : result ≢ Err ReadFault → new.faults ≡ old.faults
   pub told : is_some new.left ≡ is_some old.left

@@ -10,7 +10,7 @@ use thiserror::Error;
 /// Why a source was not read to its end.
 #[derive(Clone, Copy, Debug, PartialEq, Eq, Error)]
 pub enum ReadAllFault {
-    /// A read failed.
+    /// A read failed, as the source counts.
     #[error("a read failed")]
     ReadFault,
     /// More bytes came than the limit allows.
@@ -34,6 +34,7 @@ impl Model for Bytes {
 }
 
 impl Bytes {
+    /// All of the bytes, in their order.
     pub fn as_slice(&self) -> &[u8]
         ensures { result.now ≡ self.now }
     {
@@ -44,8 +45,8 @@ impl Bytes {
 // The most that one read takes, in bytes.
 const PIECE: usize = 8192;
 
-/// Reads the source to its end, which may be at most `limit` bytes away. It never takes more than
-/// `limit + 1` bytes.
+/// All bytes to the end of the source, of which there may be at most `limit`. `TooLong` comes where
+/// one byte more was taken, and no further byte is. After `Memory` the bytes taken are lost.
 pub fn read_all<S: Source>(alloc: Global, src: &mut S, limit: usize) -> Result<Bytes, ReadAllFault>
     ensures { ReadAll (S.state src.old) (S.state src.new) limit result }
 {

@@ -7,10 +7,10 @@ use thiserror::Error;
 /// Why a piece was not written whole.
 #[derive(Clone, Copy, Debug, PartialEq, Eq, Error)]
 pub enum WriteFault {
-    /// A write or a flush failed.
+    /// A write or a flush failed, as the sink counts.
     #[error("a write failed")]
     Failed,
-    /// A write took 0 bytes of a nonempty piece.
+    /// A write took 0 bytes of a nonempty piece, as the sink counts.
     #[error("a write took no bytes")]
     TookNothing,
 }

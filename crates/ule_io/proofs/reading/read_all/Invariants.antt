@@ -1,5 +1,6 @@
 use Rattle.std.proofs.Common.{◌≡◌, ◌+◌, ◌-◌, ◌≤◌, length, vec_len}
 use Rattle.ule_io.specs.Source.{Gives}
+use Rattle.ule_io.specs.declared.reading.TheConstants.{PIECE}
 use Rattle.ule_io.proofs.reading.read_all.Given as goal
 
 -- what was taken with no fault is in bytes, at most one byte more than the limit
@@ -11,7 +12,7 @@ invariant-loop-piece g l =
       given : Gives old.left new.left l.bytes.items;
       faults : new.faults ≡ old.faults;
       within : vec_len l.bytes ≤ l.limit + 1;
-      room : length l.piece ≡ 8192;
+      room : length l.piece ≡ PIECE;
     }
 
 abbrev pub decreases-loop-piece : goal.decreases-loop-piece
