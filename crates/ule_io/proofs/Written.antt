@@ -7,10 +7,12 @@ use Rattle.ule_io.specs.Sink.{SinkState, with_back, Appends, AppendsFront, Write
 use Rattle.ule_io.specs.declared.writing.WriteFault.{WriteFault}
 use Rattle.ule_io.specs.declared.writing.WriteFault.TheVariants.{Failed}
 
+-- the empty piece changes nothing
 pub with_back-nil : (taken : Option (List ℕ)) → with_back taken [] ≡ taken
 with_back-nil None = refl
 with_back-nil (Some bytes) = ap (λ xs. Some xs) (append-nil bytes)
 
+-- one piece and then another are one piece
 pub with_back-append : (taken : Option (List ℕ)) (a b : List ℕ) → with_back (with_back taken a) b ≡ with_back taken (a ++ b)
 with_back-append None a b = refl
 with_back-append (Some bytes) a b = ap (λ xs. Some xs) (append_assoc bytes a b)

@@ -1,5 +1,5 @@
 -- What a sink tells of itself, and what writing does to it.
-use Rattle.std.specs.Prelude.{◌≡◌, ◌≢◌, ℕ, ◌<◌, ◌≤◌, List, ◌++◌, length, take, Option, Some, None, Result, Ok, Err, OnOk, is_some}
+use Rattle.std.specs.Prelude.{◌≡◌, ◌≢◌, ℕ, ◌<◌, ◌≤◌, List, ◌++◌, length, take, Option, Some, None, Result, Err, OnOk, is_some}
 use Rattle.ule_io.specs.Counter.{Rose}
 use Rattle.ule_io.specs.declared.writing.WriteFault.{WriteFault}
 use Rattle.ule_io.specs.declared.writing.WriteFault.TheVariants.{Failed, TookNothing}

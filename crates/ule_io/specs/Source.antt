@@ -1,5 +1,5 @@
 -- What a source tells of itself, and what reading does to it.
-use Rattle.std.specs.Prelude.{◌≡◌, ◌≢◌, ℕ, ◌+◌, ◌<◌, ◌≤◌, List, [], ◌++◌, length, take, Option, Some, None, Result, Ok, Err, IfOk, is_some}
+use Rattle.std.specs.Prelude.{◌≡◌, ◌≢◌, ℕ, ◌+◌, ◌<◌, ◌≤◌, List, [], ◌++◌, length, take, Option, Some, None, Result, Err, IfOk, is_some}
 use Rattle.ule_io.specs.Counter.{Rose}
 use Rattle.ule_io.specs.declared.reading.ReadAllFault.{ReadAllFault}
 use Rattle.ule_io.specs.declared.reading.ReadAllFault.TheVariants.{ReadFault, TooLong, Memory}

@@ -1,4 +1,3 @@
-use Rattle.std.proofs.Common.{length}
 use Rattle.ule_io.proofs.Played.{reads_on}
 use Rattle.ule_io.proofs.mem.MemSourceSource.read.Goals as goal
 
