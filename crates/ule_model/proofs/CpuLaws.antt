@@ -395,8 +395,8 @@ replaced_stands : (preempted : Bool) (now : ℕ) (m : Member) (v : CpuValue) (s 
 replaced_stands preempted now m v s stands made found small =
     let t : ℕ = m.thread.id in
     let gave : IsJoined (value_left now t v) (with_given_way preempted now t v) (given_way v.cpu preempted now t s) = given_way_stands preempted now m v s stands made found small in
-    let next : AreChosen (with_given_way preempted now t v) (given_way v.cpu preempted now t s) (chosen_next now (with_given_way preempted now t v)) (choosing_next v.cpu now (given_way v.cpu preempted now t s)) =
-    subst (λ (c : ℕ). AreChosen (with_given_way preempted now t v) (given_way v.cpu preempted now t s) (chosen_next now (with_given_way preempted now t v)) (choosing_next c now (given_way v.cpu preempted now t s))) gave.cpu
+    let next : AreChosen (with_given_way preempted now t v) (chosen_next now (with_given_way preempted now t v)) (choosing_next v.cpu now (given_way v.cpu preempted now t s)) =
+    subst (λ (c : ℕ). AreChosen (with_given_way preempted now t v) (chosen_next now (with_given_way preempted now t v)) (choosing_next c now (given_way v.cpu preempted now t s))) gave.cpu
     (choosing_stands now (with_given_way preempted now t v) (given_way v.cpu preempted now t s) gave.stands gave.well_made gave.current (subst (λ (line : CpuLine). line.ridx < 64) (sym gave.line) small)) in
     record { stands = next.stands; answer = ap (λ (o : Option ℕ). Switched (Some t) o preempted) next.answer; well_made = next.well_made; cpu = next.cpu ∙ gave.cpu }
 

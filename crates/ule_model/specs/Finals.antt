@@ -4,6 +4,7 @@ use Rattle.std.specs.List.{filter_map, range_with_len}
 use Rattle.std.specs.Option.{option_map}
 use Rattle.ule_score.specs.declared.place.Place.{Place}
 use Rattle.ule_score.specs.declared.place.Place.TheVariants.{Running, Queued, Asleep, Unborn, Gone, Hand}
+use Rattle.ule_score.specs.declared.record.ThreadRecord.{ThreadRecord}
 use Rattle.ule_types.specs.declared.outcome.ThreadLine.{ThreadLine}
 use Rattle.ule_model.specs.Places.{lock_of, waits_in}
 use Rattle.ule_model.specs.World.{Member, thread_of}
@@ -17,30 +18,34 @@ position_of Unborn order members = 0
 position_of Gone order members = 0
 position_of (Hand w) order members = 0
 
--- a thread's line, at the end of a whole history: its word is the lock of its place
-abbrev pub thread_line : List Member → Member → ThreadLine
-thread_line members m = record {
-  id = m.thread.id;
-  place = m.place;
-  pos = position_of m.place m.order members;
-  class = m.thread.class;
-  nice = m.thread.nice;
-  base = m.thread.base;
-  lent = m.thread.lent;
-  priority = m.thread.priority;
-  run = m.thread.hist.run;
-  slept = m.thread.hist.slept;
-  ticks = m.thread.usage.ticks;
-  ltick = m.thread.usage.ltick;
-  ftick = m.thread.usage.ftick;
-  slice_count = m.thread.slice_count;
-  slept_at = m.thread.slept_at;
-  last = m.thread.last;
-  last_run = m.thread.last_run;
-  bound = m.thread.bound;
-  parent = m.thread.parent;
-  word = lock_of m.place;
+-- the line of a record at a place and a position; its word is the lock of the place
+abbrev pub line_of : ThreadRecord → Place → ℕ → ThreadLine
+line_of r place pos = record {
+  id = r.id;
+  place = place;
+  pos = pos;
+  class = r.class;
+  nice = r.nice;
+  base = r.base;
+  lent = r.lent;
+  priority = r.priority;
+  run = r.hist.run;
+  slept = r.hist.slept;
+  ticks = r.usage.ticks;
+  ltick = r.usage.ltick;
+  ftick = r.usage.ftick;
+  slice_count = r.slice_count;
+  slept_at = r.slept_at;
+  last = r.last;
+  last_run = r.last_run;
+  bound = r.bound;
+  parent = r.parent;
+  word = lock_of place;
 }
+
+-- a thread's line at the end of a whole history
+abbrev pub thread_line : List Member → Member → ThreadLine
+thread_line members m = line_of m.thread m.place (position_of m.place m.order members)
 
 -- the lines of all threads, in rising number
 abbrev pub thread_lines : List Member → List ThreadLine
