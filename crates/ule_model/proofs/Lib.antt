@@ -10,3 +10,4 @@ pub mod ChoiceLaws
 pub mod Positions
 pub mod ChoosingLaws
 pub mod CpuLaws
+pub mod Elsewhere
