@@ -4,11 +4,13 @@ use Rattle.std.proofs.Common.{◌≡◌, ◌≢◌, ℕ, ◌<◌, ◌==◌, ℤ,
 use Rattle.std.specs.Prelude.{IfSome, slice_set, slice_index_or}
 use Rattle.std.specs.List.{AllByRecursion, find}
 use Rattle.std.specs.Option.{option_map}
-use Rattle.std.proofs.lemmas.Bool.{eq-eqb, eqb-true, ne_eqb, cond-false, and_right, or_parts, or_left, or_right, false_from_ne_true}
+use Rattle.std.proofs.lemmas.Bool.{eq-eqb, eqb-true, eqb-false, ne_eqb, both_ways, cond-false, and_right, or_parts, or_left, or_right, false_from_ne_true}
 use Rattle.ule_prio.specs.declared.kind.Kind.{Kind}
 use Rattle.ule_prio.specs.declared.kind.Kind.TheVariants.{Real, Batch, Idle}
 use Rattle.ule_score.specs.declared.place.Place.{Place}
 use Rattle.ule_score.specs.declared.place.Place.TheVariants.{Running, Queued, Asleep, Unborn, Gone, Hand}
+use Rattle.ule_score.specs.declared.record.CpuLine.{CpuLine}
+use Rattle.ule_score.specs.declared.record.Settings.{Settings}
 use Rattle.ule_score.specs.declared.record.ThreadRecord.{ThreadRecord}
 use Rattle.ule_score.specs.declared.record.Why.{Why}
 use Rattle.ule_types.specs.declared.event.Reply.{Reply}
@@ -19,13 +21,13 @@ use Rattle.ule_model.specs.Insertion.{Insertion, Ordinary, with_queued, queued, 
 use Rattle.ule_model.specs.Places.{runs_on, waits_on, waits_in, is_on}
 use Rattle.ule_model.specs.Shows.{ShowsQueue, IsWellMade, bucket_ids, by_order, ids_of}
 use Rattle.ule_model.specs.Start.{unborn_member, laid_on}
-use Rattle.ule_model.specs.Switch.{before_running, after_running, running_chosen, choosing_next, given_way, unmarked, insertion_of, is_preemption, is_unasked, switched_from, switched}
+use Rattle.ule_model.specs.Switch.{before_running, after_running, running_chosen, choosing_next, given_way, unmarked, insertion_of, counted, is_preemption, is_unasked, switched_from, switched}
 use Rattle.ule_model.specs.World.{Member, Side, World, is_thread, thread_of, current_of, moved_to, with_record, fresh_line, side_of, with_side}
 use Rattle.ule_model.proofs.Buckets.{IsOut}
 use Rattle.ule_model.proofs.ChoiceLaws.{least_keeps}
 use Rattle.ule_model.proofs.CpuLaws.{off_out, appended_stands}
 use Rattle.ule_model.proofs.Membership.{Has, all_from_has, has_filtered, has_between, same_from_number, has_thread_of, has_within}
-use Rattle.ule_model.proofs.Threads.{current_runs, within_current}
+use Rattle.ule_model.proofs.Threads.{find_nowhere, none_passes, current_runs, within_current}
 use Rattle.ule_model.proofs.Within.{changed}
 
 -- ---- threads that stay
@@ -189,3 +191,184 @@ queued_rest how c t s = split (thread_of t s.members)
     split : (o : Option Member) → with_queued how c o s ≡ record s { members = (with_queued how c o s).members }
     split None = refl
     split (Some m) = refl
+
+-- ---- what a switch moves
+
+-- a place on CPU c, and a place that isn't on CPU d
+abbrev pub IsOn : ℕ → Place → Type 0
+IsOn c p = is_on c p ≡ true
+
+abbrev pub IsOff : ℕ → Place → Type 0
+IsOff d p = is_on d p ≡ false
+
+-- a place is on one CPU
+pub one_cpu : (c d : ℕ) (p : Place) → IsOn c p → IsOn d p → c ≡ d
+one_cpu c d (Running e) here there = eqb-true c e (first (c == e) here) ∙ sym (eqb-true d e (first (d == e) there))
+  where
+    first : (b : Bool) → (b || false) ≡ true → b ≡ true
+    first true h = refl
+    first false h = h
+one_cpu c d (Queued e k b) here there = eqb-true c e here ∙ sym (eqb-true d e there)
+one_cpu c d (Asleep channel) here there = absurd (both_ways false refl here)
+one_cpu c d Unborn here there = absurd (both_ways false refl here)
+one_cpu c d Gone here there = absurd (both_ways false refl here)
+one_cpu c d (Hand w) here there = absurd (both_ways false refl here)
+
+-- a place on CPU c is on no other
+pub off_other : (c d : ℕ) → c ≢ d → (p : Place) → IsOn c p → IsOff d p
+off_other c d apart p here = false_from_ne_true (is_on d p) (λ there. apart (one_cpu c d p here there))
+
+-- the threads of one number stand all on CPU c, or none does
+abbrev pub AreTogether : ℕ → List Member → Type 0
+AreTogether c ms = (m : Member) → Has m ms → IsOn c m.place → AreAt (IsOn c) m.thread.id ms
+
+-- so they do in a well-made world, where they are one
+pub together_made : (c : ℕ) (ms : List Member) → IsWellMade ms → AreTogether c ms
+together_made c ms made m has on n other number =
+    subst (λ (x : Member). IsOn c x.place) (same_from_number m n ms made has other (sym number)) on
+
+-- and after moves on CPU c
+pub together_stay : (c : ℕ) (ms ns : List Member) → AllStay (IsOn c) ms ns → AreTogether c ms → AreTogether c ns
+together_stay c ms ns stay together n has on =
+    let one = stay_from (IsOn c) ms ns n stay has in
+    subst (λ (t : ℕ). AreAt (IsOn c) t ns) (sym (stays_number (IsOn c) one.0 n one.1.1))
+    (are_at_stay (IsOn c) one.0.thread.id ms ns stay (together one.0 one.1.0 (stays_from (IsOn c) one.0 n one.1.1 on)))
+
+-- a side that differs from another by moves on CPU c, and by that CPU's numbers
+pub record IsSideOn (c : ℕ) (old new : Side) : Type 0 where
+  pub settings : new.settings ≡ old.settings
+  pub balance_word : new.balance_word ≡ old.balance_word
+  pub members : AllStay (IsOn c) old.members new.members
+
+-- the next thread is put to run
+running_moves : (c now : ℕ) (m : Member) (s : Side) → AreAt (IsOn c) m.thread.id s.members →
+    AllStay (IsOn c) s.members (with_record m.thread.id (before_running now) (moved_to m.thread.id (Running c) (pos 0) s.members))
+running_moves c now m s at =
+    let t : ℕ = m.thread.id in
+    let moved : List Member = moved_to t (Running c) (pos 0) s.members in
+    let first : AllStay (IsOn c) s.members moved = stay_moved (IsOn c) t (Running c) (pos 0) s.members (or_left (c == c) false (eq-eqb c c refl)) at in
+    stay_further (IsOn c) s.members moved (with_record t (before_running now) moved) first
+    (stay_recorded (IsOn c) t (before_running now) moved (λ r. refl) (are_at_stay (IsOn c) t s.members moved first at))
+
+pub choosing_moves : (c now : ℕ) (s : Side) → AreTogether c s.members → IsSideOn c s (choosing_next c now s).0
+choosing_moves c now s together =
+    split (choice_of c s.line.ridx s.members)
+    (least_keeps (λ m. Has m s.members × (waits_on c m.place ≡ true)) s.line.ridx (filter (λ m. waits_on c m.place) s.members)
+    (all_from_has (λ m. Has m s.members × (waits_on c m.place ≡ true)) (filter (λ m. waits_on c m.place) s.members) (λ m has. has_filtered (λ m. waits_on c m.place) m s.members has)))
+  where
+    split : (o : Option Member) → IfSome o (λ m. Has m s.members × (waits_on c m.place ≡ true)) → IsSideOn c s (running_chosen c now o s).0
+    split None waits = record { settings = refl; balance_word = refl; members = stay_same (IsOn c) s.members }
+    split (Some m) waits = record {
+      settings = refl;
+      balance_word = refl;
+      members = running_moves c now m s (together m waits.0 (or_right (runs_on c m.place) (waits_on c m.place) waits.1));
+    }
+
+-- the current thread gives way
+pub given_way_moves : (c : ℕ) (preempted : Bool) (now t : ℕ) (s : Side) → AreAt (IsOn c) t s.members → IsSideOn c s (given_way c preempted now t s)
+given_way_moves c preempted now t s at =
+    let changed_side : Side = counted (record s { members = with_record t (after_running now) s.members }) in
+    let first : AllStay (IsOn c) s.members changed_side.members = stay_recorded (IsOn c) t (after_running now) s.members (λ r. refl) at in
+    let rest : queued (insertion_of preempted) c t changed_side ≡ record changed_side { members = (queued (insertion_of preempted) c t changed_side).members } = queued_rest (insertion_of preempted) c t changed_side in
+    record {
+      settings = ap (λ (x : Side). x.settings) rest;
+      balance_word = ap (λ (x : Side). x.balance_word) rest;
+      members =
+          stay_further (IsOn c) s.members changed_side.members (given_way c preempted now t s).members first
+          (stay_queued (IsOn c) (insertion_of preempted) c t changed_side (λ k b. eq-eqb c c refl) (are_at_stay (IsOn c) t s.members changed_side.members first at));
+    }
+
+-- moves upon moves
+side_further : (c : ℕ) (first second third : Side) → IsSideOn c first second → IsSideOn c second third → IsSideOn c first third
+side_further c first second third one two = record {
+  settings = two.settings ∙ one.settings;
+  balance_word = two.balance_word ∙ one.balance_word;
+  members = stay_further (IsOn c) first.members second.members third.members one.members two.members;
+}
+
+-- the switch
+pub switched_moves : (c : ℕ) (why : Why) (now : ℕ) (s : Side) → IsWellMade s.members → IsSideOn c s (switched c why now s).0
+switched_moves c why now s made = asked (is_unasked why s.line.resched)
+  where
+    from : (preempted : Bool) (o : Option Member) → current_of c s.members ≡ o → IsSideOn c s (switched_from o c preempted now (unmarked s)).0
+    from preempted None found =
+        let next = choosing_moves c now (unmarked s) (together_made c s.members made) in
+        record { settings = next.settings; balance_word = next.balance_word; members = next.members }
+    from preempted (Some m) found =
+        let runs : IsOn c m.place = or_left (runs_on c m.place) (waits_on c m.place) (current_runs c s.members m found) in
+        let has : Has m s.members = has_within m.thread.id m s.members (within_current c s.members m made found) in
+        let gave : IsSideOn c (unmarked s) (given_way c preempted now m.thread.id (unmarked s)) = given_way_moves c preempted now m.thread.id (unmarked s) (together_made c s.members made m has runs) in
+        let next : IsSideOn c (unmarked s) (choosing_next c now (given_way c preempted now m.thread.id (unmarked s))).0 =
+        side_further c (unmarked s) (given_way c preempted now m.thread.id (unmarked s)) (choosing_next c now (given_way c preempted now m.thread.id (unmarked s))).0 gave
+        (choosing_moves c now (given_way c preempted now m.thread.id (unmarked s)) (together_stay c s.members (given_way c preempted now m.thread.id (unmarked s)).members gave.members (together_made c s.members made))) in
+        record { settings = next.settings; balance_word = next.balance_word; members = next.members }
+
+    asked : (d : Bool) → IsSideOn c s (if d then (s, Unmarked) else switched_from (current_of c s.members) c (is_preemption why s.line.slice_end) now (unmarked s)).0
+    asked true = record { settings = refl; balance_word = refl; members = stay_same (IsOn c) s.members }
+    asked false = from (is_preemption why s.line.slice_end) (current_of c s.members) refl
+
+-- ---- the other CPUs
+
+-- moves off CPU v.cpu leave what its value stands for
+pub off_stands : (v : CpuValue) (s n : Side) → StandsFor v s → AllStay (IsOff v.cpu) s.members n.members → n.settings ≡ s.settings → n.line ≡ s.line → n.balance_word ≡ s.balance_word → StandsFor v n
+off_stands v s n stands stay settings line word = record {
+  settings = stands.settings ∙ sym settings;
+  line = stands.line ∙ sym line;
+  balance_word = λ zero. stands.balance_word zero ∙ sym word;
+  current = stands.current ∙ ap (option_map (λ (m : Member). m.thread.id)) (sym (find_stay (IsOff v.cpu) (λ m. runs_on v.cpu m.place) (λ m off. (or_parts (runs_on v.cpu m.place) (waits_on v.cpu m.place) off).0) s.members n.members stay));
+  slots = stands.slots;
+  threads = λ t. stands.threads t ∙ ap (option_map (λ (m : Member). m.thread)) (sym (find_stay (IsOff v.cpu) (λ m. is_thread t m && is_on v.cpu m.place) (λ m off. and_right (is_thread t m) (is_on v.cpu m.place) off) s.members n.members stay));
+  real = shows v.real Real stands.real;
+  batch = shows v.batch Batch stands.batch;
+  idle = shows v.idle Idle stands.idle;
+}
+  where
+    shows : (lists : List (List ℕ)) (k : Kind) → ShowsQueue lists v.cpu k s.members → ShowsQueue lists v.cpu k n.members
+    shows lists k old = record {
+      buckets = old.buckets;
+      each = λ b small.
+          old.each b small ∙ ap (λ (ms : List Member). ids_of (by_order ms))
+          (sym (filter_stay (IsOff v.cpu) (λ m. waits_in v.cpu k b m.place) (λ m off. off_out v.cpu k m.place off b) s.members n.members stay));
+    }
+
+-- the side of CPU c in a world that was given it
+pub side_own : (c : ℕ) (s : Side) (w : World) → c < length w.lines → s.settings ≡ w.settings → side_of c (with_side c s w) ≡ s
+side_own c s w within settings =
+    ap (λ (x : Settings). record s { settings = x; line = slice_index_or (slice_set w.lines c s.line) c fresh_line }) (sym settings) ∙
+    ap (λ (x : CpuLine). record s { line = x }) (get_or-set_same w.lines c s.line fresh_line within)
+
+-- what side another CPU has there
+pub side_other : (c d : ℕ) (s : Side) (w : World) → c ≢ d → (side_of d (with_side c s w)).line ≡ (side_of d w).line
+side_other c d s w apart = get_or-set_other w.lines c d s.line fresh_line (λ e. apart (sym e))
+
+-- a switch of one CPU leaves every other
+pub switched_elsewhere : (c : ℕ) (why : Why) (now : ℕ) (v : CpuValue) (w : World) → c ≢ v.cpu → IsWellMade w.members → StandsFor v (side_of v.cpu w) →
+    StandsFor v (side_of v.cpu (with_side c (switched c why now (side_of c w)).0 w))
+switched_elsewhere c why now v w apart made stands =
+    let moves = switched_moves c why now (side_of c w) made in
+    let made_side : Side = (switched c why now (side_of c w)).0 in
+    off_stands v (side_of v.cpu w) (side_of v.cpu (with_side c made_side w)) stands
+    (stay_along (IsOn c) (IsOff v.cpu) (off_other c v.cpu apart) w.members made_side.members moves.members)
+    refl (side_other c v.cpu made_side w apart) moves.balance_word
+
+-- the threads with a new thread's number are it alone, which is on no CPU
+pub new_off : (d : ℕ) (r : ThreadRecord) (ms : List Member) → thread_of r.id ms ≡ None → AreAt (IsOff d) r.id (ms ++ unborn_member r ∷ [])
+new_off d r ms new n has number = split ms new has
+  where
+    split : (xs : List Member) → thread_of r.id xs ≡ None → Has n (xs ++ unborn_member r ∷ []) → IsOff d n.place
+    split [] none here = ⊎_elim (λ (same : unborn_member r ≡ n). ap (λ (x : Member). is_on d x.place) (sym same)) (λ (past : Has n []). absurd past) here
+    split (x ∷ xs) none there =
+        let others : AllByRecursion (λ y. is_thread r.id y ≡ false) (x ∷ xs) = none_passes (is_thread r.id) (x ∷ xs) none in
+        ⊎_elim (λ (same : x ≡ n). absurd (eqb-false x.thread.id r.id others.0 (ap (λ (y : Member). y.thread.id) same ∙ number))) (λ (rest : Has n (xs ++ unborn_member r ∷ [])). split xs (find_nowhere (is_thread r.id) xs others.1) rest) there
+
+-- and so does a new thread that is queued on one CPU
+pub laid_elsewhere : (c : ℕ) (r : ThreadRecord) (v : CpuValue) (w : World) → c ≢ v.cpu → thread_of r.id w.members ≡ None → StandsFor v (side_of v.cpu w) →
+    StandsFor v (side_of v.cpu (with_side c (laid_on c r (side_of c w)) w))
+laid_elsewhere c r v w apart new stands =
+    let n : Member = unborn_member r in
+    let more : Side = record (side_of c w) { members = w.members ++ n ∷ [] } in
+    let made_side : Side = laid_on c r (side_of c w) in
+    off_stands v (record (side_of v.cpu w) { members = w.members ++ n ∷ [] }) (side_of v.cpu (with_side c made_side w))
+    (appended_stands n v (side_of v.cpu w) stands refl)
+    (stay_queued (IsOff v.cpu) Ordinary c r.id more (λ k b. ne_eqb v.cpu c (λ e. apart (sym e))) (new_off v.cpu r w.members new))
+    refl (side_other c v.cpu made_side w apart) (ap (λ (x : Side). x.balance_word) (queued_rest Ordinary c r.id more))
