@@ -11,3 +11,4 @@ pub mod Positions
 pub mod ChoosingLaws
 pub mod CpuLaws
 pub mod Elsewhere
+pub mod WorldLaws
