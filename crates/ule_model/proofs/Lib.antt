@@ -12,3 +12,4 @@ pub mod ChoosingLaws
 pub mod CpuLaws
 pub mod Elsewhere
 pub mod WorldLaws
+pub mod FinalLaws
