@@ -4,12 +4,13 @@ pub mod Within
 pub mod Threads
 pub mod Orders
 pub mod Buckets
+pub mod Elsewhere
+pub mod WorldLaws
+pub mod FinalLaws
+pub mod StartLaws
 pub mod WellMade
 pub mod Rising
 pub mod ChoiceLaws
 pub mod Positions
 pub mod ChoosingLaws
 pub mod CpuLaws
-pub mod Elsewhere
-pub mod WorldLaws
-pub mod FinalLaws
