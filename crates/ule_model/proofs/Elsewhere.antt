@@ -1,6 +1,6 @@
 -- What an event of one CPU leaves to the others: each thread stays what it is, or moves between
 -- places of that CPU.
-use Rattle.std.proofs.Common.{◌≡◌, ◌≢◌, ℕ, ◌<◌, ◌==◌, ℤ, pos, Bool, true, false, cond, ◌&&◌, ◌||◌, List, [], ◌∷◌, ◌++◌, filter, length, Option, Some, None, ◌⊎◌, inl, inr, ⊎_elim, if◌then◌else◌, refl, sym, ◌∙◌, ap, subst, get_or-set_same, get_or-set_other}
+use Rattle.std.proofs.Common.{◌≡◌, ◌≢◌, ℕ, ◌<◌, ◌==◌, ℤ, pos, Bool, true, false, ◌&&◌, ◌||◌, List, [], ◌∷◌, ◌++◌, filter, length, Option, Some, None, ◌⊎◌, inl, inr, ⊎_elim, if◌then◌else◌, refl, sym, ◌∙◌, ap, subst, get_or-set_same, get_or-set_other}
 use Rattle.std.specs.Prelude.{IfSome, slice_set, slice_index_or}
 use Rattle.std.specs.List.{AllByRecursion, find}
 use Rattle.std.specs.Option.{option_map}
@@ -13,20 +13,18 @@ use Rattle.ule_score.specs.declared.record.CpuLine.{CpuLine}
 use Rattle.ule_score.specs.declared.record.Settings.{Settings}
 use Rattle.ule_score.specs.declared.record.ThreadRecord.{ThreadRecord}
 use Rattle.ule_score.specs.declared.record.Why.{Why}
-use Rattle.ule_types.specs.declared.event.Reply.{Reply}
 use Rattle.ule_types.specs.declared.event.Reply.TheVariants.{Unmarked}
 use Rattle.ule_model.specs.Choice.{choice_of}
 use Rattle.ule_model.specs.CpuValue.{CpuValue, StandsFor}
 use Rattle.ule_model.specs.Insertion.{Insertion, Ordinary, with_queued, queued, place_of_insertion, order_of_insertion}
 use Rattle.ule_model.specs.Places.{runs_on, waits_on, waits_in, is_on}
-use Rattle.ule_model.specs.Shows.{ShowsQueue, IsWellMade, bucket_ids, by_order, ids_of}
+use Rattle.ule_model.specs.Shows.{ShowsQueue, IsWellMade, by_order, ids_of}
 use Rattle.ule_model.specs.Start.{unborn_member, laid_on}
 use Rattle.ule_model.specs.Switch.{before_running, after_running, running_chosen, choosing_next, given_way, unmarked, insertion_of, counted, is_preemption, is_unasked, switched_from, switched}
 use Rattle.ule_model.specs.World.{Member, Side, World, is_thread, thread_of, current_of, moved_to, with_record, fresh_line, side_of, with_side}
-use Rattle.ule_model.proofs.Buckets.{IsOut}
 use Rattle.ule_model.proofs.ChoiceLaws.{least_keeps}
 use Rattle.ule_model.proofs.CpuLaws.{off_out, appended_stands}
-use Rattle.ule_model.proofs.Membership.{Has, all_from_has, has_filtered, has_between, same_from_number, has_thread_of, has_within}
+use Rattle.ule_model.proofs.Membership.{Has, all_from_has, has_filtered, same_from_number, has_thread_of, has_within}
 use Rattle.ule_model.proofs.Threads.{find_nowhere, none_passes, current_runs, within_current}
 use Rattle.ule_model.proofs.Within.{changed}
 
@@ -66,7 +64,8 @@ pub stay_same : (P : Place → Type 0) (ms : List Member) → AllStay P ms ms
 stay_same P [] = tt
 stay_same P (m ∷ ms) = (inl refl, stay_same P ms)
 
-stays_further : (P : Place → Type 0) (l m n : Member) → Stays P l m → Stays P m n → Stays P l n
+-- a thread that stays twice stays
+pub stays_further : (P : Place → Type 0) (l m n : Member) → Stays P l m → Stays P m n → Stays P l n
 stays_further P l m n first second =
     ⊎_elim
     (λ (same : m ≡ l). subst (λ (x : Member). Stays P x n) same second)
@@ -75,7 +74,7 @@ stays_further P l m n first second =
     (λ (two : IsMoved P m n). inr (record { number = two.number ∙ one.number; before = one.before; after = two.after })) second)
     first
 
--- what stays twice stays
+-- and so does a list
 pub stay_further : (P : Place → Type 0) (ls ms ns : List Member) → AllStay P ls ms → AllStay P ms ns → AllStay P ls ns
 stay_further P [] [] ns first second = second
 stay_further P [] (m ∷ ms) ns first second = absurd first
@@ -194,10 +193,11 @@ queued_rest how c t s = split (thread_of t s.members)
 
 -- ---- what a switch moves
 
--- a place on CPU c, and a place that isn't on CPU d
+-- a place on CPU c
 abbrev pub IsOn : ℕ → Place → Type 0
 IsOn c p = is_on c p ≡ true
 
+-- a place that isn't on CPU d
 abbrev pub IsOff : ℕ → Place → Type 0
 IsOff d p = is_on d p ≡ false
 
@@ -240,8 +240,8 @@ pub record IsSideOn (c : ℕ) (old new : Side) : Type 0 where
   pub balance_word : new.balance_word ≡ old.balance_word
   pub members : AllStay (IsOn c) old.members new.members
 
--- the next thread is put to run
-running_moves : (c now : ℕ) (m : Member) (s : Side) → AreAt (IsOn c) m.thread.id s.members →
+-- a thread of CPU c is put to run there
+pub running_moves : (c now : ℕ) (m : Member) (s : Side) → AreAt (IsOn c) m.thread.id s.members →
     AllStay (IsOn c) s.members (with_record m.thread.id (before_running now) (moved_to m.thread.id (Running c) (pos 0) s.members))
 running_moves c now m s at =
     let t : ℕ = m.thread.id in
@@ -250,6 +250,7 @@ running_moves c now m s at =
     stay_further (IsOn c) s.members moved (with_record t (before_running now) moved) first
     (stay_recorded (IsOn c) t (before_running now) moved (λ r. refl) (are_at_stay (IsOn c) t s.members moved first at))
 
+-- the next thread is chosen, and runs
 pub choosing_moves : (c now : ℕ) (s : Side) → AreTogether c s.members → IsSideOn c s (choosing_next c now s).0
 choosing_moves c now s together =
     split (choice_of c s.line.ridx s.members)
@@ -279,7 +280,7 @@ given_way_moves c preempted now t s at =
     }
 
 -- moves upon moves
-side_further : (c : ℕ) (first second third : Side) → IsSideOn c first second → IsSideOn c second third → IsSideOn c first third
+pub side_further : (c : ℕ) (first second third : Side) → IsSideOn c first second → IsSideOn c second third → IsSideOn c first third
 side_further c first second third one two = record {
   settings = two.settings ∙ one.settings;
   balance_word = two.balance_word ∙ one.balance_word;

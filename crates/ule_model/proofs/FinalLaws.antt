@@ -1,9 +1,9 @@
 -- The lines that a scheduler tells at the end are those of the world that it shows.
-use Rattle.std.proofs.Common.{◌≡◌, ◌≢◌, ℕ, zero, suc, ◌<◌, ◌==◌, Bool, true, false, ◌&&◌, List, [], ◌∷◌, length, Option, Some, None, ◌⊎◌, inl, inr, ⊎_elim, if◌then◌else◌, refl, sym, ◌∙◌, ap, subst}
+use Rattle.std.proofs.Common.{◌≡◌, ◌≢◌, ℕ, zero, suc, Bool, true, false, ◌&&◌, List, [], ◌∷◌, length, Option, Some, None, ◌⊎◌, inl, inr, ⊎_elim, if◌then◌else◌, refl, sym, ◌∙◌, ap, subst}
 use Rattle.std.specs.Prelude.{IfSome, slice_get, option_and_then}
-use Rattle.std.specs.List.{AllByRecursion, cons_option, filter_map, range_with_len}
+use Rattle.std.specs.List.{cons_option, filter_map, range_with_len}
 use Rattle.std.specs.Option.{option_map}
-use Rattle.std.proofs.lemmas.Bool.{cases_Bool, and_left, and_parts, and_from, both_ways, eq-eqb, eqb-true, ne_eqb, or_cases, or_left, or_right, false_from_ne_true}
+use Rattle.std.proofs.lemmas.Bool.{and_left, and_from, both_ways, eq-eqb, eqb-true, ne_eqb, or_cases, or_left, or_right}
 use Rattle.std.proofs.lemmas.Option.{IfSome_then, same_Some, none-some}
 use Rattle.ule_prio.specs.declared.kind.Kind.{Kind}
 use Rattle.ule_prio.specs.declared.kind.Kind.TheVariants.{Real, Batch, Idle}
@@ -12,7 +12,7 @@ use Rattle.ule_score.specs.declared.place.Place.{Place}
 use Rattle.ule_score.specs.declared.place.Place.TheVariants.{Running, Queued, Asleep, Unborn, Gone, Hand}
 use Rattle.ule_score.specs.declared.record.ThreadRecord.{ThreadRecord}
 use Rattle.ule_types.specs.declared.outcome.ThreadLine.{ThreadLine}
-use Rattle.ule_model.specs.CpuValue.{CpuValue, StandsFor, thread_in, thread_on}
+use Rattle.ule_model.specs.CpuValue.{CpuValue, StandsFor, thread_on}
 use Rattle.ule_model.specs.Finals.{position_of, line_of, thread_line, thread_lines}
 use Rattle.ule_model.specs.Places.{rank_of, runs_on, waits_on, is_on}
 use Rattle.ule_model.specs.Shows.{ShowsQueue, IsWellMade}
@@ -29,21 +29,21 @@ use Rattle.ule_model.proofs.WorldLaws.{IsAt, cpu_at}
 -- ---- the place of a thread
 
 -- what a CPU's parts say of a thread's place: as current thread, and in each queue
-abbrev places : ℕ → Option (Place × ℕ) → Option (ℕ × ℕ) → Option (ℕ × ℕ) → Option (ℕ × ℕ) → Option (Place × ℕ)
+abbrev pub places : ℕ → Option (Place × ℕ) → Option (ℕ × ℕ) → Option (ℕ × ℕ) → Option (ℕ × ℕ) → Option (Place × ℕ)
 places c now real batch idle = first_place now (first_place (queued_place c Real real) (first_place (queued_place c Batch batch) (queued_place c Idle idle)))
 
 -- with one of them given
-places_by : (c : ℕ) (a x : Option (Place × ℕ)) (r y b z i u : Option (ℕ × ℕ)) → a ≡ x → r ≡ y → b ≡ z → i ≡ u → places c a r b i ≡ places c x y z u
+pub places_by : (c : ℕ) (a x : Option (Place × ℕ)) (r y b z i u : Option (ℕ × ℕ)) → a ≡ x → r ≡ y → b ≡ z → i ≡ u → places c a r b i ≡ places c x y z u
 places_by c a x r y b z i u one two three four =
     ap (λ (o : Option (Place × ℕ)). places c o r b i) one ∙ ap (λ (o : Option (ℕ × ℕ)). places c x o b i) two ∙ ap (λ (o : Option (ℕ × ℕ)). places c x y o i) three ∙ ap (λ (o : Option (ℕ × ℕ)). places c x y z o) four
 
 -- a thread that isn't the current one
-not_current : (c : ℕ) (o : Option ℕ) (t : ℕ) → ((u : ℕ) → o ≡ Some u → u ≡ t → ⊥) → current_place c o t ≡ None
+pub not_current : (c : ℕ) (o : Option ℕ) (t : ℕ) → ((u : ℕ) → o ≡ Some u → u ≡ t → ⊥) → current_place c o t ≡ None
 not_current c None t differs = refl
 not_current c (Some u) t differs = ap (λ (d : Bool). if d then Some (Running c, 0) else None) (ne_eqb u t (differs u refl))
 
 -- the number of a CPU's current thread is that of a thread that runs there
-current_number : (v : CpuValue) (s : Side) → StandsFor v s → IsWellMade s.members → (u : ℕ) → v.current ≡ Some u → (m : Member) × (Has m s.members × ((m.thread.id ≡ u) × (runs_on v.cpu m.place ≡ true)))
+pub current_number : (v : CpuValue) (s : Side) → StandsFor v s → IsWellMade s.members → (u : ℕ) → v.current ≡ Some u → (m : Member) × (Has m s.members × ((m.thread.id ≡ u) × (runs_on v.cpu m.place ≡ true)))
 current_number v s stands made u is = split (current_of v.cpu s.members) refl (sym stands.current ∙ is)
   where
     split : (o : Option Member) → current_of v.cpu s.members ≡ o → option_map (λ m. m.thread.id) o ≡ Some u → (m : Member) × (Has m s.members × ((m.thread.id ≡ u) × (runs_on v.cpu m.place ≡ true)))
@@ -52,20 +52,20 @@ current_number v s stands made u is = split (current_of v.cpu s.members) refl (s
         (m, (has_within m.thread.id m s.members (within_current v.cpu s.members m made found), (same_Some m.thread.id u same, current_runs v.cpu s.members m found)))
 
 -- where no thread of that number is found on a CPU, none stands there
-none_on : (c t : ℕ) (ms : List Member) → thread_on c t ms ≡ None → (n : Member) → Has n ms → n.thread.id ≡ t → IsOn c n.place → ⊥
+pub none_on : (c t : ℕ) (ms : List Member) → thread_on c t ms ≡ None → (n : Member) → Has n ms → n.thread.id ≡ t → IsOn c n.place → ⊥
 none_on c t ms none n has number on =
     both_ways (is_thread t n && is_on c n.place)
     (all_has (λ x. (is_thread t x && is_on c x.place) ≡ false) n ms (none_passes (λ x. is_thread t x && is_on c x.place) ms none) has)
     (and_from (is_thread t n) (is_on c n.place) (eq-eqb n.thread.id t number) on)
 
 -- a queue of a CPU lacks a thread that isn't in it
-queue_lacks : (lists : List (List ℕ)) (c : ℕ) (k : Kind) (t : ℕ) (ms : List Member) → ShowsQueue lists c k ms → thread_on c t ms ≡ None → place_in lists t ≡ None
+pub queue_lacks : (lists : List (List ℕ)) (c : ℕ) (k : Kind) (t : ℕ) (ms : List Member) → ShowsQueue lists c k ms → thread_on c t ms ≡ None → place_in lists t ≡ None
 queue_lacks lists c k t ms shows none =
     place_in_lacks lists c k t ms shows
     (λ n has number b place. none_on c t ms none n has number (or_right (runs_on c n.place) (waits_on c n.place) (waits_on_place c k b n.place place)))
 
 -- a thread that the CPU hasn't has no place there
-place_nowhere : (v : CpuValue) (s : Side) (t : ℕ) → StandsFor v s → IsWellMade s.members → thread_on v.cpu t s.members ≡ None → value_place v t ≡ None
+pub place_nowhere : (v : CpuValue) (s : Side) (t : ℕ) → StandsFor v s → IsWellMade s.members → thread_on v.cpu t s.members ≡ None → value_place v t ≡ None
 place_nowhere v s t stands made none =
     places_by v.cpu (current_place v.cpu v.current t) None (place_in v.real t) None (place_in v.batch t) None (place_in v.idle t) None
     (not_current v.cpu v.current t (λ u is same.
@@ -74,7 +74,7 @@ place_nowhere v s t stands made none =
     (queue_lacks v.real v.cpu Real t s.members stands.real none) (queue_lacks v.batch v.cpu Batch t s.members stands.batch none) (queue_lacks v.idle v.cpu Idle t s.members stands.idle none)
 
 -- a place where a thread runs
-place_from_runs_on : (c : ℕ) (p : Place) → runs_on c p ≡ true → p ≡ Running c
+pub place_from_runs_on : (c : ℕ) (p : Place) → runs_on c p ≡ true → p ≡ Running c
 place_from_runs_on c (Running d) runs = ap (λ (e : ℕ). Running e) (sym (eqb-true c d runs))
 place_from_runs_on c (Queued d k b) runs = absurd (both_ways false refl runs)
 place_from_runs_on c (Asleep channel) runs = absurd (both_ways false refl runs)
@@ -83,7 +83,7 @@ place_from_runs_on c Gone runs = absurd (both_ways false refl runs)
 place_from_runs_on c (Hand w) runs = absurd (both_ways false refl runs)
 
 -- a thread that runs is the current one
-place_running : (v : CpuValue) (s : Side) (m : Member) → StandsFor v s → Within m.thread.id m s.members → runs_on v.cpu m.place ≡ true →
+pub place_running : (v : CpuValue) (s : Side) (m : Member) → StandsFor v s → Within m.thread.id m s.members → runs_on v.cpu m.place ≡ true →
     value_place v m.thread.id ≡ Some (m.place, position_of m.place m.order s.members)
 place_running v s m stands w runs =
     ap (λ (o : Option ℕ). first_place (current_place v.cpu o m.thread.id) queues) (stands.current ∙ ap (option_map (λ (n : Member). n.thread.id)) current) ∙
@@ -100,14 +100,14 @@ place_running v s m stands w runs =
         ap (λ (d : Bool). if d then Some m else None) runs
 
 -- a queued thread isn't the current one
-queued_not_current : (v : CpuValue) (s : Side) (m : Member) (k : Kind) (b : ℕ) → StandsFor v s → IsWellMade s.members → Has m s.members → m.place ≡ Queued v.cpu k b → current_place v.cpu v.current m.thread.id ≡ None
+pub queued_not_current : (v : CpuValue) (s : Side) (m : Member) (k : Kind) (b : ℕ) → StandsFor v s → IsWellMade s.members → Has m s.members → m.place ≡ Queued v.cpu k b → current_place v.cpu v.current m.thread.id ≡ None
 queued_not_current v s m k b stands made has place =
     not_current v.cpu v.current m.thread.id (λ u is same.
     let n = current_number v s stands made u is in
     both_ways (runs_on v.cpu m.place) (ap (runs_on v.cpu) place) (ap (λ (x : Member). runs_on v.cpu x.place) (same_from_number m n.0 s.members made has n.1.0 (sym (n.1.1.0 ∙ same))) ∙ n.1.1.1))
 
 -- nor in another queue
-queued_not_other : (lists : List (List ℕ)) (c : ℕ) (j k : Kind) (b : ℕ) (m : Member) (ms : List Member) → ShowsQueue lists c j ms → IsWellMade ms → Has m ms → m.place ≡ Queued c k b → rank_of j ≢ rank_of k → place_in lists m.thread.id ≡ None
+pub queued_not_other : (lists : List (List ℕ)) (c : ℕ) (j k : Kind) (b : ℕ) (m : Member) (ms : List Member) → ShowsQueue lists c j ms → IsWellMade ms → Has m ms → m.place ≡ Queued c k b → rank_of j ≢ rank_of k → place_in lists m.thread.id ≡ None
 queued_not_other lists c j k b m ms shows made has place apart =
     place_in_lacks lists c j m.thread.id ms shows
     (λ n there number e other. apart (ap rank_at (sym other ∙ ap (λ (x : Member). x.place) (same_from_number n m ms made there has number) ∙ place)))
@@ -121,7 +121,7 @@ queued_not_other lists c j k b m ms shows made has place apart =
     rank_at (Hand h) = 0
 
 -- a queued thread stands in its queue alone
-place_queued : (v : CpuValue) (s : Side) (m : Member) (k : Kind) (b : ℕ) → StandsFor v s → IsWellMade s.members → Has m s.members → m.place ≡ Queued v.cpu k b →
+pub place_queued : (v : CpuValue) (s : Side) (m : Member) (k : Kind) (b : ℕ) → StandsFor v s → IsWellMade s.members → Has m s.members → m.place ≡ Queued v.cpu k b →
     value_place v m.thread.id ≡ Some (Queued v.cpu k b, position_of m.place m.order s.members)
 place_queued v s m Real b stands made has place =
     places_by v.cpu (current_place v.cpu v.current m.thread.id) None
@@ -139,7 +139,7 @@ place_queued v s m Idle b stands made has place =
     (queued_not_other v.batch v.cpu Batch Idle b m s.members stands.batch made has place (λ e. cc)) (place_in_shown v.idle v.cpu Idle b m s.members stands.idle made has place)
 
 -- a thread of a CPU has its place there
-place_somewhere : (v : CpuValue) (s : Side) (m : Member) → StandsFor v s → IsWellMade s.members → Within m.thread.id m s.members → IsOn v.cpu m.place →
+pub place_somewhere : (v : CpuValue) (s : Side) (m : Member) → StandsFor v s → IsWellMade s.members → Within m.thread.id m s.members → IsOn v.cpu m.place →
     value_place v m.thread.id ≡ Some (m.place, position_of m.place m.order s.members)
 place_somewhere v s m stands made w on =
     ⊎_elim
@@ -177,12 +177,12 @@ line_stands v s t stands made =
 -- ---- the lines of all threads
 
 -- no CPU tells a line of a thread that none has
-among_none : (vs : List CpuValue) (t : ℕ) → ((i : ℕ) → IfSome (slice_get vs i) (λ u. value_line u t ≡ None)) → line_among vs t ≡ None
+pub among_none : (vs : List CpuValue) (t : ℕ) → ((i : ℕ) → IfSome (slice_get vs i) (λ u. value_line u t ≡ None)) → line_among vs t ≡ None
 among_none [] t each = refl
 among_none (x ∷ xs) t each = ap (λ (o : Option ThreadLine). first_line o (line_among xs t)) (each 0) ∙ among_none xs t (λ i. each (suc i))
 
 -- where one CPU tells a line of it and no other tells another, that is the line
-among_one : (vs : List CpuValue) (t : ℕ) (line : ThreadLine) → ((i : ℕ) → IfSome (slice_get vs i) (λ u. (value_line u t ≡ None) ⊎ (value_line u t ≡ Some line))) → (c : ℕ) (u : CpuValue) → slice_get vs c ≡ Some u → value_line u t ≡ Some line → line_among vs t ≡ Some line
+pub among_one : (vs : List CpuValue) (t : ℕ) (line : ThreadLine) → ((i : ℕ) → IfSome (slice_get vs i) (λ u. (value_line u t ≡ None) ⊎ (value_line u t ≡ Some line))) → (c : ℕ) (u : CpuValue) → slice_get vs c ≡ Some u → value_line u t ≡ Some line → line_among vs t ≡ Some line
 among_one [] t line each c u found told = absurd (none-some u found)
 among_one (x ∷ xs) t line each zero u found told = ap (λ (o : Option ThreadLine). first_line o (line_among xs t)) (ap (λ (y : CpuValue). value_line y t) (same_Some x u found) ∙ told)
 among_one (x ∷ xs) t line each (suc c) u found told =
@@ -192,7 +192,7 @@ among_one (x ∷ xs) t line each (suc c) u found told =
     (each 0)
 
 -- a thread that isn't in the world is on no CPU
-thread_on_none : (c t : ℕ) (ms : List Member) → thread_of t ms ≡ None → thread_on c t ms ≡ None
+pub thread_on_none : (c t : ℕ) (ms : List Member) → thread_of t ms ≡ None → thread_on c t ms ≡ None
 thread_on_none c t ms none =
     find_nowhere (λ n. is_thread t n && is_on c n.place) ms
     (all_along (λ n. is_thread t n ≡ false) (λ n. (is_thread t n && is_on c n.place) ≡ false) ms (λ n fails. and_left (is_thread t n) (is_on c n.place) fails) (none_passes (is_thread t) ms none))
@@ -228,7 +228,7 @@ line_shown v w t shows = split (thread_of t w.members) refl (shows.places t)
         on.cpu c.value c.found (tells m at on.cpu c.value c.part ∙ ap (λ (d : Bool). option_map (thread_line w.members) (if d then Some m else None)) on.on)
 
 -- two functions that agree give one list
-filter_map_same : {X Y : Type 0} (f g : X → Option Y) → ((x : X) → f x ≡ g x) → (xs : List X) → filter_map f xs ≡ filter_map g xs
+pub filter_map_same : {X Y : Type 0} (f g : X → Option Y) → ((x : X) → f x ≡ g x) → (xs : List X) → filter_map f xs ≡ filter_map g xs
 filter_map_same f g same [] = refl
 filter_map_same {X} {Y} f g same (x ∷ xs) = ap (λ (o : Option Y). cons_option o (filter_map f xs)) (same x) ∙ ap (cons_option (g x)) (filter_map_same f g same xs)
 

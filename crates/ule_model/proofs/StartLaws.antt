@@ -1,8 +1,7 @@
 -- The start: the scheduler without threads shows the empty world, and each thread that is laid keeps
 -- that it shows the world.
-use Rattle.std.proofs.Common.{◌≡◌, ◌≢◌, ℕ, zero, suc, ◌+◌, ◌%◌, ◌^◌, ◌<◌, ◌==◌, ℤ, Bool, true, false, not, List, [], ◌∷◌, ◌++◌, map, fold, take, length, replicate, Option, Some, None, inl, inr, ⊎_elim, if◌then◌else◌, refl, sym, ◌∙◌, ap, subst, arith, length-set, get_or-set_same, get_or-set_other}
+use Rattle.std.proofs.Common.{◌≡◌, ◌≢◌, ℕ, zero, suc, ◌+◌, ◌%◌, ◌^◌, ◌<◌, ◌==◌, ℤ, Bool, true, false, not, List, [], ◌∷◌, ◌++◌, map, fold, take, length, replicate, Option, Some, None, ⊎_elim, if◌then◌else◌, refl, sym, ◌∙◌, ap, subst, arith, length-set, get_or-set_same, get_or-set_other}
 use Rattle.std.specs.Prelude.{IfSome, slice_get, slice_set, slice_index_or}
-use Rattle.std.specs.List.{find, list_any}
 use Rattle.std.proofs.lemmas.Bool.{cases_eq, eq-eqb, eqb-true, eqb-false, ne_eqb, cond-false, and_parts, and_from, not-true, or_parts, or_from}
 use Rattle.std.proofs.lemmas.List.{length-replicate, get_or-replicate}
 use Rattle.std.proofs.lemmas.Option.{slice_get_within, same_Some, none-some}
@@ -16,11 +15,10 @@ use Rattle.ule_types.specs.Commands.{is_among}
 use Rattle.ule_types.specs.Rules.{is_distinct, declared_ids}
 use Rattle.ule_types.specs.declared.setup.Setup.{Setup}
 use Rattle.ule_types.specs.declared.setup.ThreadSpec.{ThreadSpec}
-use Rattle.ule_model.specs.CpuValue.{CpuValue, StandsFor, thread_in, value_laid}
+use Rattle.ule_model.specs.CpuValue.{CpuValue, thread_in, value_laid}
 use Rattle.ule_model.specs.Insertion.{Insertion, Ordinary, with_queued, queued, place_of_insertion, order_of_insertion}
-use Rattle.ule_model.specs.Places.{is_on}
-use Rattle.ule_model.specs.Shows.{ShowsQueue, IsWellMade, by_order}
-use Rattle.ule_model.specs.Start.{base_of, record_of, unborn_member, laid_on, laid, stepped_word, first_balance_word, balance_count, first_line, empty_world}
+use Rattle.ule_model.specs.Shows.{ShowsQueue, by_order}
+use Rattle.ule_model.specs.Start.{base_of, record_of, unborn_member, laid_on, laid, first_balance_word, balance_count, first_line, empty_world}
 use Rattle.ule_model.specs.World.{Member, Side, World, is_thread, thread_of, moved_to, fresh_line, side_of, with_side}
 use Rattle.ule_model.specs.WorldValue.{WorldValue, IsPart, IsOnOne, Shows}
 use Rattle.ule_model.proofs.CpuLaws.{IsJoined, laid_stands}
@@ -46,7 +44,7 @@ pub record IsEmptyCpu (s : Setup) (c : ℕ) (v : CpuValue) : Type 0 where
   pub balance_word : v.balance_word ≡ (if c == 0 then first_balance_word s.jitter else (s.jitter + 16) % 2 ^ 32)
 
 -- 64 empty lists are the queue of a CPU of a world without threads
-empty_queue : (lists : List (List ℕ)) (c : ℕ) (k : Kind) → lists ≡ replicate 64 [] → ShowsQueue lists c k []
+pub empty_queue : (lists : List (List ℕ)) (c : ℕ) (k : Kind) → lists ≡ replicate 64 [] → ShowsQueue lists c k []
 unfolding by_order
 empty_queue lists c k is = record {
   buckets = ap (λ (q : List (List ℕ)). length q) is ∙ length-replicate {A = List ℕ} 64 [];
@@ -68,7 +66,7 @@ empty_line s c within =
     (cases_eq c 0)
 
 -- such a CPU is that of the empty world
-empty_part : (s : Setup) (c : ℕ) (u : CpuValue) → c < s.cpus → IsEmptyCpu s c u → IsPart (empty_world s) c u
+pub empty_part : (s : Setup) (c : ℕ) (u : CpuValue) → c < s.cpus → IsEmptyCpu s c u → IsPart (empty_world s) c u
 empty_part s c u within empty = record {
   cpu = empty.cpu;
   stands = record {
@@ -102,7 +100,7 @@ empty_shows s v settings count each = record {
 -- ---- the threads after one is laid
 
 -- a move of one thread leaves what every other number finds
-thread_of-moved_other : (u t : ℕ) (place : Place) (order : ℤ) (ms : List Member) → u ≢ t → thread_of u (moved_to t place order ms) ≡ thread_of u ms
+pub thread_of-moved_other : (u t : ℕ) (place : Place) (order : ℤ) (ms : List Member) → u ≢ t → thread_of u (moved_to t place order ms) ≡ thread_of u ms
 thread_of-moved_other u t place order [] apart = refl
 thread_of-moved_other u t place order (m ∷ ms) apart = split (is_thread t m) refl (thread_of-moved_other u t place order ms apart)
   where
@@ -116,7 +114,7 @@ thread_of-moved_other u t place order (m ∷ ms) apart = split (is_thread t m) r
     split false is rest = ap (λ (o : Option Member). if is_thread u m then Some m else o) rest
 
 -- and so does an insertion
-thread_of-queued_other : (how : Insertion) (c u t : ℕ) (s : Side) → u ≢ t → thread_of u (queued how c t s).members ≡ thread_of u s.members
+pub thread_of-queued_other : (how : Insertion) (c u t : ℕ) (s : Side) → u ≢ t → thread_of u (queued how c t s).members ≡ thread_of u s.members
 thread_of-queued_other how c u t s apart = split (thread_of t s.members) refl
   where
     split : (o : Option Member) → thread_of t s.members ≡ o → thread_of u (with_queued how c o s).members ≡ thread_of u s.members
@@ -149,7 +147,7 @@ laid_new c r s new =
     more = record s { members = s.members ++ unborn_member r ∷ [] }
 
 -- each thread is on one of the CPUs still
-laid_places : (count c : ℕ) (r : ThreadRecord) (s : Side) → c < count → thread_of r.id s.members ≡ None → ((t : ℕ) → IfSome (thread_of t s.members) (IsOnOne count)) → (t : ℕ) → IfSome (thread_of t (laid_on c r s).members) (IsOnOne count)
+pub laid_places : (count c : ℕ) (r : ThreadRecord) (s : Side) → c < count → thread_of r.id s.members ≡ None → ((t : ℕ) → IfSome (thread_of t s.members) (IsOnOne count)) → (t : ℕ) → IfSome (thread_of t (laid_on c r s).members) (IsOnOne count)
 laid_places count c r s within new old t =
     ⊎_elim
     (λ (same : t ≡ r.id).
@@ -160,7 +158,7 @@ laid_places count c r s within new old t =
 -- ---- a thread is laid
 
 -- on its CPU and in the world
-laid_event : (v : WorldValue) (w : World) (c : ℕ) (r : ThreadRecord) (u : CpuValue) → Shows v w → c < length v.cpus → IsPart w c u → thread_of r.id w.members ≡ None → r.id < 256 → r.priority < 256 →
+pub laid_event : (v : WorldValue) (w : World) (c : ℕ) (r : ThreadRecord) (u : CpuValue) → Shows v w → c < length v.cpus → IsPart w c u → thread_of r.id w.members ≡ None → r.id < 256 → r.priority < 256 →
     IsEvent v w c (value_laid r u) (laid_on c r (side_of c w))
 laid_event v w c r u shows within part new number priority =
     let joined : IsJoined (record u { threads = slice_set u.threads r.id (Some r) }) (value_laid r u) (laid_on c r (side_of c w)) =
@@ -204,7 +202,7 @@ declared_distinct (x ∷ xs) unborn all =
     front (u ∷ us) none = let parts = or_parts (u == x.id) (is_among (us ++ unborn) x.id) none in or_from (u == x.id) (is_among us x.id) parts.0 (front us parts.1)
 
 -- a number that isn't among some differs from each
-differs_among : (t : ℕ) (specs : List ThreadSpec) (k : ℕ) (spec : ThreadSpec) → is_among (map (λ x. x.id) specs) t ≡ false → slice_get specs k ≡ Some spec → spec.id ≢ t
+pub differs_among : (t : ℕ) (specs : List ThreadSpec) (k : ℕ) (spec : ThreadSpec) → is_among (map (λ x. x.id) specs) t ≡ false → slice_get specs k ≡ Some spec → spec.id ≢ t
 differs_among t [] k spec none found = absurd (none-some spec found)
 differs_among t (x ∷ xs) zero spec none found =
     subst (λ (y : ThreadSpec). y.id ≢ t) (same_Some x spec found) (eqb-false x.id t (or_parts (x.id == t) (is_among (map (λ y. y.id) xs) t) none).0)

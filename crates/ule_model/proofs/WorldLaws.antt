@@ -1,13 +1,11 @@
 -- A step of the whole scheduler is that of the world that it shows.
-use Rattle.std.proofs.Common.{◌≡◌, ◌≢◌, ℕ, zero, suc, ◌<◌, ◌≤◌, List, [], ◌∷◌, length, get_or, Option, Some, None, inl, inr, ⊎_elim, refl, sym, ◌∙◌, ap, subst, arith, length-set}
+use Rattle.std.proofs.Common.{◌≡◌, ◌≢◌, ℕ, zero, suc, ◌<◌, ◌≤◌, List, [], ◌∷◌, length, get_or, Option, Some, None, ⊎_elim, refl, sym, ◌∙◌, ap, subst, arith, length-set}
 use Rattle.std.specs.Prelude.{IfSome, slice_get, slice_set}
 use Rattle.std.specs.Option.{option_map}
 use Rattle.std.proofs.lemmas.Bool.{cases_eq}
 use Rattle.std.proofs.lemmas.Option.{IfSome_then, slice_get_cases}
-use Rattle.ule_score.specs.declared.place.Place.{Place}
 use Rattle.ule_score.specs.declared.record.Why.{Why}
 use Rattle.ule_types.specs.declared.event.Event.TheVariants.{Switch}
-use Rattle.ule_types.specs.declared.event.Reply.{Reply}
 use Rattle.ule_model.specs.CpuValue.{CpuValue, StandsFor, value_switched}
 use Rattle.ule_model.specs.Places.{is_on}
 use Rattle.ule_model.specs.Shows.{IsWellMade}
@@ -16,7 +14,7 @@ use Rattle.ule_model.specs.Switch.{switched}
 use Rattle.ule_model.specs.World.{Member, Side, World, side_of, with_side, thread_of}
 use Rattle.ule_model.specs.WorldValue.{WorldValue, IsPart, IsOnOne, Shows, Steps, on_cpu, value_step}
 use Rattle.ule_model.proofs.CpuLaws.{AreSwitched, switched_stands, switched_index}
-use Rattle.ule_model.proofs.Elsewhere.{IsMoved, Stays, AllStay, IsOn, IsSideOn, thread_of-stay, switched_moves, switched_elsewhere, side_own}
+use Rattle.ule_model.proofs.Elsewhere.{IsMoved, Stays, IsOn, IsSideOn, thread_of-stay, switched_moves, switched_elsewhere, side_own}
 
 -- ---- an element put for another
 
@@ -78,7 +76,7 @@ event_shows v w c u s shows within event = record {
 -- ---- the switch
 
 -- a thread that stays or moves on a CPU is on one of the CPUs still
-on_one_stays : (count c : ℕ) → c < count → (m n : Member) → Stays (IsOn c) m n → IsOnOne count m → IsOnOne count n
+pub on_one_stays : (count c : ℕ) → c < count → (m n : Member) → Stays (IsOn c) m n → IsOnOne count m → IsOnOne count n
 on_one_stays count c within m n stays on =
     ⊎_elim
     (λ (same : n ≡ m). record { cpu = on.cpu; within = on.within; on = ap (λ (x : Member). is_on on.cpu x.place) same ∙ on.on })
@@ -101,7 +99,7 @@ cpu_at v w c shows within =
     (slice_get_cases v.cpus c).1
 
 -- a switch of one CPU
-switch_event : (v : WorldValue) (w : World) (c : ℕ) (why : Why) (now : ℕ) (u : CpuValue) → Shows v w → c < length v.cpus → IsPart w c u →
+pub switch_event : (v : WorldValue) (w : World) (c : ℕ) (why : Why) (now : ℕ) (u : CpuValue) → Shows v w → c < length v.cpus → IsPart w c u →
     IsEvent v w c (value_switched why now u).0 (switched c why now (side_of c w)).0 × ((value_switched why now u).1 ≡ (switched c why now (side_of c w)).1)
 switch_event v w c why now u shows within part =
     let moves : IsSideOn c (side_of c w) (switched c why now (side_of c w)).0 = switched_moves c why now (side_of c w) shows.made in
