@@ -1,6 +1,63 @@
-//! TODO
+//! Where a program's bytes come from and go to: a source to read, a sink to write, in memory and
+//! over the standard streams, and the two calls that read all and write all.
 #![tactic(auto)]
 
-/// There was no memory.
+mod mem;
+mod reading;
+mod standard;
+mod writing;
+
+ghost use Rattle.std.specs.Prelude.{◌≡◌, IfOk, OnOk, OnErr};
+
+pub use mem::{MemSink, MemSource};
+pub use reading::{Bytes, ReadAllFault, read_all};
+pub use standard::{StdSink, StdSource};
+use std::alloc::AllocError;
+pub use writing::{WriteFault, write_all};
+
+/// A read, a write or a flush failed. The count of faults of the stream says that it did.
+#[derive(Clone, Copy, Debug, PartialEq, Eq)]
+pub struct Failed;
+
+/// Memory ran out.
 #[derive(Clone, Copy, Debug, PartialEq, Eq)]
 pub struct Memory;
+
+impl From<AllocError> for Memory {
+    fn from(_: AllocError) -> Memory {
+        Memory
+    }
+}
+
+/// Where bytes come from. It may tell which bytes are left, and counts its faults.
+pub trait Source {
+    ghost use Rattle.ule_io.specs.Source.{SourceState, Reads, ReadFails};
+
+    /// What the source tells: the bytes that are left, where it tells them, and its faults.
+    ghost state: { Self → SourceState };
+
+    /// Reads some bytes into the front of `buf` and says how many. 0 bytes for a nonempty `buf`
+    /// mean the end of the input.
+    fn read(&mut self, buf: &mut [u8]) -> Result<usize, Failed>
+        ensures ok { IfOk result (Reads (state self.old) (state self.new) buf.new) }
+        ensures failed { OnErr result (ReadFails (state self.old) (state self.new)) };
+}
+
+/// Where bytes go. It may tell which bytes it has taken, and counts its faults and its empty takes.
+pub trait Sink {
+    ghost use Rattle.ule_io.specs.Sink.{SinkState, Takes, WriteFails};
+
+    /// What the sink tells: the bytes that it has taken, where it tells them, its faults, and how
+    /// often it took nothing of a nonempty piece.
+    ghost state: { Self → SinkState };
+
+    /// Takes a front of `piece` and says how many bytes that is.
+    fn write(&mut self, piece: &[u8]) -> Result<usize, Failed>
+        ensures ok { IfOk result (Takes (state self.old) (state self.new) piece.now) }
+        ensures failed { OnErr result (WriteFails (state self.old) (state self.new)) };
+
+    /// Hands on what the sink still holds back.
+    fn flush(&mut self) -> Result<(), Failed>
+        ensures ok { OnOk result (state self.new ≡ state self.old) }
+        ensures failed { OnErr result (WriteFails (state self.old) (state self.new)) };
+}

@@ -1,0 +1,67 @@
+// Reading a source to its end.
+ghost use Rattle.std.specs.Prelude.{◌≡◌, ℕ, List, ◌<◌, ◌++◌, length, take, IfOk, OnErr, OnOk};
+ghost use Rattle.ule_io.specs.Source.{ReadAll};
+
+use crate::{Failed, Source};
+use std::alloc::Global;
+use std::marker::Model;
+use thiserror::Error;
+
+/// Why a source was not read to its end.
+#[derive(Clone, Copy, Debug, PartialEq, Eq, Error)]
+pub enum ReadAllFault {
+    /// A read failed.
+    #[error("a read failed")]
+    ReadFault,
+    /// More bytes came than the limit allows.
+    #[error("the input is too long")]
+    TooLong,
+    /// Memory ran out.
+    #[error("out of memory")]
+    Memory,
+}
+
+/// The bytes of a whole input.
+#[derive(Drop)]
+pub struct Bytes {
+    bytes: Vec<u8>,
+}
+
+impl Model for Bytes {
+    ghost Value = { List ℕ };
+
+    ghost view = { λ b. b.bytes.items };
+}
+
+impl Bytes {
+    pub fn as_slice(&self) -> &[u8]
+        ensures { result.now ≡ self.now }
+    {
+        &self.bytes
+    }
+}
+
+// The most that one read takes, in bytes.
+const PIECE: usize = 8192;
+
+/// Reads the source to its end, which may be at most `limit` bytes away. It never takes more than
+/// `limit + 1` bytes.
+pub fn read_all<S: Source>(alloc: Global, src: &mut S, limit: usize) -> Result<Bytes, ReadAllFault>
+    ensures { ReadAll (S.state src.old) (S.state src.new) limit result }
+{
+    let mut bytes = Vec::new(alloc);
+    let mut piece = [0; PIECE];
+    while bytes.len() <= limit {
+        let most = (limit - bytes.len()).min(PIECE - 1) + 1;
+        match src.read(&mut piece[..most]) {
+            Err(Failed) => return Err(ReadAllFault::ReadFault),
+            Ok(0) => return Ok(Bytes { bytes }),
+            Ok(n) => {
+                if bytes.extend_from_slice(&piece[..n]).is_err() {
+                    return Err(ReadAllFault::Memory);
+                }
+            }
+        }
+    }
+    Err(ReadAllFault::TooLong)
+}
