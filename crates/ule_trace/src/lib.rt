@@ -12,5 +12,7 @@ mod finals;
 mod held;
 mod place;
 mod reply;
+#[cfg(test)]
+mod tests;
 mod trace;
 mod word;
