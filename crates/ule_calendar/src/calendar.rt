@@ -71,8 +71,8 @@ impl Calendar {
         requires absent { times self.old.lists t ≡ 0 }
         ensures bucket { result ≡ calendar_bucket self.old.idx self.old.ridx p }
         ensures filed { self.new ≡ with_ordinary self.old t p }
+        ensures calendar { IsCalendar self.new }
     {
-        let _number = t.0; // so that it is known to be below 256
         let bucket = ordinary_bucket(self.idx, self.ridx, p);
         self.lists.push_tail(bucket, t);
         bucket
@@ -85,8 +85,8 @@ impl Calendar {
         requires { times self.old.lists t ≡ 0 }
         ensures bucket { result ≡ self.old.ridx }
         ensures filed { self.new ≡ with_next self.old t head }
+        ensures calendar { IsCalendar self.new }
     {
-        let _number = t.0; // so that it is known to be below 256
         if head {
             self.lists.push_head(self.ridx, t);
         } else {
@@ -102,6 +102,7 @@ impl Calendar {
         requires { times self.old.lists t ≡ 1 }
         ensures bucket { bucket_in self.old.lists t ≡ Some result }
         ensures rest { self.new ≡ after_removal self.old t }
+        ensures calendar { IsCalendar self.new }
     {
         let bucket = self.lists.remove(t);
         if self.idx != self.ridx && self.lists.is_empty_bucket(self.ridx) {

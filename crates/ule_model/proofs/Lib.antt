@@ -1,0 +1,11 @@
+pub mod Membership
+pub mod PlaceLaws
+pub mod Within
+pub mod Threads
+pub mod Orders
+pub mod Buckets
+pub mod WellMade
+pub mod Rising
+pub mod ChoiceLaws
+pub mod Positions
+pub mod ChoosingLaws

@@ -11,3 +11,4 @@ pub mod Rounds
 pub mod Finals
 pub mod Shows
 pub mod CpuValue
+pub mod Legal

@@ -64,7 +64,7 @@ impl Bucket {
         requires { length self.old < 256 }
         ensures { self.new ≡ t ∷ self.old }
     {
-        self.threads.push_reserved(t);
+        self.push_tail(t);
         self.threads.rotate_right(1);
     }
 

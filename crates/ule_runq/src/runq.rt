@@ -43,7 +43,9 @@ impl Runq {
     pub fn push_tail(&mut self, b: u8, t: ThreadId)
         requires bucket { b < RQ_NQS }
         requires absent { times self.old t ≡ 0 }
-        ensures { self.new ≡ with_tail self.old b t }
+        ensures filed { self.new ≡ with_tail self.old b t }
+        ensures whole { IsRunq self.new }
+        ensures number { t < 256 }
     {
         let _number = t.0; // so that it is known to be below 256
         let bucket = &mut self.buckets[usize::from(b)];
@@ -54,7 +56,9 @@ impl Runq {
     pub fn push_head(&mut self, b: u8, t: ThreadId)
         requires bucket { b < RQ_NQS }
         requires absent { times self.old t ≡ 0 }
-        ensures { self.new ≡ with_head self.old b t }
+        ensures filed { self.new ≡ with_head self.old b t }
+        ensures whole { IsRunq self.new }
+        ensures number { t < 256 }
     {
         let _number = t.0; // so that it is known to be below 256
         let bucket = &mut self.buckets[usize::from(b)];
@@ -66,6 +70,7 @@ impl Runq {
         requires { times self.old t ≡ 1 }
         ensures bucket { bucket_in self.old t ≡ Some result }
         ensures rest { self.new ≡ without t self.old }
+        ensures whole { IsRunq self.new }
     {
         let (b, position) = self.find(t).unwrap();
         let bucket = &mut self.buckets[usize::from(b)];
@@ -81,6 +86,7 @@ impl Runq {
         ensures none { IsNone result ↔ All (λ xs. xs ≡ []) self.now }
         ensures found { IfSome result (λ p. times self.now p.1 ≡ 1) }
         ensures nearest { IfSome result (λ p. IsFirstFrom self.now b p.0 p.1) }
+        ensures whole { IsRunq self.now }
     {
         for step in 0..RQ_NQS {
             let bucket = (b + step) % RQ_NQS;

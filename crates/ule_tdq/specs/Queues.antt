@@ -3,7 +3,8 @@ use Rattle.std.specs.Prelude.{◌≡◌, ℕ, ◌+◌, ◌/◌, false, true, Lis
 use Rattle.std.specs.Option.{option_map}
 use Rattle.ule_calendar.specs.Calendar.{Dial, with_ordinary, with_next, after_removal}
 use Rattle.ule_model.specs.CpuValue.{with_inserted, in_kind, first_of}
-use Rattle.ule_model.specs.Insertion.{Insertion, Ordinary, Borrowing, Preempted}
+use Rattle.ule_model.specs.declared.insertion.Insertion.{Insertion}
+use Rattle.ule_model.specs.declared.insertion.Insertion.TheVariants.{Ordinary, Borrowing, Preempted}
 use Rattle.ule_prio.specs.Kind.{kind_at}
 use Rattle.ule_prio.specs.declared.kind.Kind.{Kind}
 use Rattle.ule_prio.specs.declared.kind.Kind.TheVariants.{Real, Batch, Idle}

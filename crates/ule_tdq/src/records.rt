@@ -1,8 +1,9 @@
 ghost use Rattle.std.specs.Prelude.{◌≡◌, ◌≤◌, ◌<◌, ◌^◌};
-ghost use Rattle.ule_model.specs.Switch.{after_running, before_running, is_preemption, is_unasked};
+ghost use Rattle.ule_model.specs.Switch.{after_running, before_running, insertion_of, is_preemption, is_unasked};
 ghost use Rattle.ule_score.specs.Bounds.{KeepsBounds};
 
 use ule_history::update_use;
+use ule_model::Insertion;
 use ule_score::{ThreadRecord, Why};
 
 /// A record whose thread has just left the processor.
@@ -53,5 +54,16 @@ pub fn is_unasked(why: Why, resched: bool) -> bool
     match why {
         Why::Yield => false,
         Why::Resched => !resched,
+    }
+}
+
+/// How a thread that gives way is queued: it keeps its turn where it was preempted.
+pub fn insertion_of(preempted: bool) -> Insertion
+    ensures { result ≡ insertion_of preempted }
+{
+    if preempted {
+        Insertion::Preempted
+    } else {
+        Insertion::Ordinary
     }
 }

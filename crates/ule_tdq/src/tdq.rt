@@ -6,7 +6,7 @@ ghost use Rattle.ule_tdq.specs.Cpu.{IsNoEarlier};
 ghost use Rattle.ule_tdq.specs.Replies.{reply_of};
 
 use crate::queues::Queues;
-use crate::records::{after_running, before_running, is_preemption, is_unasked};
+use crate::records::{after_running, before_running, insertion_of, is_preemption, is_unasked};
 use crate::threads::Threads;
 use std::alloc::{AllocError, Global};
 use std::marker::Model;
@@ -130,8 +130,10 @@ impl Tdq {
         requires bounds { KeepsBounds r }
         ensures { self.new ≡ value_laid r self.old }
     {
-        self.threads.put(r.id, Some(r));
-        self.queues.insert(Insertion::Ordinary, r.priority, r.id);
+        let t = r.id;
+        let priority = r.priority;
+        self.threads.put(t, Some(r));
+        self.queues.insert(Insertion::Ordinary, priority, t);
     }
 
     /// The current thread, after `tdq_curthread`.
@@ -178,16 +180,12 @@ impl Tdq {
         requires current { self.old.current ≡ Some t }
         ensures { self.new ≡ with_given_way preempted now t self.old }
     {
-        let record = after_running(self.threads.get(t).unwrap(), now);
-        self.threads.put(t, Some(record));
+        let left = after_running(self.threads.get(t).unwrap(), now);
+        let priority = left.priority;
+        self.threads.put(t, Some(left));
         self.current = None;
         self.switches = self.switches.saturating_add(1);
-        let how = if preempted {
-            Insertion::Preempted
-        } else {
-            Insertion::Ordinary
-        };
-        self.queues.insert(how, record.priority, t);
+        self.queues.insert(insertion_of(preempted), priority, t);
     }
 
     /// Runs the thread whose turn comes first, after `choosethread`.
@@ -201,8 +199,8 @@ impl Tdq {
     {
         let (kind, t) = self.queues.first()?;
         self.queues.remove(kind, t);
-        let record = before_running(self.threads.get(t).unwrap(), now);
-        self.threads.put(t, Some(record));
+        let runs = before_running(self.threads.get(t).unwrap(), now);
+        self.threads.put(t, Some(runs));
         self.current = Some(t);
         Some(t)
     }

@@ -1,4 +1,4 @@
-ghost use Rattle.std.specs.Prelude.{◌≡◌, ◌<◌, None, replicate, slice_index_or, slice_set, IfOk};
+ghost use Rattle.std.specs.Prelude.{◌≡◌, ℕ, None, length, vec_len, slice_index_or, slice_set, IfOk};
 
 use std::alloc::{AllocError, Global};
 use std::marker::Model;
@@ -25,15 +25,32 @@ impl Model for Threads {
     ghost invariant = { λ s. vec_len s.records ≡ 256 };
 }
 
+/// So many copies of a value.
+fn repeated<T: Copy>(alloc: Global, x: T, count: usize) -> Result<Vec<T>, AllocError>
+    ensures len { IfOk result (λ v. vec_len v ≡ count) }
+    ensures each { IfOk result (λ v. (k : ℕ) → slice_index_or v.items k x ≡ x) }
+{
+    let mut copies = Vec::new(alloc);
+    for _copy in 0..count {
+        copies.push(x)?;
+    }
+    Ok(copies)
+}
+
+/// No record.
+fn absent() -> Option<ThreadRecord>
+    ensures { result ≡ None }
+{
+    None
+}
+
 impl Threads {
     /// No records, with room for all.
     pub fn none(alloc: Global) -> Result<Threads, AllocError>
-        ensures { IfOk result (λ s. s ≡ replicate 256 None) }
+        ensures slots { IfOk result (λ s. length s ≡ 256) }
+        ensures none { IfOk result (λ s. (t : ℕ) → slice_index_or s t None ≡ None) }
     {
-        let mut records = Vec::with_capacity(alloc, THREADS)?;
-        for _thread in 0..THREADS {
-            records.push(None)?;
-        }
+        let records = repeated(alloc, absent(), THREADS)?;
         Ok(Threads { records })
     }
 
@@ -45,9 +62,9 @@ impl Threads {
     }
 
     /// Keeps this record for a thread.
-    pub fn put(&mut self, t: ThreadId, record: Option<ThreadRecord>)
-        ensures { self.new ≡ slice_set self.old t record }
+    pub fn put(&mut self, t: ThreadId, kept: Option<ThreadRecord>)
+        ensures { self.new ≡ slice_set self.old t kept }
     {
-        self.records[usize::from(t.0)] = record;
+        self.records[usize::from(t.0)] = kept;
     }
 }

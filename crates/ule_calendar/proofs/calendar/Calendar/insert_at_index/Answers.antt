@@ -11,6 +11,6 @@ invariant_of-self c =
     let absent : times d.lists c.args.t ≡ 0 = ap (λ (e : Dial). times e.lists c.args.t) c.self.view_is ∙ c.requires in
     let k = c.self.invariant in
     elim c.if-head.branch [
-      | then-head w ↦ rw (w.self-inside-is, w.push_head.ensures) (IsCalendar-with_head d d.ridx c.args.t k k.ridx (omega arith) absent)
-      | else-head w ↦ rw (w.self-inside-is, w.push_tail.ensures) (IsCalendar-with_tail d d.ridx c.args.t k k.ridx (omega arith) absent)
+      | then-head w ↦ rw (w.self-inside-is, w.push_head.ensures.filed) (IsCalendar-with_head d d.ridx c.args.t k k.ridx (omega arith) absent)
+      | else-head w ↦ rw (w.self-inside-is, w.push_tail.ensures.filed) (IsCalendar-with_tail d d.ridx c.args.t k k.ridx (omega arith) absent)
     ]

@@ -23,3 +23,9 @@ pub returns-clause-rest : goal.returns-clause-rest
 returns-clause-rest c =
     removed_written _ c.args.t c.unwrap-b.result.0 c.unwrap-b.result.1 _ _ _ _ c.self.invariant (ap (λ q. place_in q c.args.t) c.self.view_is ∙ sym c.find.ensures.value ∙ c.unwrap-b.ensures) c.from.ensures c.from-2.ensures c.index_mut-bucket.ensures.value c.remove.ensures
     ∙ ap (without c.args.t) c.self.view_is
+
+pub returns-clause-whole : goal.returns-clause-whole
+returns-clause-whole c =
+    subst IsRunq
+    (sym (removed_written _ c.args.t c.unwrap-b.result.0 c.unwrap-b.result.1 _ _ _ _ c.self.invariant (ap (λ q. place_in q c.args.t) c.self.view_is ∙ sym c.find.ensures.value ∙ c.unwrap-b.ensures) c.from.ensures c.from-2.ensures c.index_mut-bucket.ensures.value c.remove.ensures))
+    (IsRunq-without c.args.t _ c.self.invariant)
