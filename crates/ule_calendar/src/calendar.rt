@@ -6,8 +6,9 @@ ghost use Rattle.ule_runq.specs.Runq.{times, bucket_in, first_from};
 ghost use Rattle.ule_model.specs.CalendarIndexes.{calendar_bucket, distance_of};
 ghost use Rattle.ule_calendar.specs.Calendar.{with_ordinary, with_next, after_removal, turned, IsCalendar};
 
-use std::alloc::{AllocError, Global};
+use std::alloc::Global;
 use std::marker::Model;
+use ule_io::Memory;
 use ule_prio::{Priority, ThreadId};
 use ule_runq::Runq;
 
@@ -52,7 +53,7 @@ impl Model for Calendar {
 
 impl Calendar {
     /// An empty calendar, after `tdq_setup`. It takes all the memory that it ever needs.
-    pub fn empty(alloc: Global) -> Result<Calendar, AllocError>
+    pub fn empty(alloc: Global) -> Result<Calendar, Memory>
         ensures { IfOk result (λ c. c ≡ record { lists = replicate 64 []; idx = 0; ridx = 0 }) }
     {
         Ok(Calendar {

@@ -10,8 +10,9 @@ ghost use Rattle.ule_tdq.specs.Replies.{reply_of};
 use crate::queues::Queues;
 use crate::records::{after_running, before_running, insertion_of, is_preemption, is_unasked};
 use crate::threads::Threads;
-use std::alloc::{AllocError, Global};
+use std::alloc::Global;
 use std::marker::Model;
+use ule_io::Memory;
 use ule_model::Insertion;
 use ule_prio::{Cpu, Kind, ThreadId};
 use ule_score::{CpuLine, Place, Settings, ThreadRecord, Why};
@@ -105,7 +106,7 @@ impl Tdq {
         cpu: Cpu,
         s: &Settings,
         balance_word: u32,
-    ) -> Result<Tdq, AllocError>
+    ) -> Result<Tdq, Memory>
         requires { IsTrue (are_settings s.now) }
         ensures { IfOk result (λ d. StartsAs d cpu s.now balance_word) }
     {
