@@ -9,3 +9,5 @@ pub mod Rising
 pub mod ChoiceLaws
 pub mod Positions
 pub mod ChoosingLaws
+pub mod Histories
+pub mod Courses

@@ -12,3 +12,4 @@ pub mod Finals
 pub mod Shows
 pub mod CpuValue
 pub mod Legal
+pub mod History
