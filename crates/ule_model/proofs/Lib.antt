@@ -11,3 +11,5 @@ pub mod Positions
 pub mod ChoosingLaws
 pub mod Histories
 pub mod Courses
+pub mod RoundsLaws
+pub mod LegalLaws
