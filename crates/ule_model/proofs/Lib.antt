@@ -13,3 +13,5 @@ pub mod Histories
 pub mod Courses
 pub mod RoundsLaws
 pub mod LegalLaws
+pub mod YieldRounds
+pub mod HistoryLaws
