@@ -1,5 +1,5 @@
 -- Courses: how a worker's entries go on, and how its items run out.
-use Rattle.std.proofs.Common.{◌≡◌, ℕ, ◌+◌, ◌≤◌, ◌&&◌, Bool, true, false, List, [], ◌∷◌, ◌++◌, length, sum_by, Option, Some, None, refl, ap, subst, arith}
+use Rattle.std.proofs.Common.{◌≡◌, ℕ, ◌+◌, ◌≤◌, Bool, true, false, List, [], ◌∷◌, ◌++◌, length, sum_by, Option, Some, None, refl, subst, arith}
 use Rattle.std.specs.List.{list_all}
 use Rattle.std.proofs.lemmas.Bool.{and_parts, false≢true}
 use Rattle.std.proofs.lemmas.List.Sums.{sum_by-cons}
@@ -52,7 +52,8 @@ pub items_within : (worker cpus : ℕ) (c : Command) → length (items_of worker
 items_within worker cpus Yield = omega arith
 items_within worker cpus _ = omega arith
 
-left_in : (cpus worker : ℕ) (script : List Command) (todo : List Item) (last : Option (Reply × ℕ)) (i : Item) (after : Course) → next_in script (record { worker = worker; todo = todo }) last ≡ Some (i, after) → left_of cpus after + 1 ≤ length todo + sum_by (λ c. greatest_of c worker cpus) script
+-- each step within a script leaves fewer items
+pub left_in : (cpus worker : ℕ) (script : List Command) (todo : List Item) (last : Option (Reply × ℕ)) (i : Item) (after : Course) → next_in script (record { worker = worker; todo = todo }) last ≡ Some (i, after) → left_of cpus after + 1 ≤ length todo + sum_by (λ c. greatest_of c worker cpus) script
 unfolding next_in
 left_in cpus worker [] [] last i after next = absurd (none-some (i, after) next)
 left_in cpus worker [] (j ∷ is) last i after next =
@@ -81,11 +82,12 @@ pub record IsYielding (course : Course) : Type 0 where
   pub todo : list_all is_switch course.progress.todo ≡ true
 
 -- the items of a yield are switches
-switches_of_yield : (worker : ℕ) (c : Command) → is_yield c ≡ true → list_all is_switch (items_of worker c) ≡ true
+pub switches_of_yield : (worker : ℕ) (c : Command) → is_yield c ≡ true → list_all is_switch (items_of worker c) ≡ true
 switches_of_yield worker Yield is = refl
 switches_of_yield worker _ is = absurd (false≢true is)
 
-yielding_in : (worker : ℕ) (script : List Command) (todo : List Item) (last : Option (Reply × ℕ)) (i : Item) (after : Course) → list_all is_yield script ≡ true → list_all is_switch todo ≡ true → next_in script (record { worker = worker; todo = todo }) last ≡ Some (i, after) → (is_switch i ≡ true) × IsYielding after
+-- the next item within a script of yields is a switch, and a course of yields is left
+pub yielding_in : (worker : ℕ) (script : List Command) (todo : List Item) (last : Option (Reply × ℕ)) (i : Item) (after : Course) → list_all is_yield script ≡ true → list_all is_switch todo ≡ true → next_in script (record { worker = worker; todo = todo }) last ≡ Some (i, after) → (is_switch i ≡ true) × IsYielding after
 unfolding next_in
 yielding_in worker [] [] last i after yields switches next = absurd (none-some (i, after) next)
 yielding_in worker [] (j ∷ is) last i after yields switches next =

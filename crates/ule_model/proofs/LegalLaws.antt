@@ -1,5 +1,5 @@
 -- Each turn keeps a play legal so far, whatever the next item is.
-use Rattle.std.proofs.Common.{◌≡◌, ℕ, ◌+◌, ◌<◌, ◌≤◌, Bool, true, false, List, [], ◌∷◌, ◌++◌, length, slice_get, slice_set, zero, suc, Some, None, if◌then◌else◌, refl, sym, ◌∙◌, ap, subst, ⊎_elim, arith}
+use Rattle.std.proofs.Common.{◌≡◌, ℕ, ◌+◌, ◌<◌, ◌≤◌, Bool, true, false, List, [], ◌∷◌, ◌++◌, length, slice_get, slice_set, zero, suc, Some, if◌then◌else◌, refl, sym, ◌∙◌, ap, subst, ⊎_elim, arith}
 use Rattle.std.specs.List.{AllByRecursion}
 use Rattle.std.proofs.lemmas.Bool.{cases_eq}
 use Rattle.std.proofs.lemmas.List.{length-set}
@@ -9,7 +9,7 @@ use Rattle.ule_types.specs.declared.event.Event.{Event}
 use Rattle.ule_types.specs.declared.event.Item.{Item}
 use Rattle.ule_types.specs.declared.event.Item.TheVariants as item
 use Rattle.ule_types.specs.declared.setup.Setup.{Setup}
-use Rattle.ule_model.specs.Legal.{Follows, stays, IsEntryOf, IsReplayed, IsInTime, Locked, after_entry, entries_of, replayed, with_locks}
+use Rattle.ule_model.specs.Legal.{Follows, stays, IsEntryOf, IsReplayed, IsInTime, after_entry, entries_of, replayed, with_locks}
 use Rattle.ule_model.specs.Program.{Course, next_step}
 use Rattle.ule_model.specs.Rounds.{Play, after_item, entry_of, opening, opening_courses, performed, turn}
 use Rattle.ule_model.specs.Start.{starting_time, world_at_start}
@@ -22,11 +22,13 @@ use Rattle.ule_model.proofs.Within.{all-append, all_along}
 
 -- ---- one course changed among all
 
+-- the element written is the one read there
 pub slice_get-set_same : {X : Type 0} (xs : List X) (i : ℕ) (x v : X) → slice_get xs i ≡ Some x → slice_get (slice_set xs i v) i ≡ Some v
 slice_get-set_same [] i x v got = absurd (none-some x got)
 slice_get-set_same (y ∷ ys) zero x v got = refl
 slice_get-set_same (y ∷ ys) (suc i) x v got = slice_get-set_same ys i x v got
 
+-- any other element is read as before
 pub slice_get-set_other : {X : Type 0} (xs : List X) (i j : ℕ) (v : X) → (j ≡ i → ⊥) → slice_get (slice_set xs i v) j ≡ slice_get xs j
 slice_get-set_other [] i j v other = refl
 slice_get-set_other (y ∷ ys) zero zero v other = absurd (other refl)
@@ -39,9 +41,9 @@ pub each_after_set : {X : Type 0} (Q : ℕ → X → Type 0) (xs : List X) (i : 
 each_after_set Q xs i x v got here others j y found =
     ⊎_elim
     (λ (same : j ≡ i).
-        let at : slice_get (slice_set xs i v) i ≡ Some y = subst (λ k. slice_get (slice_set xs i v) k ≡ Some y) same found in
-        let is : v ≡ y = same_Some v y (sym (slice_get-set_same xs i x v got) ∙ at) in
-        subst (λ k. Q k y) (sym same) (subst (Q i) is here))
+    let at : slice_get (slice_set xs i v) i ≡ Some y = subst (λ k. slice_get (slice_set xs i v) k ≡ Some y) same found in
+    let is : v ≡ y = same_Some v y (sym (slice_get-set_same xs i x v got) ∙ at) in
+    subst (λ k. Q k y) (sym same) (subst (Q i) is here))
     (λ (other : j ≡ i → ⊥). others j y other (sym (slice_get-set_other xs i j v other) ∙ found))
     (cases_eq j i)
 
@@ -111,7 +113,7 @@ legal_performed s p worker e course after legal got next ready thread = record {
   where
     start : World
     start = world_at_start s
-    
+
     x : Entry
     x = entry_of p worker e
 

@@ -1,12 +1,16 @@
 -- The recursion on rounds, and what a turn and the turns of a round come to.
-use Rattle.std.proofs.Common.{◌≡◌, ℕ, zero, suc, ◌+◌, ◌<◌, List, [], ◌∷◌, ◌++◌, length, fold, map-id, slice_get, Option, Some, None, option_and_then, refl, sym, ◌∙◌, ap, subst, arith}
+use Rattle.std.proofs.Common.{◌≡◌, ℕ, zero, suc, ◌+◌, ◌-◌, ◌≤◌, List, [], ◌∷◌, ◌++◌, length, fold, map-id, slice_get, Option, Some, None, option_and_then, refl, sym, ◌∙◌, ap, subst, arith}
 use Rattle.std.specs.List.{range_with_len}
+use Rattle.std.proofs.lemmas.Bool.{cond_both}
+use Rattle.std.proofs.lemmas.List.{length-set}
 use Rattle.std.proofs.lemmas.List.FromFn.{map-range_with_len_more}
 use Rattle.std.proofs.lemmas.List.Sums.{fold_push}
 use Rattle.std.proofs.lemmas.Option.{none-some, same_Some}
 use Rattle.ule_types.specs.declared.event.Item.{Item}
+use Rattle.ule_types.specs.declared.event.Item.TheVariants as item
 use Rattle.ule_model.specs.Program.{Course, next_step}
-use Rattle.ule_model.specs.Rounds.{Play, after_item, after_step, round, rounds, turn}
+use Rattle.ule_model.specs.Rounds.{Play, after_item, after_step, performed, round, rounds, turn}
+use Rattle.ule_model.specs.Step.{is_ready, step}
 
 -- ---- a turn
 
@@ -32,6 +36,18 @@ turn_finished p worker ended =
     turn_cases (λ q. q ≡ p) p worker (λ finished. refl)
     (λ course after i got next. absurd (none-some (i, after) (sym (ended course got) ∙ next)))
 
+-- a turn leaves as many courses as there were
+pub turn_count : (p : Play) (worker : ℕ) → length (turn p worker).courses ≡ length p.courses
+turn_count p worker =
+    turn_cases (λ q. length q.courses ≡ length p.courses) p worker (λ finished. refl)
+    (λ course after i got next. item_count i after)
+  where
+    item_count : (i : Item) (after : Course) → length (after_item worker i after p).courses ≡ length p.courses
+    item_count (item.Advance k) after = length-set p.courses worker after
+    item_count (item.Event e) after =
+        cond_both (is_ready p.world worker e) (performed worker e after p) p (λ q. length q.courses ≡ length p.courses)
+        (λ ready. length-set p.courses worker (record after { last = Some ((step p.world worker e p.now).1, p.now) })) (λ lost. refl)
+
 -- ---- the turns of a round
 
 -- the play after the turns of so many workers
@@ -46,7 +62,8 @@ round_is_turns p = refl
 pub turns_none : (p : Play) → turns 0 p ≡ p
 turns_none p = refl
 
-range_push : (n : ℕ) → range_with_len 0 (n + 1) ≡ range_with_len 0 n ++ n ∷ []
+-- the numbers of one worker more
+pub range_push : (n : ℕ) → range_with_len 0 (n + 1) ≡ range_with_len 0 n ++ n ∷ []
 range_push n =
     sym (map-id (range_with_len 0 (n + 1))) ∙ map-range_with_len_more (λ i. i) 0 n n (omega arith) ∙
     ap (λ ws. ws ++ n ∷ []) (map-id (range_with_len 0 n))
@@ -66,6 +83,11 @@ turns_finished p ended [] = refl
 turns_finished p ended (w ∷ ws) = ap (λ q. fold turn q ws) (turn_finished p w (ended w)) ∙ turns_finished p ended ws
 
 -- ---- rounds
+
+-- a round leaves as many courses as there were
+pub round_count : (p : Play) → length (round p).courses ≡ length p.courses
+round_count p =
+    turns_keep (λ q. length q.courses ≡ length p.courses) (λ q worker same. turn_count q worker ∙ same) (range_with_len 0 (length p.courses)) p refl
 
 -- a round of workers that are at their ends changes nothing
 pub round_finished : (p : Play) → ((worker : ℕ) → IsFinished p worker) → round p ≡ p
@@ -98,6 +120,12 @@ rounds_more n p = rounds_add n 1 p ∙ rounds_suc 0 (rounds n p) ∙ rounds_none
 pub rounds_still : (p : Play) → round p ≡ p → (n : ℕ) → rounds n p ≡ p
 rounds_still p still zero = rounds_none p
 rounds_still p still (suc n) = rounds_suc n p ∙ ap (rounds n) still ∙ rounds_still p still n
+
+-- rounds past one after which a round changes nothing
+pub rounds_past_still : (n k : ℕ) (p : Play) → n ≤ k → round (rounds n p) ≡ rounds n p → rounds k p ≡ rounds n p
+rounds_past_still n k p past still =
+    let sum : k ≡ n + (k - n) = omega arith in
+    ap (λ m. rounds m p) sum ∙ rounds_add n (k - n) p ∙ rounds_still (rounds n p) still (k - n)
 
 -- what each turn keeps, rounds keep
 pub rounds_keep : (I : Play → Type 0) → ((q : Play) (worker : ℕ) → I q → I (turn q worker)) → (n : ℕ) (p : Play) → I p → I (rounds n p)

@@ -1,12 +1,11 @@
 -- Rounds of yields: each of them leaves fewer items, until all workers are at their ends.
-use Rattle.std.proofs.Common.{◌≡◌, ℕ, zero, suc, ◌+◌, ◌<◌, ◌≤◌, ◌⊎◌, List, [], ◌∷◌, ◌++◌, length, get_or, slice_get, sum_by, Some, None, inl, inr, refl, sym, ◌∙◌, ap, subst, ⊎_elim, arith}
+use Rattle.std.proofs.Common.{◌≡◌, ℕ, zero, suc, ◌+◌, ◌<◌, ◌≤◌, ◌⊎◌, length, get_or, slice_get, sum_by, Some, inl, inr, refl, sym, ◌∙◌, ap, subst, ⊎_elim, arith}
 use Rattle.std.specs.List.{range_with_len}
 use Rattle.std.proofs.lemmas.Bool.{cases_lt}
 use Rattle.std.proofs.lemmas.List.{length_push}
 use Rattle.std.proofs.lemmas.List.Sums.{sum_by-set}
 use Rattle.std.proofs.lemmas.Option.{get_or_from_slice_get, none-some, slice_get_past, slice_get_within}
 use Rattle.ule_score.specs.declared.record.Why.{Why}
-use Rattle.ule_types.specs.declared.event.Entry.{Entry}
 use Rattle.ule_types.specs.declared.event.Event.{Event}
 use Rattle.ule_types.specs.declared.event.Event.TheVariants as event
 use Rattle.ule_types.specs.declared.event.Item.{Item}
@@ -61,7 +60,7 @@ pub left_performed : (cpus : ℕ) (p : Play) (worker : ℕ) (e : Event) (course 
 left_performed cpus p worker e course after got next =
     let reached : Course = record after { last = Some ((step p.world worker e p.now).1, p.now) } in
     let whole : all_left cpus (performed worker e after p) + left_of cpus (get_or p.courses worker course) ≡ all_left cpus p + left_of cpus after =
-        sum_by-set (left_of cpus) p.courses worker reached course (slice_get_within p.courses worker course got) in
+    sum_by-set (left_of cpus) p.courses worker reached course (slice_get_within p.courses worker course got) in
     let old : left_of cpus (get_or p.courses worker course) ≡ left_of cpus course = ap (left_of cpus) (get_or_from_slice_get p.courses worker course course got) in
     let falls : left_of cpus after + 1 ≤ left_of cpus course = left_falls cpus course after (item.Event e) next in
     omega arith
@@ -74,7 +73,7 @@ turn_falls cpus p worker yields =
     (λ course after c why got next. inl (left_performed cpus p worker (event.Switch c why) course after got next))
 
 -- a turn leaves no more items than there were
-turn_within : (cpus : ℕ) (p : Play) (worker : ℕ) → AllYield p → all_left cpus (turn p worker) ≤ all_left cpus p
+pub turn_within : (cpus : ℕ) (p : Play) (worker : ℕ) → AllYield p → all_left cpus (turn p worker) ≤ all_left cpus p
 turn_within cpus p worker yields =
     ⊎_elim (λ (less : all_left cpus (turn p worker) + 1 ≤ all_left cpus p). omega arith)
     (λ (same : (turn p worker ≡ p) × IsFinished p worker). let equal : all_left cpus (turn p worker) ≡ all_left cpus p = ap (all_left cpus) same.0 in omega arith)
@@ -85,12 +84,12 @@ pub entries_turn : (cpus most : ℕ) (p : Play) (worker : ℕ) → AllYield p �
 entries_turn cpus most p worker yields within =
     yield_turn_cases (λ q. length q.entries + all_left cpus q ≤ most) p worker yields (λ finished. within)
     (λ course after c why got next.
-        omega (arith, left_performed cpus p worker (event.Switch c why) course after got next, length_push p.entries (entry_of p worker (event.Switch c why))))
+    omega (arith, left_performed cpus p worker (event.Switch c why) course after got next, length_push p.entries (entry_of p worker (event.Switch c why))))
 
 -- ---- a round
 
 -- the turns of so many workers leave fewer items, or change nothing, since those workers are at their ends
-turns_fall : (cpus n : ℕ) (p : Play) → AllYield p → (all_left cpus (turns n p) + 1 ≤ all_left cpus p) ⊎ ((turns n p ≡ p) × ((worker : ℕ) → worker < n → IsFinished p worker))
+pub turns_fall : (cpus n : ℕ) (p : Play) → AllYield p → (all_left cpus (turns n p) + 1 ≤ all_left cpus p) ⊎ ((turns n p ≡ p) × ((worker : ℕ) → worker < n → IsFinished p worker))
 turns_fall cpus zero p yields = inr (refl, λ worker below. absurd (omega arith))
 turns_fall cpus (suc n) p yields =
     subst (λ q. (all_left cpus q + 1 ≤ all_left cpus p) ⊎ ((q ≡ p) × ((worker : ℕ) → worker < suc n → IsFinished p worker))) (sym last)
@@ -109,10 +108,13 @@ turns_fall cpus (suc n) p yields =
         subst (λ q. (all_left cpus (turn q n) + 1 ≤ all_left cpus p) ⊎ ((turn q n ≡ p) × ((worker : ℕ) → worker < suc n → IsFinished p worker))) (sym same.0)
         (⊎_elim (λ (less : all_left cpus (turn p n) + 1 ≤ all_left cpus p). inl less)
         (λ (still : (turn p n ≡ p) × IsFinished p n).
-            inr (still.0, λ worker below.
-                ⊎_elim (λ (under : worker < n). same.1 worker under)
-                (λ (at : n ≤ worker). let is : n ≡ worker = omega arith in subst (IsFinished p) is still.1)
-                (cases_lt worker n)))
+        inr (
+          still.0,
+          λ worker below.
+              ⊎_elim (λ (under : worker < n). same.1 worker under)
+              (λ (at : n ≤ worker). let is : n ≡ worker = omega arith in subst (IsFinished p) is still.1)
+              (cases_lt worker n),
+        ))
         (turn_falls cpus p n yields))
 
 -- a round leaves fewer items, or all workers are at their ends
@@ -120,10 +122,10 @@ pub round_falls : (cpus : ℕ) (p : Play) → AllYield p → (all_left cpus (rou
 round_falls cpus p yields =
     ⊎_elim (λ (less : all_left cpus (turns (length p.courses) p) + 1 ≤ all_left cpus p). inl less)
     (λ (still : (turns (length p.courses) p ≡ p) × ((worker : ℕ) → worker < length p.courses → IsFinished p worker)).
-        inr (λ worker.
-            ⊎_elim (λ (within : worker < length p.courses). still.1 worker within)
-            (λ (past : length p.courses ≤ worker). absent worker past)
-            (cases_lt worker (length p.courses))))
+    inr (λ worker.
+    ⊎_elim (λ (within : worker < length p.courses). still.1 worker within)
+    (λ (past : length p.courses ≤ worker). absent worker past)
+    (cases_lt worker (length p.courses))))
     (turns_fall cpus (length p.courses) p yields)
   where
     absent : (worker : ℕ) → length p.courses ≤ worker → IsFinished p worker
@@ -141,8 +143,8 @@ rounds_finish cpus zero p yields within =
 rounds_finish cpus (suc n) p yields within =
     ⊎_elim
     (λ (less : all_left cpus (round p) + 1 ≤ all_left cpus p).
-        subst (λ q. (worker : ℕ) → IsFinished q worker) (sym (rounds_suc n p))
-        (rounds_finish cpus n (round p) (turns_keep AllYield yields_turn (range_with_len 0 (length p.courses)) p yields) (omega arith)))
+    subst (λ q. (worker : ℕ) → IsFinished q worker) (sym (rounds_suc n p))
+    (rounds_finish cpus n (round p) (turns_keep AllYield yields_turn (range_with_len 0 (length p.courses)) p yields) (omega arith)))
     (λ (ended : (worker : ℕ) → IsFinished p worker).
-        subst (λ q. (worker : ℕ) → IsFinished q worker) (sym (rounds_still p (round_finished p ended) (suc n))) ended)
+    subst (λ q. (worker : ℕ) → IsFinished q worker) (sym (rounds_still p (round_finished p ended) (suc n))) ended)
     (round_falls cpus p yields)
