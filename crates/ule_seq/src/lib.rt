@@ -1,0 +1,10 @@
+//! The sequential scheduler: the world of all CPUs, the programs of its workers, and the play of
+//! a setup in rounds.
+#![tactic(auto)]
+
+pub use program::Program;
+pub use world::{Ready, World};
+
+pub mod program;
+pub mod records;
+pub mod world;
