@@ -43,7 +43,7 @@ abbrev IsOrFollows : ℕ → Member → Member → Type 0
 IsOrFollows ridx m n = (n ≡ m) ⊎ (comes_before (turn_of ridx m) (turn_of ridx n) ≡ true)
 
 -- what each thread keeps, the least keeps
-least_keeps : (P : Member → Type 0) (ridx : ℕ) (ms : List Member) → AllByRecursion P ms → IfSome (least ridx ms) P
+pub least_keeps : (P : Member → Type 0) (ridx : ℕ) (ms : List Member) → AllByRecursion P ms → IfSome (least ridx ms) P
 least_keeps P ridx [] all = tt
 least_keeps P ridx (m ∷ ms) all = step P ridx m (least ridx ms) all.0 (least_keeps P ridx ms all.1)
   where

@@ -210,7 +210,7 @@ running_out c d k Gone runs b = refl
 running_out c d k (Hand h) runs b = refl
 
 -- a place on no CPU is in no bucket
-off_out : (c : ℕ) (k : Kind) (p : Place) → is_on c p ≡ false → IsOut c k p
+pub off_out : (c : ℕ) (k : Kind) (p : Place) → is_on c p ≡ false → IsOut c k p
 off_out c k p off b = false_from_ne_true (waits_in c k b p) (λ here. both_ways (waits_on c p) (or_parts (runs_on c p) (waits_on c p) off).1 (waits_on_where c k b p here))
 
 -- the records of the other threads

@@ -16,3 +16,6 @@ pub mod RoundsLaws
 pub mod LegalLaws
 pub mod YieldRounds
 pub mod HistoryLaws
+pub mod Elsewhere
+pub mod WorldLaws
+pub mod FinalLaws
