@@ -10,3 +10,9 @@ pub mod ChoiceLaws
 pub mod Positions
 pub mod ChoosingLaws
 pub mod CpuLaws
+pub mod Histories
+pub mod Courses
+pub mod RoundsLaws
+pub mod LegalLaws
+pub mod YieldRounds
+pub mod HistoryLaws

@@ -114,6 +114,7 @@ impl Runq {
         ensures value { result ≡ place_in self.now t }
         ensures none { IsNone result ↔ (times self.now t ≡ 0) }
         ensures found { OnSome result (times self.now t ≡ 1) }
+        ensures within { IfSome result (λ at. (at.0 < RQ_NQS) × (at.1 < 256)) }
         ensures whole { IsRunq self.now }
     {
         for b in 0..RQ_NQS {
