@@ -1,12 +1,12 @@
 -- What is left of a trace's text while its lines are spelled one after another.
-use Rattle.std.proofs.Common.{◌≡◌, ℕ, zero, suc, ◌+◌, ◌<◌, ◌≤◌, List, [], ◌∷◌, ◌++◌, length, get_or, drop, map, Option, Some, refl, sym, ap, ◌∙◌, arith}
+use Rattle.std.proofs.Common.{◌≡◌, ℕ, ◌+◌, ◌<◌, ◌≤◌, List, ◌∷◌, ◌++◌, length, get_or, drop, map, Some, refl, ap, ◌∙◌, arith}
 use Rattle.std.specs.Prelude.{slice_get}
 use Rattle.std.proofs.lemmas.List.{drop_more, drop_all}
 use Rattle.std.proofs.lemmas.Option.{slice_get_within, slice_get-get_or}
 use Rattle.ule_score.specs.declared.record.CpuLine.{CpuLine}
 use Rattle.ule_trace.specs.Line.{line_text, lines_text}
 use Rattle.ule_trace.specs.FinalText.{thread_words, cpu_words}
-use Rattle.ule_trace.specs.Trace.{entry_words, entry_lines, cpu_lines, closing_lines, trace_text}
+use Rattle.ule_trace.specs.Trace.{entry_words, entry_lines, cpu_lines, closing_lines}
 use Rattle.ule_types.specs.declared.event.Entry.{Entry}
 use Rattle.ule_types.specs.declared.outcome.ThreadLine.{ThreadLine}
 use Rattle.ule_types.specs.Outcome.{OutcomeValue}

@@ -151,7 +151,8 @@ fn a_fault_leaves_what_was_taken(rt: HostRuntime) -> Result<(), Fail> {
     write_trace(&setup, &o, &mut whole)?;
     let mut out = MemSink::start(rt.alloc(), 1000, 30, &[3])?;
     assert_eq!(rt; write_trace(&setup, &o, &mut out), Err(WriteFault::Failed));
-    assert_eq!(rt; out.bytes(), whole.bytes().split_at(60).0);
+    assert_eq!(rt; out.bytes().len(), 60);
+    assert!(rt; whole.bytes().starts_with(out.bytes()));
     Ok(())
 }
 
@@ -159,7 +160,7 @@ fn a_fault_leaves_what_was_taken(rt: HostRuntime) -> Result<(), Fail> {
 fn a_long_trace_goes_out_in_pieces(rt: HostRuntime) -> Result<(), Fail> {
     let setup = bare_setup(rt.alloc())?;
     let mut o = Outcome::with_room(rt.alloc(), 1000)?;
-    for _entry in 0..1000 {
+    for _entry in 0..1000u32 {
         o.note(yield_entry());
     }
     let mut out = MemSink::start(rt.alloc(), 100000, 100000, &[2])?;
@@ -207,13 +208,18 @@ fn events(rt: HostRuntime) -> Result<(), Fail> {
 
 #[test]
 fn replies(rt: HostRuntime) -> Result<(), Fail> {
-    let (one, two) = (Some(ThreadId(1)), Some(ThreadId(2)));
     let cases = [
-        (Reply::Ticked(one, false, true), "ticked 1 0 1"),
+        (
+            Reply::Ticked(Some(ThreadId(1)), false, true),
+            "ticked 1 0 1",
+        ),
         (Reply::Ticked(None, true, false), "ticked - 1 0"),
         (Reply::Unmarked, "unmarked"),
         (Reply::Nothing, "nothing"),
-        (Reply::Switched(one, two, true), "switched 1 2 1"),
+        (
+            Reply::Switched(Some(ThreadId(1)), Some(ThreadId(2)), true),
+            "switched 1 2 1",
+        ),
         (Reply::Dropped(ThreadId(1), None), "dropped 1 -"),
         (Reply::Bedded, "bedded"),
         (Reply::NotAsleep(Place::Hand(3)), "notasleep h3"),
@@ -233,7 +239,10 @@ fn replies(rt: HostRuntime) -> Result<(), Fail> {
         (Reply::Hatched, "hatched"),
         (Reply::Forked(ThreadId(1), Priority(150)), "forked 1 150"),
         (Reply::Returned, "returned"),
-        (Reply::Exited(ThreadId(1), None, two, 15), "exited 1 - 2 15"),
+        (
+            Reply::Exited(ThreadId(1), None, Some(ThreadId(2)), 15),
+            "exited 1 - 2 15",
+        ),
         (Reply::Buried, "buried"),
         (Reply::ParentGone, "parentgone"),
     ];

@@ -1,13 +1,12 @@
-use Rattle.std.proofs.Common.{◌≡◌, ◌+◌, ◌-◌, ◌<◌, ◌≤◌, [], ◌∷◌, ◌++◌, codes, length, get_or, Some, false, sym, ap, ◌∙◌, refl, arith}
+use Rattle.std.proofs.Common.{◌≡◌, ◌+◌, ◌-◌, ◌<◌, ◌≤◌, [], ◌∷◌, codes, length, get_or, Some, false, sym, ap, ◌∙◌, refl, arith}
 use Rattle.std.specs.Prelude.{slice_get}
 use Rattle.std.proofs.lemmas.List.{append-nil}
 use Rattle.std.proofs.lemmas.Result.{err_from_is_err_and}
 use Rattle.ule_trace.proofs.Progress.{starts, spelled, made_room, failed, finished}
-use Rattle.ule_trace.proofs.Rest.{after_entries, after_threads, after_cpus, entry_next, thread_next, cpu_next, cpus_end}
+use Rattle.ule_trace.proofs.Rest.{after_entries, entry_next, thread_next, cpu_next, cpus_end}
 use Rattle.ule_score.specs.declared.record.CpuLine.{CpuLine}
 use Rattle.ule_trace.specs.Line.{line_text, lines_text}
-use Rattle.ule_trace.specs.FinalText.{thread_words, cpu_words}
-use Rattle.ule_trace.specs.Trace.{entry_words, closing_lines, trace_text}
+use Rattle.ule_trace.specs.Trace.{closing_lines, trace_text}
 use Rattle.ule_trace.proofs.trace.write_trace.Goals as goal
 
 pub loop-k-init : goal.loop-k-init
