@@ -118,7 +118,8 @@ impl Calendar {
     /// the insertion index goes on by one, and the removal index with it if its bucket is empty.
     /// Where they differ, the bucket at the removal index isn't drained yet, and nothing changes.
     pub fn turn(&mut self)
-        ensures { self.new ≡ turned self.old }
+        ensures turned { self.new ≡ turned self.old }
+        ensures calendar { IsCalendar self.new }
     {
         if self.idx == self.ridx {
             self.idx = (self.idx + 1) % 64;
