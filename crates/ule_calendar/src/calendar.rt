@@ -1,4 +1,4 @@
-ghost use Rattle.std.specs.Prelude.{◌≡◌, ◌≤◌, ◌<◌, [], Some, replicate, IfOk, IfSome};
+ghost use Rattle.std.specs.Prelude.{◌≡◌, ◌≤◌, ◌<◌, ◌↔◌, [], Some, replicate, All, IfOk, IfSome, IsNone};
 ghost use Rattle.std.specs.Option.{option_map};
 ghost use Rattle.ule_prio.specs.Kind.{kind_at};
 ghost use Rattle.ule_prio.specs.declared.kind.Kind.TheVariants.{Batch};
@@ -6,13 +6,14 @@ ghost use Rattle.ule_runq.specs.Runq.{times, bucket_in, first_from};
 ghost use Rattle.ule_model.specs.CalendarIndexes.{calendar_bucket, distance_of};
 ghost use Rattle.ule_calendar.specs.Calendar.{with_ordinary, with_next, after_removal, turned, IsCalendar};
 
-use std::alloc::{AllocError, Global};
+use std::alloc::Global;
 use std::marker::Model;
+use ule_io::Memory;
 use ule_prio::{Priority, ThreadId};
 use ule_runq::Runq;
 
-/// The bucket of a batch priority, 152..=223: one of the 64 from the insertion index on, but not
-/// the one at the removal index while that index is behind.
+// The bucket of a batch priority, 152..=223: one of the 64 from the insertion index on, but not
+// the one at the removal index while that index is behind.
 fn ordinary_bucket(idx: u8, ridx: u8, p: Priority) -> u8
     requires batch { kind_at p ≡ Batch }
     requires idx { idx < 64 }
@@ -28,8 +29,11 @@ fn ordinary_bucket(idx: u8, ridx: u8, p: Priority) -> u8
     }
 }
 
-/// A batch calendar. Its insertion index is at its removal index, or one ahead of it while the
-/// bucket at the removal index isn't empty.
+/// A batch calendar, after `tdq_timeshare`, `tdq_idx` and `tdq_ridx` of `struct tdq`: 64 buckets in
+/// a round, with a thread number in one of them at most.
+///
+/// Its insertion index is at its removal index, or one ahead of it while the bucket at the removal
+/// index isn't empty. It starts empty with both at 0.
 #[derive(Drop)]
 pub struct Calendar {
     lists: Runq,
@@ -48,8 +52,8 @@ impl Model for Calendar {
 }
 
 impl Calendar {
-    /// An empty calendar. It takes all the memory that it ever needs.
-    pub fn empty(alloc: Global) -> Result<Calendar, AllocError>
+    /// An empty calendar, after `tdq_setup`. It takes all the memory that it ever needs.
+    pub fn empty(alloc: Global) -> Result<Calendar, Memory>
         ensures { IfOk result (λ c. c ≡ record { lists = replicate 64 []; idx = 0; ridx = 0 }) }
     {
         Ok(Calendar {
@@ -60,8 +64,9 @@ impl Calendar {
     }
 
     /// Files `t` at the tail of the bucket of its batch priority, 152..=223, and says which it is,
-    /// after `tdq_runq_add`. The bucket at the removal index is left out while the insertion index
-    /// is ahead of it.
+    /// 0..=63, after `tdq_runq_add`. The 72 priorities are spread over the 64 buckets from the
+    /// insertion index on. While that index is ahead, no thread is filed at the removal index: the
+    /// bucket before it, the farthest ahead, takes its place.
     pub fn insert(&mut self, t: ThreadId, p: Priority) -> u8
         requires batch { kind_at p ≡ Batch }
         requires absent { times self.old.lists t ≡ 0 }
@@ -76,7 +81,8 @@ impl Calendar {
     }
 
     /// Files `t` in the bucket at the removal index, at its head or its tail, and says which it
-    /// is, after `tdq_runq_add` of a borrowing or a preempted thread.
+    /// is, 0..=63: a preempted thread goes to the head, and one whose priority got better while it
+    /// was queued to the tail. After `tdq_runq_add` with `SRQ_PREEMPTED` or `SRQ_BORROWING`.
     pub fn insert_at_index(&mut self, t: ThreadId, head: bool) -> u8
         requires { times self.old.lists t ≡ 0 }
         ensures bucket { result ≡ self.old.ridx }
@@ -92,8 +98,9 @@ impl Calendar {
         self.ridx
     }
 
-    /// Takes `t` out and says from which bucket, after `tdq_runq_rem`. Where this empties the
-    /// bucket at the removal index while the insertion index is ahead, the removal index follows.
+    /// Takes `t` out and says from which bucket, 0..=63, after `tdq_runq_rem`. Where this empties
+    /// the bucket at the removal index while the insertion index is ahead, the removal index
+    /// follows; where both are equal it stays.
     pub fn remove(&mut self, t: ThreadId) -> u8
         requires { times self.old.lists t ≡ 1 }
         ensures bucket { bucket_in self.old.lists t ≡ Some result }
@@ -107,10 +114,12 @@ impl Calendar {
         bucket
     }
 
-    /// A turn of the calendar at a tick, after `sched_clock`: where both indexes are equal the
-    /// insertion index goes on by one, and the removal index with it if its bucket is empty.
+    /// A turn of the calendar at a stathz tick, after `sched_clock`: where both indexes are equal
+    /// the insertion index goes on by one, and the removal index with it if its bucket is empty.
+    /// Where they differ, the bucket at the removal index isn't drained yet, and nothing changes.
     pub fn turn(&mut self)
-        ensures { self.new ≡ turned self.old }
+        ensures turned { self.new ≡ turned self.old }
+        ensures calendar { IsCalendar self.new }
     {
         if self.idx == self.ridx {
             self.idx = (self.idx + 1) % 64;
@@ -120,15 +129,18 @@ impl Calendar {
         }
     }
 
-    /// The first thread from the removal index on, after `runq_choose_from`.
+    /// The thread to be chosen next, which is the first from the removal index on and round to
+    /// it, or none where the calendar is empty. After `runq_choose_from` as `tdq_choose` calls it.
     pub fn first(&self) -> Option<ThreadId>
         ensures value { result ≡ option_map (λ f. f.1) (first_from self.now.lists self.now.ridx) }
+        ensures none { IsNone result ↔ All (λ xs. xs ≡ []) self.now.lists }
         ensures found { IfSome result (λ t. times self.now.lists t ≡ 1) }
     {
         self.lists.first_from(self.ridx).map(|f| f.1)
     }
 
-    /// How far bucket `b`, 0..=63, lies ahead of the removal index.
+    /// How many buckets bucket `b`, 0..=63, lies ahead of the removal index, going round: 0..=63.
+    /// FreeBSD has no function for it.
     pub fn distance(&self, b: u8) -> u8
         requires { b < 64 }
         ensures { result ≡ distance_of self.now.ridx b }
@@ -136,7 +148,7 @@ impl Calendar {
         (b + 64 - self.ridx) % 64
     }
 
-    /// The insertion index, after `tdq_idx`.
+    /// The insertion index, 0..=63, after `tdq_idx`.
     pub fn idx(&self) -> u8
         ensures value { result ≡ self.now.idx }
         ensures calendar { IsCalendar self.now }
@@ -144,7 +156,7 @@ impl Calendar {
         self.idx
     }
 
-    /// The removal index, after `tdq_ridx`.
+    /// The removal index, 0..=63, after `tdq_ridx`.
     pub fn ridx(&self) -> u8
         ensures value { result ≡ self.now.ridx }
         ensures calendar { IsCalendar self.now }
@@ -152,10 +164,83 @@ impl Calendar {
         self.ridx
     }
 
-    /// The buckets.
+    /// The 64 buckets, after `tdq_timeshare`.
     pub fn lists(&self) -> &Runq
         ensures { result.now ≡ self.now.lists }
     {
         &self.lists
+    }
+}
+
+#[cfg(test)]
+mod tests {
+    use super::*;
+    use std::test::Fail;
+    use ule_prio::{Kind, kind_of};
+
+    /// Files a thread that the calendar lacks by its batch priority.
+    fn add(c: &mut Calendar, t: u8, p: u8) -> Option<u8> {
+        if kind_of(Priority(p)) != Kind::Batch || c.lists().find(ThreadId(t)).is_some() {
+            return None;
+        }
+        Some(c.insert(ThreadId(t), Priority(p)))
+    }
+
+    /// Files a thread that the calendar lacks at the removal index.
+    fn add_next(c: &mut Calendar, t: u8, head: bool) -> Option<u8> {
+        if c.lists().find(ThreadId(t)).is_some() {
+            return None;
+        }
+        Some(c.insert_at_index(ThreadId(t), head))
+    }
+
+    /// Takes out a thread that the calendar has.
+    fn take_out(c: &mut Calendar, t: u8) -> Option<u8> {
+        if c.lists().find(ThreadId(t)).is_none() {
+            return None;
+        }
+        Some(c.remove(ThreadId(t)))
+    }
+
+    #[test]
+    fn no_thread_joins_the_bucket_that_drains(rt: HostRuntime) -> Result<(), Fail> {
+        let mut c = Calendar::empty(rt.alloc())?;
+        assert_eq!(rt; add(&mut c, 1, 152), Some(0));
+        c.turn();
+        assert_eq!(rt; (c.idx(), c.ridx()), (1, 0));
+        assert_eq!(rt; add(&mut c, 2, 223), Some(63));
+        assert_eq!(rt; c.distance(63), 63);
+        assert_eq!(rt; add(&mut c, 3, 152), Some(1));
+        c.turn();
+        assert_eq!(rt; (c.idx(), c.ridx()), (1, 0), "the bucket isn't drained");
+        assert_eq!(rt; take_out(&mut c, 1), Some(0));
+        assert_eq!(rt; (c.idx(), c.ridx()), (1, 1));
+        assert_eq!(rt; c.distance(63), 62);
+        Ok(())
+    }
+
+    #[test]
+    fn preempted_threads_go_first(rt: HostRuntime) -> Result<(), Fail> {
+        let mut c = Calendar::empty(rt.alloc())?;
+        assert_eq!(rt; c.first(), None);
+        assert_eq!(rt; add(&mut c, 1, 152), Some(0));
+        assert_eq!(rt; add_next(&mut c, 2, true), Some(0));
+        assert_eq!(rt; add_next(&mut c, 3, false), Some(0));
+        for (t, position) in [(2, 0), (1, 1), (3, 2)] {
+            assert_eq!(rt; c.lists().find(ThreadId(t)), Some((0, position)), "of {t}");
+        }
+        assert_eq!(rt; c.first(), Some(ThreadId(2)));
+        Ok(())
+    }
+
+    #[test]
+    fn an_empty_calendar_turns_at_every_tick(rt: HostRuntime) -> Result<(), Fail> {
+        let mut c = Calendar::empty(rt.alloc())?;
+        for tick in 1..=130 {
+            c.turn();
+            let index = tick % 64;
+            assert_eq!(rt; (c.idx(), c.ridx()), (index, index));
+        }
+        Ok(())
     }
 }

@@ -13,3 +13,4 @@ pub mod Shows
 pub mod CpuValue
 pub mod Legal
 pub mod WorldValue
+pub mod History

@@ -2,8 +2,9 @@ ghost use Rattle.std.specs.Prelude.{◌≡◌, ◌<◌, ◌↔◌, [], replicate
 ghost use Rattle.ule_runq.specs.Runq.{IsRunq, is_empty_at, with_tail, with_head, without, times, first_from, IsFirstFrom, bucket_in, place_in};
 
 use crate::bucket::Bucket;
-use std::alloc::{AllocError, Global};
+use std::alloc::Global;
 use std::marker::Model;
+use ule_io::Memory;
 use ule_prio::ThreadId;
 
 /// The number of buckets of a run queue, after `RQ_NQS` of `runq.h`.
@@ -29,12 +30,14 @@ impl Model for Runq {
 
 impl Runq {
     /// An empty run queue, after `runq_init`. It takes all the memory that it ever needs.
-    pub fn empty(alloc: Global) -> Result<Runq, AllocError>
+    pub fn empty(alloc: Global) -> Result<Runq, Memory>
         ensures { IfOk result (λ q. q ≡ replicate RQ_NQS []) }
     {
         let mut buckets = Vec::with_capacity(alloc, usize::from(RQ_NQS))?;
         for _ in 0..RQ_NQS {
-            buckets.push(Bucket::empty(alloc)?)?;
+            if buckets.push(Bucket::empty(alloc)?).is_err() {
+                return Err(Memory);
+            }
         }
         Ok(Runq { buckets })
     }
@@ -111,6 +114,7 @@ impl Runq {
         ensures value { result ≡ place_in self.now t }
         ensures none { IsNone result ↔ (times self.now t ≡ 0) }
         ensures found { OnSome result (times self.now t ≡ 1) }
+        ensures within { IfSome result (λ at. (at.0 < RQ_NQS) × (at.1 < 256)) }
         ensures whole { IsRunq self.now }
     {
         for b in 0..RQ_NQS {

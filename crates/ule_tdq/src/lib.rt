@@ -6,6 +6,7 @@ pub use queues::Queues;
 pub use tdq::{SwitchOut, Tdq};
 pub use threads::Threads;
 
+pub mod lines;
 pub mod queues;
 pub mod records;
 pub mod tdq;

@@ -5,9 +5,10 @@ ghost use Rattle.ule_runq.specs.Runq.{times};
 ghost use Rattle.ule_model.specs.CpuValue.{with_inserted};
 ghost use Rattle.ule_tdq.specs.Queues.{once, times_queued, times_in, dial_with, queues_with, queues_without, first_queued};
 
-use std::alloc::{AllocError, Global};
+use std::alloc::Global;
 use std::marker::Model;
 use ule_calendar::Calendar;
+use ule_io::Memory;
 use ule_model::Insertion;
 use ule_prio::{Kind, Priority, ThreadId, kind_of};
 use ule_runq::Runq;
@@ -30,7 +31,7 @@ impl Model for Queues {
 
 impl Queues {
     /// Three empty queues, with all the memory that they ever need.
-    pub fn empty(alloc: Global) -> Result<Queues, AllocError>
+    pub fn empty(alloc: Global) -> Result<Queues, Memory>
         ensures { IfOk result (λ q. q ≡ record {
           real = replicate 64 [];
           batch = record { lists = replicate 64 []; idx = 0; ridx = 0 };

@@ -1,20 +1,25 @@
-ghost use Rattle.std.specs.Prelude.{◌≡◌, ◌≤◌, ◌<◌, ◌^◌, None, Some, IfOk, IsTrue, if◌then◌else◌};
+ghost use Rattle.std.specs.Prelude.{◌≡◌, ℕ, ◌≤◌, ◌<◌, ◌^◌, None, Some, IfOk, IsTrue, if◌then◌else◌};
 ghost use Rattle.ule_types.specs.Rules.{are_settings};
+ghost use Rattle.std.specs.Option.{option_map};
 ghost use Rattle.ule_model.specs.Start.{balance_count, stepped_word};
+ghost use Rattle.ule_model.specs.WorldValue.{value_line, value_place};
 ghost use Rattle.ule_score.specs.Bounds.{KeepsBounds};
 ghost use Rattle.ule_model.specs.CpuValue.{value_switched, value_laid, chosen_next, with_given_way, without_marks, thread_in};
 ghost use Rattle.ule_model.specs.Switch.{started_reply};
 ghost use Rattle.ule_tdq.specs.Cpu.{IsNoEarlier, StartsAs};
 ghost use Rattle.ule_tdq.specs.Replies.{reply_of};
 
+use crate::lines::{line_of, queued};
 use crate::queues::Queues;
 use crate::records::{after_running, before_running, insertion_of, is_preemption, is_unasked};
 use crate::threads::Threads;
-use std::alloc::{AllocError, Global};
+use std::alloc::Global;
 use std::marker::Model;
+use ule_io::Memory;
 use ule_model::Insertion;
-use ule_prio::{Cpu, Kind, ThreadId};
+use ule_prio::{Cpu, Kind, LockId, ThreadId};
 use ule_score::{CpuLine, Place, Settings, ThreadRecord, Why};
+use ule_types::ThreadLine;
 
 /// What a switch came to.
 #[derive(Clone, Copy, Debug, PartialEq, Eq)]
@@ -100,12 +105,7 @@ impl Model for Tdq {
 impl Tdq {
     /// A CPU with no thread. It takes all the memory that it ever needs. `balance_word` is where
     /// CPU 0's balance word starts; its first draw gives that CPU's balance count, 64..=191.
-    pub fn start(
-        alloc: Global,
-        cpu: Cpu,
-        s: &Settings,
-        balance_word: u32,
-    ) -> Result<Tdq, AllocError>
+    pub fn start(alloc: Global, cpu: Cpu, s: &Settings, balance_word: u32) -> Result<Tdq, Memory>
         requires { IsTrue (are_settings s.now) }
         ensures { IfOk result (λ d. StartsAs d cpu s.now balance_word) }
     {
@@ -137,6 +137,7 @@ impl Tdq {
         requires in_time { IsNoEarlier self.old now }
         ensures value { self.new ≡ (value_switched why now self.old).0 }
         ensures reply { reply_of result ≡ (value_switched why now self.old).1 }
+        ensures no_earlier { IsNoEarlier self.new now }
     {
         if is_unasked(why, self.resched) {
             return SwitchOut::Unmarked;
@@ -160,7 +161,8 @@ impl Tdq {
     pub fn lay(&mut self, r: ThreadRecord)
         requires absent { thread_in self.old r.id ≡ None }
         requires bounds { KeepsBounds r }
-        ensures { self.new ≡ value_laid r self.old }
+        ensures value { self.new ≡ value_laid r self.old }
+        ensures no_earlier { (now : ℕ) → IsNoEarlier self.old now → r.usage.ltick ≤ now → IsNoEarlier self.new now }
     {
         let t = r.id;
         let priority = r.priority;
@@ -173,6 +175,22 @@ impl Tdq {
         ensures { result ≡ self.now.current }
     {
         self.current
+    }
+
+    /// Where a thread runs or waits, if it is here.
+    pub fn place_of(&self, t: ThreadId) -> Option<Place>
+        ensures { result ≡ option_map (λ at. at.0) (value_place self.now t) }
+    {
+        self.placed(t).map(|at| at.0)
+    }
+
+    /// What a trace tells of a thread, if it is here.
+    pub fn thread_line(&self, t: ThreadId) -> Option<ThreadLine>
+        ensures { result ≡ value_line self.now t }
+    {
+        let r = self.threads.get(t)?;
+        let (place, pos) = self.placed(t)?;
+        Some(line_of(&r, place, pos, LockId(self.cpu.0)))
     }
 
     /// The record of a thread, if it runs or waits here.
@@ -195,6 +213,23 @@ impl Tdq {
             old_switches: self.old_switches,
             balance: self.balance,
         }
+    }
+
+    /// A thread's place, with its position in its bucket.
+    fn placed(&self, t: ThreadId) -> Option<(Place, u8)>
+        ensures { result ≡ value_place self.now t }
+    {
+        if self.current == Some(t) {
+            return Some((Place::Running(self.cpu), 0));
+        }
+        if let Some(found) = self.queues.real.find(t) {
+            return Some(queued(self.cpu, Kind::Real, found));
+        }
+        if let Some(found) = self.queues.batch.lists().find(t) {
+            return Some(queued(self.cpu, Kind::Batch, found));
+        }
+        let found = self.queues.idle.find(t)?;
+        Some(queued(self.cpu, Kind::Idle, found))
     }
 
     fn clear_marks(&mut self)
@@ -230,6 +265,7 @@ impl Tdq {
         requires idle { self.old.current ≡ None }
         ensures value { self.new ≡ (chosen_next now self.old).0 }
         ensures into { result ≡ (chosen_next now self.old).1 }
+        ensures no_earlier { IsNoEarlier self.new now }
     {
         let (kind, t) = self.queues.first()?;
         self.queues.remove(kind, t);

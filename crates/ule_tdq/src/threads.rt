@@ -2,6 +2,7 @@ ghost use Rattle.std.specs.Prelude.{◌≡◌, ℕ, None, length, vec_len, slice
 
 use std::alloc::{AllocError, Global};
 use std::marker::Model;
+use ule_io::Memory;
 use ule_prio::ThreadId;
 use ule_score::ThreadRecord;
 
@@ -46,7 +47,7 @@ fn absent() -> Option<ThreadRecord>
 
 impl Threads {
     /// No records, with room for all.
-    pub fn none(alloc: Global) -> Result<Threads, AllocError>
+    pub fn none(alloc: Global) -> Result<Threads, Memory>
         ensures slots { IfOk result (λ s. length s ≡ 256) }
         ensures none { IfOk result (λ s. (t : ℕ) → slice_index_or s t None ≡ None) }
     {

@@ -1,2 +1,18 @@
-//! TODO
+//! The text of traces: a history's entries, its final lines, and the events, replies and places in
+//! them.
 #![tactic(auto)]
+
+pub use event::write_event;
+pub use place::write_place;
+pub use reply::write_reply;
+pub use trace::write_trace;
+
+mod event;
+mod finals;
+mod held;
+mod place;
+mod reply;
+#[cfg(test)]
+mod tests;
+mod trace;
+mod word;

@@ -1,3 +1,4 @@
 pub mod Commands
 pub mod Rules
 pub mod Form
+pub mod Outcome

@@ -1,4 +1,11 @@
+ghost use Rattle.std.specs.Prelude.{◌≡◌, ℕ, ◌+◌, ◌-◌, ◌<◌, ◌≤◌, List, [], ◌∷◌, ◌++◌, length, slice_get, vec_capacity, nat_le, ◌==◌, IfOk, Some};
+ghost use Rattle.std.specs.List.{position_or_len};
+ghost use Rattle.ule_types.specs.Outcome.{placed, with_cpu, RisesFrom};
+
 use crate::event::Entry;
+use std::alloc::Global;
+use std::marker::Model;
+use ule_io::Memory;
 use ule_prio::{Class, Cpu, LockId, Nice, Priority, ThreadId};
 use ule_score::{CpuLine, Place};
 
@@ -32,11 +39,279 @@ pub struct ThreadLine {
     pub word: Option<LockId>,
 }
 
-/// The entries of a history and its final lines.
+/// How many thread lines an outcome has room for.
+pub const THREAD_LINES: usize = 256;
+
+/// How many CPU lines an outcome has room for.
+pub const CPU_LINES: usize = 16;
+
+/// The entries of a history and its final lines: a line for each thread by rising id, and one for
+/// each CPU by number. All its memory is taken by `with_room`.
 #[derive(Drop)]
 pub struct Outcome {
     entries: Vec<Entry>,
+    // How many entries can still be noted.
+    room: u32,
     threads: Vec<ThreadLine>,
     cpus: Vec<CpuLine>,
-    now: u64,
+    end_time: u64,
+}
+
+fn is_from(m: &ThreadLine, id: ThreadId) -> bool
+    ensures test { result ≡ nat_le id m.now.id }
+    ensures range { id < 256 }
+{
+    id.0 <= m.id.0
+}
+
+// The place of the first line whose id is this or above, or the number of lines.
+fn first_from(lines: &[ThreadLine], id: ThreadId) -> usize
+    ensures place { result ≡ position_or_len (λ m. nat_le id m.id) lines.now }
+    ensures within { result ≤ length lines.now }
+    ensures range { id < 256 }
+{
+    for (at, m) in lines.iter().enumerate() {
+        if is_from(m, id) {
+            return at;
+        }
+    }
+    lines.len()
+}
+
+// Puts the line in its place among lines that rise by id.
+fn place(lines: &mut Vec<ThreadLine>, l: ThreadLine)
+    requires rising { RisesFrom 0 lines.old.items }
+    requires room { 256 ≤ vec_capacity lines.old }
+    ensures items { lines.new.items ≡ placed l lines.old.items }
+    ensures room { 256 ≤ vec_capacity lines.new }
+    ensures rising { RisesFrom 0 lines.new.items }
+{
+    let at = first_from(lines, l.id);
+    if at < lines.len() && lines[at].id == l.id {
+        lines[at] = l;
+    } else {
+        lines.insert(at, l).unwrap();
+    }
+}
+
+impl Model for Outcome {
+    ghost use Rattle.std.specs.Prelude.{◌+◌, ◌^◌, ◌<◌, ◌≤◌, vec_len, vec_capacity};
+    ghost use Rattle.ule_types.specs.Outcome.{OutcomeValue, RisesFrom};
+
+    ghost Value = { OutcomeValue };
+
+    ghost view = { λ o. record {
+      entries = o.entries.items;
+      threads = o.threads.items;
+      cpus = o.cpus.items;
+      now = o.end_time;
+      room = o.room;
+    } };
+
+    ghost invariant = { λ o. record {
+      entries_fit : vec_len o.entries + o.room < 2 ^ 32;
+      entries_room : vec_len o.entries + o.room ≤ vec_capacity o.entries;
+      threads_room : 256 ≤ vec_capacity o.threads;
+      rising : RisesFrom 0 o.threads.items;
+      cpus_room : 16 ≤ vec_capacity o.cpus;
+      cpus_bound : vec_len o.cpus ≤ 16;
+    } };
+}
+
+impl Outcome {
+    /// An outcome without lines at time 0, with room for so many entries.
+    pub fn with_room(alloc: Global, entries: u32) -> Result<Self, Memory>
+        ensures { IfOk result (λ o. o
+            ≡ record { entries = []; threads = []; cpus = []; now = 0; room = entries }) }
+    {
+        let room = entries;
+        let Ok(entries) = Vec::with_capacity(alloc, room as usize) else {
+            return Err(Memory);
+        };
+        let Ok(threads) = Vec::with_capacity(alloc, THREAD_LINES) else {
+            return Err(Memory);
+        };
+        let Ok(cpus) = Vec::with_capacity(alloc, CPU_LINES) else {
+            return Err(Memory);
+        };
+        Ok(Outcome {
+            entries,
+            room,
+            threads,
+            cpus,
+            end_time: 0,
+        })
+    }
+
+    /// Appends an entry, for which there must be room.
+    pub fn note(&mut self, e: Entry)
+        requires { 0 < self.old.room }
+        ensures { self.new ≡ record self.old {
+          entries = self.old.entries ++ e ∷ [];
+          room = self.old.room - 1;
+        } }
+    {
+        self.entries.extend_from_slice(&[e]).unwrap();
+        self.room -= 1;
+    }
+
+    /// Puts the line in its place by rising id, instead of one with that id.
+    pub fn set_thread(&mut self, l: ThreadLine)
+        ensures { self.new ≡ record self.old { threads = placed l self.old.threads } }
+    {
+        place(&mut self.threads, l);
+    }
+
+    /// Sets the line of a CPU that has one, or appends that of the next CPU.
+    pub fn set_cpu(&mut self, c: Cpu, l: CpuLine)
+        requires { c ≤ length self.old.cpus }
+        ensures { self.new ≡ record self.old { cpus = with_cpu c l self.old.cpus } }
+    {
+        let at = usize::from(c.0);
+        if at < self.cpus.len() {
+            self.cpus[at] = l;
+        } else {
+            self.cpus.push_reserved(l);
+        }
+    }
+
+    /// Sets the time at the end, in hz ticks since the boot.
+    pub fn set_now(&mut self, now: u64)
+        ensures { self.new ≡ record self.old { now = now } }
+    {
+        self.end_time = now;
+    }
+
+    /// The number of entries.
+    pub fn len(&self) -> u32
+        ensures { result ≡ length self.now.entries }
+    {
+        self.entries.len() as u32
+    }
+
+    pub fn is_empty(&self) -> bool
+        ensures { result ≡ (length self.now.entries == 0) }
+    {
+        self.entries.is_empty()
+    }
+
+    /// The entry of this number, from 1.
+    pub fn entry(&self, k: u32) -> &Entry
+        requires first { 1 ≤ k }
+        requires last { k ≤ length self.now.entries }
+        ensures { slice_get self.now.entries (k - 1) ≡ Some result.now }
+    {
+        &self.entries[k as usize - 1]
+    }
+
+    /// The thread lines, by rising id.
+    pub fn threads(&self) -> &[ThreadLine]
+        ensures lines { result.now ≡ self.now.threads }
+        ensures rising { RisesFrom 0 self.now.threads }
+    {
+        self.threads.as_slice()
+    }
+
+    /// The CPU lines, at most 16, by number.
+    pub fn cpus(&self) -> &[CpuLine]
+        ensures lines { result.now ≡ self.now.cpus }
+        ensures bound { length self.now.cpus ≤ 16 }
+    {
+        self.cpus.as_slice()
+    }
+
+    /// The time at the end, in hz ticks since the boot.
+    pub fn end_time(&self) -> u64
+        ensures { result ≡ self.now.now }
+    {
+        self.end_time
+    }
+}
+
+#[cfg(test)]
+mod tests {
+    use super::*;
+    use crate::event::{Event, Reply};
+    use std::test::Fail;
+
+    fn entry_at(now: u64) -> Entry {
+        Entry {
+            worker: 0,
+            event: Event::Tick(Cpu(0)),
+            now,
+            reply: Reply::Ticked(None, false, false),
+        }
+    }
+
+    fn line_of(id: u8, run: u64) -> ThreadLine {
+        ThreadLine {
+            id: ThreadId(id),
+            place: Place::Unborn,
+            pos: 0,
+            class: Class::Ts,
+            nice: Nice(0),
+            base: Priority(172),
+            lent: None,
+            priority: Priority(172),
+            run,
+            slept: 0,
+            ticks: 0,
+            ltick: 0,
+            ftick: 0,
+            slice_count: 0,
+            slept_at: 0,
+            last: Cpu(0),
+            last_run: 0,
+            bound: None,
+            parent: None,
+            word: Some(LockId(24)),
+        }
+    }
+
+    fn cpu_line(idx: u8) -> CpuLine {
+        CpuLine {
+            idx,
+            ridx: 0,
+            resched: false,
+            slice_end: false,
+            switches: 0,
+            old_switches: 0,
+            balance: 0,
+        }
+    }
+
+    #[test]
+    fn entries_keep_their_order(rt: HostRuntime) -> Result<(), Fail> {
+        let mut o = Outcome::with_room(rt.alloc(), 2)?;
+        assert!(rt; o.is_empty());
+        o.note(entry_at(20000));
+        o.note(entry_at(20001));
+        assert_eq!(rt; o.len(), 2);
+        assert_eq!(rt; *o.entry(1), entry_at(20000));
+        assert_eq!(rt; *o.entry(2), entry_at(20001));
+        o.set_now(20001);
+        assert_eq!(rt; o.end_time(), 20001);
+        Ok(())
+    }
+
+    #[test]
+    fn thread_lines_rise(rt: HostRuntime) -> Result<(), Fail> {
+        let mut o = Outcome::with_room(rt.alloc(), 0)?;
+        for (id, run) in [(7, 1), (2, 2), (255, 3), (7, 4), (0, 5)] {
+            o.set_thread(line_of(id, run));
+        }
+        let lines = [line_of(0, 5), line_of(2, 2), line_of(7, 4), line_of(255, 3)];
+        assert_eq!(rt; o.threads(), lines.as_slice());
+        Ok(())
+    }
+
+    #[test]
+    fn cpu_lines_are_set_and_appended(rt: HostRuntime) -> Result<(), Fail> {
+        let mut o = Outcome::with_room(rt.alloc(), 0)?;
+        o.set_cpu(Cpu(0), cpu_line(1));
+        o.set_cpu(Cpu(1), cpu_line(2));
+        o.set_cpu(Cpu(0), cpu_line(3));
+        assert_eq!(rt; o.cpus(), [cpu_line(3), cpu_line(2)].as_slice());
+        Ok(())
+    }
 }

@@ -34,3 +34,8 @@ pub returns-in-Some-clause-found : goal.returns-in-Some-clause-found
 returns-in-Some-clause-found c =
     sym (ap (λ q. times q c.args.t) c.self.view_is)
     ∙ times_place _ c.args.t c.loop-b.b _ c.self.invariant (place_in_read _ c.args.t c.loop-b.b _ _ _ c.self.invariant c.loop-b-test.true c.loop-b.invariant c.from.ensures c.index.ensures (sym c.in-Some.ensures)).0
+
+pub returns-in-Some-clause-within : goal.returns-in-Some-clause-within
+returns-in-Some-clause-within c =
+    let small = (place_in_read _ c.args.t c.loop-b.b _ _ _ c.self.invariant c.loop-b-test.true c.loop-b.invariant c.from.ensures c.index.ensures (sym c.in-Some.ensures)).1 in
+    (c.loop-b-test.true, omega arith)

@@ -1,0 +1,54 @@
+-- What is left of a trace's text while its lines are spelled one after another.
+use Rattle.std.proofs.Common.{◌≡◌, ℕ, ◌+◌, ◌<◌, ◌≤◌, List, ◌∷◌, ◌++◌, length, get_or, drop, map, Some, refl, ap, ◌∙◌, arith}
+use Rattle.std.specs.Prelude.{slice_get}
+use Rattle.std.proofs.lemmas.List.{drop_more, drop_all}
+use Rattle.std.proofs.lemmas.Option.{slice_get_within, slice_get-get_or}
+use Rattle.ule_score.specs.declared.record.CpuLine.{CpuLine}
+use Rattle.ule_trace.specs.Line.{line_text, lines_text}
+use Rattle.ule_trace.specs.FinalText.{thread_words, cpu_words}
+use Rattle.ule_trace.specs.Trace.{entry_words, entry_lines, cpu_lines, closing_lines}
+use Rattle.ule_types.specs.declared.event.Entry.{Entry}
+use Rattle.ule_types.specs.declared.outcome.ThreadLine.{ThreadLine}
+use Rattle.ule_types.specs.Outcome.{OutcomeValue}
+
+-- what follows the first k CPU lines
+abbrev pub after_cpus : OutcomeValue → ℕ → List ℕ
+after_cpus o k = lines_text (cpu_lines k (drop k o.cpus) ++ closing_lines o.now (length o.entries))
+
+-- what follows the first k thread lines
+abbrev pub after_threads : OutcomeValue → ℕ → List ℕ
+after_threads o k =
+    lines_text (map thread_words (drop k o.threads) ++ (cpu_lines 0 o.cpus ++ closing_lines o.now (length o.entries)))
+
+-- what follows the first k entries
+abbrev pub after_entries : OutcomeValue → ℕ → List ℕ
+after_entries o k =
+    lines_text (entry_lines (k + 1) (drop k o.entries) ++
+    (map thread_words o.threads ++ (cpu_lines 0 o.cpus ++ closing_lines o.now (length o.entries))))
+
+drop_got : {X : Type 0} (xs : List X) (k : ℕ) (x : X) → slice_get xs k ≡ Some x → drop k xs ≡ x ∷ drop (k + 1) xs
+drop_got xs k x e =
+    let within = slice_get_within xs k x e in
+    let read = slice_get-get_or xs k x within in
+    let same : get_or xs k x ≡ x = cc in
+    drop_more xs k x within ∙ ap (λ y. y ∷ drop (k + 1) xs) same
+
+pub entry_next : (o : OutcomeValue) (k : ℕ) (e : Entry) → slice_get o.entries k ≡ Some e → after_entries o k ≡ line_text (entry_words (k + 1) e) ++ after_entries o (k + 1)
+entry_next o k e got = rw (drop_got o.entries k e got) refl
+
+pub entries_end : (o : OutcomeValue) (k : ℕ) → length o.entries ≤ k → after_entries o k ≡ after_threads o 0
+entries_end o k past = rw (drop_all k o.entries past) refl
+
+pub thread_next : (o : OutcomeValue) (k : ℕ) (l : ThreadLine) → k < length o.threads → l ≡ get_or o.threads k l → after_threads o k ≡ line_text (thread_words l) ++ after_threads o (k + 1)
+thread_next o k l within read = rw (drop_more o.threads k l within, ← read) refl
+
+pub threads_end : (o : OutcomeValue) (k : ℕ) → length o.threads ≤ k → after_threads o k ≡ after_cpus o 0
+threads_end o k past = rw (drop_all k o.threads past) refl
+
+pub cpu_next : (o : OutcomeValue) (lines : List CpuLine) (k : ℕ) (d : CpuLine) → lines ≡ o.cpus → k < length lines → after_cpus o k ≡ line_text (cpu_words k (get_or lines k d)) ++ after_cpus o (k + 1)
+cpu_next o lines k d e within =
+    let within : k < length o.cpus = omega (arith, ap length e) in
+    rw (e, drop_more o.cpus k d within) refl
+
+pub cpus_end : (o : OutcomeValue) (k : ℕ) → length o.cpus ≤ k → after_cpus o k ≡ lines_text (closing_lines o.now (length o.entries))
+cpus_end o k past = rw (drop_all k o.cpus past) refl

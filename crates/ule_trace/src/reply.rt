@@ -1,0 +1,164 @@
+ghost use Rattle.std.specs.Prelude.{◌≡◌, ℕ, ◌+◌, ◌≤◌, List, [], ◌∷◌, ◌++◌, length};
+ghost use Rattle.ule_io.specs.Sink.{WroteWhole};
+ghost use Rattle.ule_trace.specs.Line.{spaced};
+ghost use Rattle.ule_trace.specs.PlaceText.{place_word};
+ghost use Rattle.ule_trace.specs.ReplyText.{reply_words, reply_text};
+
+use crate::held::{CAPACITY, Held};
+use crate::place::{kind_name, spell_place};
+use crate::word::Word::{Flag, Number, Text};
+use crate::word::{cpu, optional_cpu, optional_thread, priority, thread};
+use ule_io::{Sink, WriteFault, write_all};
+use ule_prio::{Cpu, Kind, Priority, ThreadId};
+use ule_score::Place;
+use ule_types::Reply;
+
+fn spell_stands(held: &mut Held, name: &'static str, place: Place)
+    requires short { length name.now ≤ 24 }
+    requires room { length held.old + 100 ≤ CAPACITY }
+    ensures text { held.new ≡ held.old ++ spaced (name.now ∷ place_word place ∷ []) }
+    ensures growth { length held.new ≤ length held.old + 100 }
+{
+    held.words(&[Text(name)]);
+    held.byte(b' ');
+    spell_place(held, place);
+}
+
+fn spell_woken(held: &mut Held, p: Priority, bound: Option<Cpu>, last: Cpu, last_run: u64)
+    requires { length held.old + 125 ≤ CAPACITY }
+    ensures text { held.new ≡ held.old ++ spaced (reply_words (Reply.Woken p bound last last_run)) }
+    ensures growth { length held.new ≤ length held.old + 125 }
+{
+    held.words(&[
+        Text("woken"),
+        priority(p),
+        optional_cpu(bound),
+        cpu(last),
+        Number(last_run),
+    ]);
+}
+
+fn spell_landed(held: &mut Held, kind: Kind, bucket: u8, preempts: bool)
+    requires { length held.old + 125 ≤ CAPACITY }
+    ensures text { held.new ≡ held.old ++ spaced (reply_words (Reply.Landed kind bucket preempts)) }
+    ensures growth { length held.new ≤ length held.old + 125 }
+{
+    held.words(&[
+        Text("landed"),
+        Text(kind_name(kind)),
+        Number(u64::from(bucket)),
+        Flag(preempts),
+    ]);
+}
+
+fn spell_moved(held: &mut Held, t: ThreadId, kind: Kind, bucket: u8, preempts: bool)
+    requires { length held.old + 125 ≤ CAPACITY }
+    ensures text { held.new ≡ held.old ++ spaced (reply_words (Reply.Moved t kind bucket preempts)) }
+    ensures growth { length held.new ≤ length held.old + 125 }
+{
+    held.words(&[
+        Text("moved"),
+        thread(t),
+        Text(kind_name(kind)),
+        Number(u64::from(bucket)),
+        Flag(preempts),
+    ]);
+}
+
+fn spell_none_movable(held: &mut Held, load: u64, movable: u64, other: u64)
+    requires { length held.old + 125 ≤ CAPACITY }
+    ensures text { held.new ≡ held.old ++ spaced (reply_words (Reply.NoneMovable load movable other)) }
+    ensures growth { length held.new ≤ length held.old + 125 }
+{
+    held.words(&[
+        Text("nonemovable"),
+        Number(load),
+        Number(movable),
+        Number(other),
+    ]);
+}
+
+fn spell_exited(
+    held: &mut Held,
+    out: ThreadId,
+    into: Option<ThreadId>,
+    parent: Option<ThreadId>,
+    run: u64,
+)
+    requires { length held.old + 125 ≤ CAPACITY }
+    ensures text { held.new ≡ held.old ++ spaced (reply_words (Reply.Exited out into parent run)) }
+    ensures growth { length held.new ≤ length held.old + 125 }
+{
+    held.words(&[
+        Text("exited"),
+        thread(out),
+        optional_thread(into),
+        optional_thread(parent),
+        Number(run),
+    ]);
+}
+
+fn spell_switched(held: &mut Held, out: Option<ThreadId>, into: Option<ThreadId>, preempted: bool)
+    requires { length held.old + 125 ≤ CAPACITY }
+    ensures text { held.new ≡ held.old ++ spaced (reply_words (Reply.Switched out into preempted)) }
+    ensures growth { length held.new ≤ length held.old + 125 }
+{
+    held.words(&[
+        Text("switched"),
+        optional_thread(out),
+        optional_thread(into),
+        Flag(preempted),
+    ]);
+}
+
+/// Appends the words of a reply, each behind a space.
+pub fn spell_reply(held: &mut Held, r: Reply)
+    requires { length held.old + 125 ≤ CAPACITY }
+    ensures text { held.new ≡ held.old ++ spaced (reply_words r) }
+    ensures growth { length held.new ≤ length held.old + 125 }
+{
+    match r {
+        Reply::Ticked(current, due, ended) => {
+            held.words(&[
+                Text("ticked"),
+                optional_thread(current),
+                Flag(due),
+                Flag(ended),
+            ])
+        }
+        Reply::Unmarked => held.words(&[Text("unmarked")]),
+        Reply::Nothing => held.words(&[Text("nothing")]),
+        Reply::Switched(out, into, preempted) => spell_switched(held, out, into, preempted),
+        Reply::Dropped(out, into) => {
+            held.words(&[Text("dropped"), thread(out), optional_thread(into)])
+        }
+        Reply::Bedded => held.words(&[Text("bedded")]),
+        Reply::NotAsleep(place) => spell_stands(held, "notasleep", place),
+        Reply::Woken(p, bound, last, last_run) => spell_woken(held, p, bound, last, last_run),
+        Reply::Seen(load, movable, low) => {
+            held.words(&[Text("seen"), Number(load), Number(movable), priority(low)])
+        }
+        Reply::Landed(kind, bucket, preempts) => spell_landed(held, kind, bucket, preempts),
+        Reply::Moved(t, kind, bucket, preempts) => spell_moved(held, t, kind, bucket, preempts),
+        Reply::NoneMovable(load, movable, other) => spell_none_movable(held, load, movable, other),
+        Reply::Changed(p, requeued, marked) => {
+            held.words(&[Text("changed"), priority(p), Flag(requeued), Flag(marked)])
+        }
+        Reply::NotAllowed(place) => spell_stands(held, "notallowed", place),
+        Reply::Hatched => held.words(&[Text("hatched")]),
+        Reply::Forked(parent, p) => held.words(&[Text("forked"), thread(parent), priority(p)]),
+        Reply::Returned => held.words(&[Text("returned")]),
+        Reply::Exited(out, into, parent, run) => spell_exited(held, out, into, parent, run),
+        Reply::Buried => held.words(&[Text("buried")]),
+        Reply::ParentGone => held.words(&[Text("parentgone")]),
+    }
+}
+
+/// Writes the text of a reply, as `switched - 0 0`, and no newline.
+pub fn write_reply<K: Sink>(r: &Reply, out: &mut K) -> Result<(), WriteFault>
+    ensures { WroteWhole (K.state out.old) (K.state out.new) (reply_text r.now) result }
+{
+    let mut held = Held::new();
+    spell_reply(&mut held, *r);
+    write_all(out, held.unspaced())
+}

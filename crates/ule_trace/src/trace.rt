@@ -1,0 +1,61 @@
+ghost use Rattle.std.specs.Prelude.{◌≡◌, ℕ, ◌+◌, ◌≤◌, List, ◌++◌, length};
+ghost use Rattle.ule_io.specs.Sink.{WroteWhole};
+ghost use Rattle.ule_trace.specs.Line.{line_text, lines_text};
+ghost use Rattle.ule_trace.specs.Trace.{entry_words, closing_lines, trace_text};
+
+use crate::event::spell_event;
+use crate::finals::{spell_cpu, spell_thread};
+use crate::held::{CAPACITY, Held, LINE};
+use crate::reply::spell_reply;
+use crate::word::Word::{Number, Text, Worker};
+use ule_io::{Sink, WriteFault, write_all};
+use ule_types::{Entry, Outcome, Setup};
+
+// Appends the line of the entry with this number.
+fn spell_entry(held: &mut Held, k: u64, e: &Entry)
+    requires { length held.old + LINE ≤ CAPACITY }
+    ensures { held.new ≡ held.old ++ line_text (entry_words k e.entry.now) }
+{
+    held.number(k);
+    held.words(&[Worker(e.worker), Number(e.now)]);
+    spell_event(held, e.event);
+    held.words(&[Text("->")]);
+    spell_reply(held, e.reply);
+    held.byte(b'\n');
+}
+
+// Appends the last two lines.
+fn spell_closing(held: &mut Held, now: u64, count: u64)
+    requires { length held.old + LINE ≤ CAPACITY }
+    ensures { held.new ≡ held.old ++ lines_text (closing_lines now count) }
+{
+    held.text("now");
+    held.words(&[Number(now)]);
+    held.text("\ndone");
+    held.words(&[Number(count)]);
+    held.byte(b'\n');
+}
+
+/// Writes the trace of an outcome: its entries, numbered from 1, its thread lines, its CPU lines,
+/// the time at the end and the number of entries. Nothing is flushed.
+pub fn write_trace<K: Sink>(_setup: &Setup, o: &Outcome, out: &mut K) -> Result<(), WriteFault>
+    ensures { WroteWhole (K.state out.old) (K.state out.new) (trace_text o.now) result }
+{
+    let mut held = Held::new();
+    held.text("ule-trace 1\n");
+    for k in 0..o.len() {
+        held.make_room(out)?;
+        spell_entry(&mut held, u64::from(k) + 1, o.entry(k + 1));
+    }
+    for line in o.threads() {
+        held.make_room(out)?;
+        spell_thread(&mut held, line);
+    }
+    for (c, line) in o.cpus().iter().enumerate() {
+        held.make_room(out)?;
+        spell_cpu(&mut held, c as u64, line);
+    }
+    held.make_room(out)?;
+    spell_closing(&mut held, o.end_time(), u64::from(o.len()));
+    write_all(out, held.as_slice())
+}
