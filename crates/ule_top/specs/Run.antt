@@ -1,0 +1,96 @@
+-- What the top call promises of the command `run`, and the cause of every status.
+use Rattle.std.specs.Prelude.{◌≡◌, ◌≢◌, ℕ, ◌<◌, List, [], ◌∷◌, ◌++◌, codes, Option, Some, ◌⊎◌}
+use Rattle.std.specs.List.{AllByRecursion}
+use Rattle.ule_io.specs.Counter.{Rose}
+use Rattle.ule_io.specs.Sink.{Appends, AppendsFront, SinkState}
+use Rattle.ule_io.specs.Source.{ReadsWhole, SourceState}
+use Rattle.ule_model.specs.Finals.{thread_lines}
+use Rattle.ule_model.specs.History.{IsHistoryOf}
+use Rattle.ule_model.specs.Places.{lock_of}
+use Rattle.ule_model.specs.Rounds.{play_of}
+use Rattle.ule_scenario.specs.Scenario.{Spells}
+use Rattle.ule_trace.specs.Trace.{trace_text}
+use Rattle.ule_types.specs.Outcome.{OutcomeValue}
+use Rattle.ule_types.specs.declared.setup.Setup.{Setup}
+
+-- the most bytes that a scenario may have
+abbrev pub scenario_limit : ℕ
+scenario_limit = 1048576
+
+-- the words of the command
+abbrev pub run_words : List (List ℕ)
+run_words = codes "run" ∷ []
+
+-- the history of rounds of a setup with its final lines
+abbrev pub outcome_of : Setup → OutcomeValue
+outcome_of s = record {
+  entries = (play_of s).entries; threads = thread_lines (play_of s).world.members;
+  cpus = (play_of s).world.lines; now = (play_of s).now; room = 0 }
+
+-- the line of a refusal while the grammar isn't whole
+abbrev pub refusal_text : List ℕ
+refusal_text = codes "refused 0 0 0" ++ 10 ∷ []
+
+-- the headline for `run`: the whole input spells a setup; the trace of its history of rounds was written;
+-- that history is legal and whole, and each thread's word names the lock of its place
+pub record HasRun (s0 s1 : SourceState) (k0 k1 : SinkState) : Type 0 where
+  pub input : List ℕ
+  pub setup : Setup
+  pub read : ReadsWhole s0 s1 scenario_limit input
+  pub spelled : Spells input setup
+  pub written : Appends k0.taken k1.taken (trace_text (outcome_of setup))
+  pub history : IsHistoryOf setup (play_of setup)
+  pub words : AllByRecursion (λ line. line.word ≡ lock_of line.place) (thread_lines (play_of setup).world.members)
+
+-- the input, where the source tells it, spells no setup
+abbrev pub SpellsNone : Option (List ℕ) → Type 0
+SpellsNone left = (input : List ℕ) → left ≡ Some input → (s : Setup) → Spells input s → ⊥
+
+-- a refusal: the line of the refusal was written
+pub record IsRefused (s0 s1 : SourceState) (k0 k1 : SinkState) : Type 0 where
+  pub cause : SpellsNone s0.left
+  pub written : Appends k0.taken k1.taken refusal_text
+
+-- a front of a text was taken
+pub record TookFront (k0 k1 : SinkState) : Type 0 where
+  pub text : List ℕ
+  pub front : AppendsFront k0.taken k1.taken text
+  pub cause : Rose k0.faults k1.faults ⊎ Rose k0.empty_takes k1.empty_takes
+
+-- each status with its cause
+pub record Answers (words : List (List ℕ)) (s0 s1 : SourceState) (k0 k1 : SinkState) (status : ℕ) : Type 0 where
+  pub known : status < 6
+  pub done : status ≡ 0 → HasRun s0 s1 k0 k1
+  -- 1 exactly where the words are not the command's
+  pub usage : status ≡ 1 → words ≢ run_words
+  pub usage_only : words ≢ run_words → status ≡ 1
+  pub untouched : status ≡ 1 → (s1 ≡ s0) × (k1 ≡ k0)
+  pub read_fault : status ≡ 2 → Rose s0.faults s1.faults × (k1 ≡ k0)
+  pub refused : status ≡ 3 → IsRefused s0 s1 k0 k1
+  pub write_fault : status ≡ 4 → TookFront k0 k1
+  pub no_memory : status ≡ 5 → k1 ≡ k0
+  -- the counts stand as before the call after every other status
+  pub read_kept : status ≢ 2 → s1.faults ≡ s0.faults
+  pub write_kept : status ≢ 4 → (k1.faults ≡ k0.faults) × (k1.empty_takes ≡ k0.empty_takes)
+
+-- ---- the parts of the answer
+
+-- what writing a text comes to, by the status where it was written whole
+pub record Wrote (k0 k1 : SinkState) (text : List ℕ) (good status : ℕ) : Type 0 where
+  pub known : (status ≡ good) ⊎ (status ≡ 4)
+  pub whole : status ≡ good → Appends k0.taken k1.taken text
+  pub fault : status ≡ 4 → AppendsFront k0.taken k1.taken text × (Rose k0.faults k1.faults ⊎ Rose k0.empty_takes k1.empty_takes)
+  pub kept : status ≢ 4 → (k1.faults ≡ k0.faults) × (k1.empty_takes ≡ k0.empty_takes)
+
+abbrev pub AnswersRefusal : SinkState → SinkState → ℕ → Type 0
+AnswersRefusal k0 k1 status = Wrote k0 k1 refusal_text 3 status
+
+-- a setup was played and its trace written, or there was no memory
+abbrev pub AnswersSetup : Setup → SinkState → SinkState → ℕ → Type 0
+AnswersSetup s k0 k1 status = Wrote k0 k1 (trace_text (outcome_of s)) 0 status ⊎ ((status ≡ 5) × (k1 ≡ k0))
+
+-- what an input comes to: it spells a setup whose trace was written, or it spells none and is refused, or there was no memory
+pub data AnswersInput (input : List ℕ) (k0 k1 : SinkState) (status : ℕ) : Type 0 where
+  traced : (s : Setup) → Spells input s → Wrote k0 k1 (trace_text (outcome_of s)) 0 status → AnswersInput input k0 k1 status
+  refused : ((s : Setup) → Spells input s → ⊥) → AnswersRefusal k0 k1 status → AnswersInput input k0 k1 status
+  no_memory : status ≡ 5 → k1 ≡ k0 → AnswersInput input k0 k1 status

@@ -1,0 +1,7 @@
+//! The top call: from the words of a command line and the bytes of a source to the bytes of a
+//! sink and an exit status.
+#![tactic(auto, using(ule_io::proofs::Written::writes))]
+
+pub use command::top;
+
+pub mod command;
