@@ -9,7 +9,7 @@ use Rattle.ule_history.specs.declared.CpuUse.{CpuUse}
 use Rattle.ule_history.specs.declared.History.{History}
 use Rattle.ule_prio.specs.declared.class.Class.TheVariants.{Ts}
 use Rattle.ule_score.proofs.TimesharePriorityLemmas.{timeshare_priority-bounds}
-use Rattle.ule_score.specs.Bounds.{better_of, KeepsBounds, with_history, with_use, with_base, with_lent, BetterOfIsLower, KeepsBoundsAtHistories, KeepsBoundsAtUses, KeepsBoundsAtBases, KeepsBoundsAtLoans, KeepsBoundsAtTimes}
+use Rattle.ule_score.specs.Bounds.{KeepsBounds, with_history, with_use, with_base, BetterOfIsLower, KeepsBoundsAtHistories, KeepsBoundsAtUses, KeepsBoundsAtBases, KeepsBoundsAtLoans, KeepsBoundsAtTimes}
 use Rattle.ule_score.specs.declared.record.ThreadRecord.{ThreadRecord}
 
 -- the change rule's number is the lower of the two
