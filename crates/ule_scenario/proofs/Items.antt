@@ -2,7 +2,7 @@
 use Rattle.std.proofs.Common.{◌≡◌, ℕ, ◌<◌, Bool, true, false, ◌&&◌, not, IsTrue, [], ◌∷◌, ◌++◌, refl, arith, ℤ, ltb}
 use Rattle.std.specs.Prelude.{codes}
 use Rattle.std.specs.Fmt.{decimal, signed_decimal}
-use Rattle.std.proofs.lemmas.Bool.{and_parts, ltb-true, false≢true}
+use Rattle.std.proofs.lemmas.Bool.{not-true, and_parts, ltb-true, false≢true}
 use Rattle.ule_types.specs.Form.{is_timeshare, is_plain}
 use Rattle.ule_types.specs.declared.setup.Form.{Form}
 use Rattle.ule_types.specs.declared.setup.Form.TheVariants.{Ts, Ithd, Rt, Fifo, Idle}
@@ -28,10 +28,6 @@ line_by id cpu (Rt p) b timeshare free zero_is fits = absurd (false≢true times
 line_by id cpu (Fifo p) b timeshare free zero_is fits = absurd (false≢true timeshare)
 line_by id cpu (Idle p) b timeshare free zero_is fits = absurd (false≢true timeshare)
 
-not_true : (b : Bool) → not b ≡ true → b ≡ false
-not_true true e = cc
-not_true false e = refl
-
 pub thread_words : (spec : ThreadSpec) → IsTrue (is_thread spec) → IsThreadLine spec
 thread_words spec good =
     let outer = and_parts (is_plain spec && is_in_range spec) (ltb spec.cpu 1) good in
@@ -39,7 +35,7 @@ thread_words spec good =
     let plain = and_parts (is_timeshare spec.form) (not spec.bound) inner.0 in
     let range = and_parts (ltb spec.id 256) (has_nice spec.form) inner.1 in
     let zero_is : spec.cpu ≡ 0 = omega (arith, ltb-true spec.cpu 1 outer.1) in
-    let free = not_true spec.bound plain.1 in
+    let free = not-true spec.bound plain.1 in
     let line = line_by spec.id spec.cpu spec.form spec.bound plain.0 free zero_is range.1 in
     record {
       nice = line.0;

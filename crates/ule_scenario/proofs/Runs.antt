@@ -1,7 +1,8 @@
 -- Runs of lines of one kind, one line more or compared with another run.
 use Rattle.std.proofs.Common.{◌≡◌, ◌≢◌, ℕ, ◌==◌, Bool, true, false, ◌&&◌, ◌||◌, not, IsTrue, List, [], ◌∷◌, ◌++◌, map, refl, sym, ap, ◌∙◌, arith, ⊎_elim}
 use Rattle.std.specs.List.{list_all, list_any}
-use Rattle.std.proofs.lemmas.Bool.{and_from, and_parts, and_left, and_right, or_cases, not-true, true≢false, false≢true}
+use Rattle.std.proofs.Math.Bool.{or-false, or-true}
+use Rattle.std.proofs.lemmas.Bool.{and_from, and_parts, and_left, and_right, or_cases, not-true, false≢true, or_parts}
 use Rattle.std.proofs.lemmas.Bool.Decides.{nat_tests}
 use Rattle.std.proofs.lemmas.List.{append_assoc, append-nil, map-append, map_push}
 use Rattle.std.proofs.lemmas.List.Folds.{list_all-append, list_any-append}
@@ -18,20 +19,8 @@ begins_more p f lines items x rest after begins e good = record {
   each = list_all-append p items (x ∷ []) ∙ and_from (list_all p items) (p x && true) begins.each (and_from (p x) true good refl);
 }
 
-or_false : (b : Bool) → (b || false) ≡ b
-or_false true = refl
-or_false false = refl
-
-or_true : (b : Bool) → (b || true) ≡ true
-or_true true = refl
-or_true false = refl
-
 among_push : (xs : List ℕ) (x t : ℕ) → is_among (xs ++ x ∷ []) t ≡ (is_among xs t || (x == t))
-among_push xs x t = list_any-append (λ u. u == t) xs (x ∷ []) ∙ ap (λ b. is_among xs t || b) (or_false (x == t))
-
-or_parts_false : (a b : Bool) → (a || b) ≡ false → (a ≡ false) × (b ≡ false)
-or_parts_false true b e = absurd (true≢false e)
-or_parts_false false b e = (refl, e)
+among_push xs x t = list_any-append (λ u. u == t) xs (x ∷ []) ∙ ap (λ b. is_among xs t || b) (or-false (x == t))
 
 other_way : (x y : ℕ) → (x == y) ≡ (y == x)
 other_way x y = grind (arith, nat_tests)
@@ -41,7 +30,7 @@ distinct_push : (xs : List ℕ) (x : ℕ) → is_distinct xs ≡ true → is_amo
 distinct_push [] x all none = refl
 distinct_push (y ∷ xs) x all none =
     let parts = and_parts (not (is_among xs y)) (is_distinct xs) all in
-    let others = or_parts_false (y == x) (is_among xs x) none in
+    let others = or_parts (y == x) (is_among xs x) none in
     rw (among_push xs x y, not-true (is_among xs y) parts.0, other_way x y, others.0, distinct_push xs x parts.1 others.1) refl
 
 -- a number that is among others
@@ -49,7 +38,7 @@ repeated_push : (xs : List ℕ) (x : ℕ) → is_among xs x ≡ true → is_dist
 repeated_push [] x some = absurd (false≢true some)
 repeated_push (y ∷ xs) x some =
     ⊎_elim
-    (λ same. and_left (not (is_among (xs ++ x ∷ []) y)) (is_distinct (xs ++ x ∷ [])) (ap not (among_push xs x y ∙ ap (λ b. is_among xs y || b) (other_way x y ∙ same) ∙ or_true (is_among xs y))))
+    (λ same. and_left (not (is_among (xs ++ x ∷ []) y)) (is_distinct (xs ++ x ∷ [])) (ap not (among_push xs x y ∙ ap (λ b. is_among xs y || b) (other_way x y ∙ same) ∙ or-true (is_among xs y))))
     (λ later. and_right (not (is_among (xs ++ x ∷ []) y)) (is_distinct (xs ++ x ∷ [])) (repeated_push xs x later))
     (or_cases (y == x) (is_among xs x) some)
 
@@ -58,7 +47,7 @@ distinct_front : (xs ys : List ℕ) → is_distinct (xs ++ ys) ≡ true → is_d
 distinct_front [] ys all = refl
 distinct_front (x ∷ xs) ys all =
     let parts = and_parts (not (is_among (xs ++ ys) x)) (is_distinct (xs ++ ys)) all in
-    let none = or_parts_false (is_among xs x) (is_among ys x) (sym (list_any-append (λ u. u == x) xs ys) ∙ not-true (is_among (xs ++ ys) x) parts.0) in
+    let none = or_parts (is_among xs x) (is_among ys x) (sym (list_any-append (λ u. u == x) xs ys) ∙ not-true (is_among (xs ++ ys) x) parts.0) in
     and_from (not (is_among xs x)) (is_distinct xs) (ap not none.0) (distinct_front xs ys parts.1)
 
 any_is_among : (threads : List ThreadSpec) (id : ℕ) → list_any (λ spec. spec.id == id) threads ≡ is_among (ids_of threads) id
