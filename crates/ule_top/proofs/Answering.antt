@@ -42,8 +42,11 @@ trace_of s o h =
 
 pub wrote_done : (k0 k1 : SinkState) (text : List ℕ) → WroteWhole k0 k1 text (Ok tt) → Wrote k0 k1 text 0 0
 wrote_done k0 k1 text w = record {
-  known = inl refl; whole = λ e. w.whole; fault = λ e. absurd (omega arith);
-  kept = λ e. (w.else_kept (λ h. cc), w.else_took (λ h. cc)) }
+  known = inl refl;
+  whole = λ e. w.whole;
+  fault = λ e. absurd (omega arith);
+  kept = λ e. (w.else_kept (λ h. cc), w.else_took (λ h. cc));
+}
 
 fault_rose : (k0 k1 : SinkState) (text : List ℕ) (fault : WriteFault) → WroteWhole k0 k1 text (Err fault) → Rose k0.faults k1.faults ⊎ Rose k0.empty_takes k1.empty_takes
 fault_rose k0 k1 text Failed w = inl (w.failed refl)
@@ -51,8 +54,11 @@ fault_rose k0 k1 text TookNothing w = inr (w.took_nothing refl)
 
 pub wrote_front : (k0 k1 : SinkState) (text : List ℕ) (fault : WriteFault) → WroteWhole k0 k1 text (Err fault) → Wrote k0 k1 text 0 4
 wrote_front k0 k1 text fault w = record {
-  known = inr refl; whole = λ e. absurd (omega arith); fault = λ e. (w.front, fault_rose k0 k1 text fault w);
-  kept = λ e. absurd (e refl) }
+  known = inr refl;
+  whole = λ e. absurd (omega arith);
+  fault = λ e. (w.front, fault_rose k0 k1 text fault w);
+  kept = λ e. absurd (e refl);
+}
 
 -- ---- the words of threads
 
@@ -74,29 +80,64 @@ words_name members = lines_name members (range_with_len 0 256)
 answers_done : (s0 s1 : SourceState) (k0 k1 : SinkState) (status : ℕ) → status ≡ 0 → HasRun s0 s1 k0 k1 → s1.faults ≡ s0.faults →
     (k1.faults ≡ k0.faults) × (k1.empty_takes ≡ k0.empty_takes) → Answers run_words s0 s1 k0 k1 status
 answers_done s0 s1 k0 k1 status is has read wrote = record {
-  known = omega arith; done = λ e. has; usage = λ e. absurd (omega arith); usage_only = λ other. absurd (other refl);
-  untouched = λ e. absurd (omega arith); read_fault = λ e. absurd (omega arith); refused = λ e. absurd (omega arith);
-  write_fault = λ e. absurd (omega arith); no_memory = λ e. absurd (omega arith); read_kept = λ e. read; write_kept = λ e. wrote }
+  known = omega arith;
+  done = λ e. has;
+  usage = λ e. absurd (omega arith);
+  usage_only = λ other. absurd (other refl);
+  untouched = λ e. absurd (omega arith);
+  read_fault = λ e. absurd (omega arith);
+  refused = λ e. absurd (omega arith);
+  write_fault = λ e. absurd (omega arith);
+  no_memory = λ e. absurd (omega arith);
+  read_kept = λ e. read;
+  write_kept = λ e. wrote;
+}
 
 answers_refused : (s0 s1 : SourceState) (k0 k1 : SinkState) (status : ℕ) → status ≡ 3 → IsRefused s0 s1 k0 k1 → s1.faults ≡ s0.faults →
     (k1.faults ≡ k0.faults) × (k1.empty_takes ≡ k0.empty_takes) → Answers run_words s0 s1 k0 k1 status
 answers_refused s0 s1 k0 k1 status is has read wrote = record {
-  known = omega arith; done = λ e. absurd (omega arith); usage = λ e. absurd (omega arith); usage_only = λ other. absurd (other refl);
-  untouched = λ e. absurd (omega arith); read_fault = λ e. absurd (omega arith); refused = λ e. has;
-  write_fault = λ e. absurd (omega arith); no_memory = λ e. absurd (omega arith); read_kept = λ e. read; write_kept = λ e. wrote }
+  known = omega arith;
+  done = λ e. absurd (omega arith);
+  usage = λ e. absurd (omega arith);
+  usage_only = λ other. absurd (other refl);
+  untouched = λ e. absurd (omega arith);
+  read_fault = λ e. absurd (omega arith);
+  refused = λ e. has;
+  write_fault = λ e. absurd (omega arith);
+  no_memory = λ e. absurd (omega arith);
+  read_kept = λ e. read;
+  write_kept = λ e. wrote;
+}
 
 answers_fault : (s0 s1 : SourceState) (k0 k1 : SinkState) (status : ℕ) → status ≡ 4 → TookFront k0 k1 → s1.faults ≡ s0.faults → Answers run_words s0 s1 k0 k1 status
 answers_fault s0 s1 k0 k1 status is has read = record {
-  known = omega arith; done = λ e. absurd (omega arith); usage = λ e. absurd (omega arith); usage_only = λ other. absurd (other refl);
-  untouched = λ e. absurd (omega arith); read_fault = λ e. absurd (omega arith); refused = λ e. absurd (omega arith);
-  write_fault = λ e. has; no_memory = λ e. absurd (omega arith); read_kept = λ e. read; write_kept = λ e. absurd (e is) }
+  known = omega arith;
+  done = λ e. absurd (omega arith);
+  usage = λ e. absurd (omega arith);
+  usage_only = λ other. absurd (other refl);
+  untouched = λ e. absurd (omega arith);
+  read_fault = λ e. absurd (omega arith);
+  refused = λ e. absurd (omega arith);
+  write_fault = λ e. has;
+  no_memory = λ e. absurd (omega arith);
+  read_kept = λ e. read;
+  write_kept = λ e. absurd (e is);
+}
 
 answers_no_memory : (s0 s1 : SourceState) (k0 k1 : SinkState) (status : ℕ) → status ≡ 5 → k1 ≡ k0 → s1.faults ≡ s0.faults → Answers run_words s0 s1 k0 k1 status
 answers_no_memory s0 s1 k0 k1 status is same read = record {
-  known = omega arith; done = λ e. absurd (omega arith); usage = λ e. absurd (omega arith); usage_only = λ other. absurd (other refl);
-  untouched = λ e. absurd (omega arith); read_fault = λ e. absurd (omega arith); refused = λ e. absurd (omega arith);
-  write_fault = λ e. absurd (omega arith); no_memory = λ e. same; read_kept = λ e. read;
-  write_kept = λ e. (ap (λ (k : SinkState). k.faults) same, ap (λ (k : SinkState). k.empty_takes) same) }
+  known = omega arith;
+  done = λ e. absurd (omega arith);
+  usage = λ e. absurd (omega arith);
+  usage_only = λ other. absurd (other refl);
+  untouched = λ e. absurd (omega arith);
+  read_fault = λ e. absurd (omega arith);
+  refused = λ e. absurd (omega arith);
+  write_fault = λ e. absurd (omega arith);
+  no_memory = λ e. same;
+  read_kept = λ e. read;
+  write_kept = λ e. (ap (λ (k : SinkState). k.faults) same, ap (λ (k : SinkState). k.empty_takes) same);
+}
 
 -- ---- the whole input
 
@@ -108,19 +149,26 @@ pub answers_input : (s0 s1 : SourceState) (k0 k1 : SinkState) (input : List ℕ)
     AnswersInput input k0 k1 status → Answers run_words s0 s1 k0 k1 status
 answers_input s0 s1 k0 k1 input status reads faults (traced s spells w) =
     ⊎_elim
-        (λ (is : status ≡ 0). answers_done s0 s1 k0 k1 status is
-            (record { input = input; setup = s; read = reads; spelled = spells; written = w.whole is;
-                history = history_of_rounds s spells.form; words = words_name (play_of s).world.members })
-            faults (w.kept (λ e. omega arith)))
-        (λ (is : status ≡ 4). answers_fault s0 s1 k0 k1 status is (took_front k0 k1 (trace_text (outcome_of s)) 0 status w is) faults)
-        w.known
+    (λ (is : status ≡ 0). answers_done s0 s1 k0 k1 status is
+    (record {
+      input = input;
+      setup = s;
+      read = reads;
+      spelled = spells;
+      written = w.whole is;
+      history = history_of_rounds s spells.form;
+      words = words_name (play_of s).world.members;
+    })
+    faults (w.kept (λ e. omega arith)))
+    (λ (is : status ≡ 4). answers_fault s0 s1 k0 k1 status is (took_front k0 k1 (trace_text (outcome_of s)) 0 status w is) faults)
+    w.known
 answers_input s0 s1 k0 k1 input status reads faults (refused none w) =
     ⊎_elim
-        (λ (is : status ≡ 3). answers_refused s0 s1 k0 k1 status is
-            (record { cause = λ left told s spells. none s (rw (reads.all left told) spells); written = w.whole is })
-            faults (w.kept (λ e. omega arith)))
-        (λ (is : status ≡ 4). answers_fault s0 s1 k0 k1 status is (took_front k0 k1 refusal_text 3 status w is) faults)
-        w.known
+    (λ (is : status ≡ 3). answers_refused s0 s1 k0 k1 status is
+    (record { cause = λ left told s spells. none s (rw (reads.all left told) spells); written = w.whole is })
+    faults (w.kept (λ e. omega arith)))
+    (λ (is : status ≡ 4). answers_fault s0 s1 k0 k1 status is (took_front k0 k1 refusal_text 3 status w is) faults)
+    w.known
 answers_input s0 s1 k0 k1 input status reads faults (no_memory is same) = answers_no_memory s0 s1 k0 k1 status is same faults
 
 -- a list of one item

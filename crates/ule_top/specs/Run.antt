@@ -24,8 +24,12 @@ run_words = codes "run" ∷ []
 -- the history of rounds of a setup with its final lines
 abbrev pub outcome_of : Setup → OutcomeValue
 outcome_of s = record {
-  entries = (play_of s).entries; threads = thread_lines (play_of s).world.members;
-  cpus = (play_of s).world.lines; now = (play_of s).now; room = 0 }
+  entries = (play_of s).entries;
+  threads = thread_lines (play_of s).world.members;
+  cpus = (play_of s).world.lines;
+  now = (play_of s).now;
+  room = 0;
+}
 
 -- the line of a refusal while the grammar isn't whole
 abbrev pub refusal_text : List ℕ
