@@ -170,7 +170,7 @@ impl Tdq {
         self.queues.insert(Insertion::Ordinary, priority, t);
     }
 
-    /// The current thread, after `tdq_curthread`.
+    /// The current thread, after `pc_curthread`.
     pub fn current(&self) -> Option<ThreadId>
         ensures { result ≡ self.now.current }
     {
