@@ -1,0 +1,172 @@
+-- How a player goes on: courses, and the plays that turns reach.
+use Rattle.std.proofs.Common.{◌≡◌, Bool, true, false, ℕ, zero, suc, ◌+◌, ◌<◌, ◌≤◌, List, [], ◌∷◌, ◌++◌, length, get_or, take, drop, map, slice_get, slice_set, slice_index_or, Option, Some, None, refl, sym, ◌∙◌, ap, subst, arith, add-one, drop-cons}
+use Rattle.std.specs.List.{enumerate_from, list_all}
+use Rattle.std.proofs.lemmas.Bool.{false≢true}
+use Rattle.std.proofs.lemmas.List.{drop_all, length-set, length-take-le, length_push, take_more}
+use Rattle.std.proofs.lemmas.Option.{get_or_from_slice_get, none-some, same_Some, slice_get_within, some_pair_parts}
+use Rattle.ule_score.specs.declared.record.Why.TheVariants as why
+use Rattle.ule_types.specs.Form.{IsOfForm, is_yield}
+use Rattle.ule_types.specs.declared.command.Command.{Command}
+use Rattle.ule_types.specs.declared.command.Command.TheVariants as command
+use Rattle.ule_types.specs.declared.event.Event.{Event}
+use Rattle.ule_types.specs.declared.event.Event.TheVariants as event
+use Rattle.ule_types.specs.declared.event.Item.{Item}
+use Rattle.ule_types.specs.declared.event.Item.TheVariants as item
+use Rattle.ule_types.specs.declared.event.Reply.{Reply}
+use Rattle.ule_types.specs.declared.setup.Setup.{Setup}
+use Rattle.ule_model.specs.Program as program
+use Rattle.ule_model.specs.Program.{Progress, begun, course_of, next_in, next_of, next_step, or_else, stepped}
+use Rattle.ule_model.specs.Rounds.{Play, opening, opening_courses, turn}
+use Rattle.ule_model.proofs.HistoryLaws.{Keeps, keeps_opening, keeps_turn}
+use Rattle.ule_seq.specs.Playing.{IsReached, opens, goes_on, course_at, courses_from, told}
+use Rattle.ule_seq.specs.Programs.{progress_of}
+use Rattle.ule_seq.specs.declared.program.Program.{Program}
+use Rattle.ule_seq.specs.declared.rounds.Course.{Course}
+
+-- ---- the next item of a course
+
+-- what is left of a list from the place of an element
+pub drop_at : {X : Type 0} (xs : List X) (i : ℕ) (x : X) → slice_get xs i ≡ Some x → drop i xs ≡ x ∷ drop (i + 1) xs
+drop_at xs i x got = rw (add-one, drop-cons xs i x (slice_get_within xs i x got), get_or_from_slice_get xs i x x got) refl
+
+-- that of the command begun, where it has a further one
+pub next_begun : (script : List Command) (p : Progress) (last : Option (Reply × ℕ)) (i : Item) → (next_of last p).0 ≡ Some i → next_in script p last ≡ Some (i, record { script = script; progress = (next_of last p).1; last = None })
+unfolding next_in
+next_begun [] p last i has = ap (λ (o : Option Item). stepped [] o (next_of last p).1) has
+next_begun (c ∷ cs) p last i has =
+    ap (λ (o : Option Item). or_else (stepped (c ∷ cs) o (next_of last p).1) (next_in cs (begun c (next_of last p).1) None)) has
+
+-- none, where there is no further command either
+pub next_ended : (p : Progress) (last : Option (Reply × ℕ)) → (next_of last p).0 ≡ None → next_in [] p last ≡ None
+unfolding next_in
+next_ended p last has = ap (λ (o : Option Item). stepped [] o (next_of last p).1) has
+
+-- that of the next command and those after it otherwise
+pub next_begins : (c : Command) (cs : List Command) (p : Progress) (last : Option (Reply × ℕ)) → (next_of last p).0 ≡ None → next_in (c ∷ cs) p last ≡ next_in cs (begun c (next_of last p).1) None
+unfolding next_in
+next_begins c cs p last has =
+    ap (λ (o : Option Item). or_else (stepped (c ∷ cs) o (next_of last p).1) (next_in cs (begun c (next_of last p).1) None)) has
+
+-- what a course gives where its command has a further item
+pub step_some : (s : Setup) (worker : ℕ) (c : Course) (rest : Option (Reply × ℕ)) (i : Item) (new : Program) → rest ≡ None → Some i ≡ (next_of c.last (progress_of c.program)).0 → progress_of new ≡ (next_of c.last (progress_of c.program)).1 → next_step (course_at s worker c) ≡ Some (i, course_at s worker (record { next = c.next; program = new; last = rest }))
+step_some s worker c rest i new none has after =
+    next_begun (drop c.next (slice_index_or s.scripts worker [])) (progress_of c.program) c.last i (sym has) ∙
+    ap (λ (q : Progress). Some (i, record { script = drop c.next (slice_index_or s.scripts worker []); progress = q; last = None })) (sym after) ∙
+    ap (λ (o : Option (Reply × ℕ)). Some (i, record { script = drop c.next (slice_index_or s.scripts worker []); progress = progress_of new; last = o })) (sym none)
+
+-- none, where there is no further command either
+pub step_none : (s : Setup) (worker : ℕ) (c : Course) → length (slice_index_or s.scripts worker []) ≤ c.next → (next_of c.last (progress_of c.program)).0 ≡ None → next_step (course_at s worker c) ≡ None
+step_none s worker c past none =
+    ap (λ (script : List Command). next_in script (progress_of c.program) c.last) (drop_all c.next (slice_index_or s.scripts worker []) past) ∙
+    next_ended (progress_of c.program) c.last none
+
+-- otherwise what the course gives whose next command is begun
+pub step_more : (s : Setup) (worker : ℕ) (c : Course) (rest : Option (Reply × ℕ)) (mid new : Program) (command : Command) → c.next < length (slice_index_or s.scripts worker []) → slice_get (slice_index_or s.scripts worker []) c.next ≡ Some command → rest ≡ None → (next_of c.last (progress_of c.program)).0 ≡ None → progress_of mid ≡ (next_of c.last (progress_of c.program)).1 → progress_of new ≡ begun command (progress_of mid) → next_step (course_at s worker c) ≡ next_step (course_at s worker (record { next = c.next + 1; program = new; last = rest }))
+step_more s worker c rest mid new command below got empty none after begins =
+    ap (λ (script : List Command). next_in script (progress_of c.program) c.last) (drop_at (slice_index_or s.scripts worker []) c.next command got) ∙
+    next_begins command (drop (c.next + 1) (slice_index_or s.scripts worker [])) (progress_of c.program) c.last none ∙
+    ap (λ (q : Progress). next_in (drop (c.next + 1) (slice_index_or s.scripts worker [])) q None) (ap (begun command) (sym after) ∙ sym begins) ∙
+    ap (next_in (drop (c.next + 1) (slice_index_or s.scripts worker [])) (progress_of new)) (sym empty)
+
+-- ---- courses
+
+-- numbers for one more
+pub enumerate_push : {X : Type 0} (n : ℕ) (xs : List X) (x : X) → enumerate_from n (xs ++ x ∷ []) ≡ enumerate_from n xs ++ (n + length xs, x) ∷ []
+enumerate_push n [] x = let e : n ≡ n + 0 = omega arith in ap (λ (k : ℕ). (k, x) ∷ []) e
+enumerate_push {X} n (y ∷ ys) x =
+    let e : n + 1 + length ys ≡ n + suc (length ys) = omega arith in
+    ap (λ (zs : List (ℕ × X)). (n, y) ∷ zs) (enumerate_push (n + 1) ys x ∙ ap (λ (k : ℕ). enumerate_from (n + 1) ys ++ (k, x) ∷ []) e)
+
+-- the same after a map
+pub numbered_push : {X Y : Type 0} (f : ℕ → X → Y) (n : ℕ) (xs : List X) (x : X) → map (λ e. f e.0 e.1) (enumerate_from n (xs ++ x ∷ [])) ≡ map (λ e. f e.0 e.1) (enumerate_from n xs) ++ f (n + length xs) x ∷ []
+numbered_push f n [] x = let e : n ≡ n + 0 = omega arith in ap (λ (k : ℕ). f k x ∷ []) e
+numbered_push {X} {Y} f n (y ∷ ys) x =
+    let e : n + 1 + length ys ≡ n + suc (length ys) = omega arith in
+    ap (λ (zs : List Y). f n y ∷ zs) (numbered_push f (n + 1) ys x ∙ ap (λ (k : ℕ). map (λ e. f e.0 e.1) (enumerate_from (n + 1) ys) ++ f k x ∷ []) e)
+
+-- the element of a worker among all
+pub numbered_get : {X Y : Type 0} (f : ℕ → X → Y) (n : ℕ) (xs : List X) (i : ℕ) (x : X) → slice_get xs i ≡ Some x → slice_get (map (λ e. f e.0 e.1) (enumerate_from n xs)) i ≡ Some (f (n + i) x)
+numbered_get f n [] i x got = absurd (none-some x got)
+numbered_get f n (y ∷ ys) zero x got = let e : n ≡ n + 0 = omega arith in ap (λ (k : ℕ). Some (f k y)) e ∙ ap (λ (z : _). Some (f (n + 0) z)) (same_Some y x got)
+numbered_get f n (y ∷ ys) (suc i) x got = let e : n + 1 + i ≡ n + suc i = omega arith in numbered_get f (n + 1) ys i x got ∙ ap (λ (k : ℕ). Some (f k x)) e
+
+-- one of them changed
+pub numbered_set : {X Y : Type 0} (f : ℕ → X → Y) (n : ℕ) (xs : List X) (i : ℕ) (x : X) → map (λ e. f e.0 e.1) (enumerate_from n (slice_set xs i x)) ≡ slice_set (map (λ e. f e.0 e.1) (enumerate_from n xs)) i (f (n + i) x)
+numbered_set f n [] i x = refl
+numbered_set {X} {Y} f n (y ∷ ys) zero x = let e : n ≡ n + 0 = omega arith in ap (λ (k : ℕ). f k x ∷ map (λ e. f e.0 e.1) (enumerate_from (n + 1) ys)) e
+numbered_set {X} {Y} f n (y ∷ ys) (suc i) x =
+    let e : n + 1 + i ≡ n + suc i = omega arith in
+    ap (λ (zs : List Y). f n y ∷ zs) (numbered_set f (n + 1) ys i x ∙ ap (λ (k : ℕ). slice_set (map (λ e. f e.0 e.1) (enumerate_from (n + 1) ys)) i (f k x)) e)
+
+-- ---- the opening courses
+
+-- the first workers before their first commands
+abbrev pub opening_to : Setup → ℕ → List program.Course
+opening_to s n = map (λ e. course_of e.0 e.1) (enumerate_from 0 (take n s.scripts))
+
+-- with one worker more
+pub opening_more : (s : Setup) (n : ℕ) → n < length s.scripts → opening_to s (n + 1) ≡ opening_to s n ++ course_of n (slice_index_or s.scripts n []) ∷ []
+opening_more s n below =
+    ap (λ scripts. map (λ e. course_of e.0 e.1) (enumerate_from 0 scripts)) (take_more s.scripts n [] below) ∙
+    numbered_push course_of 0 (take n s.scripts) (slice_index_or s.scripts n []) ∙
+    ap (λ (k : ℕ). opening_to s n ++ course_of k (slice_index_or s.scripts n []) ∷ []) place
+  where
+    place : 0 + length (take n s.scripts) ≡ n
+    place = let taken : length (take n s.scripts) ≡ n = length-take-le n s.scripts (omega arith) in omega arith
+
+-- a course more, which is that of a worker before its first command
+pub course_more : (s : Setup) (n : ℕ) (cs : List Course) (c : Course) → length cs ≡ n → n < length s.scripts → course_at s n c ≡ course_of n (slice_index_or s.scripts n []) → courses_from s 0 cs ≡ opening_to s n → courses_from s 0 (cs ++ c ∷ []) ≡ opening_to s (n + 1)
+course_more s n cs c count below fresh same =
+    let place : 0 + length cs ≡ n = omega arith in
+    numbered_push (course_at s) 0 cs c ∙
+    ap (λ (k : ℕ). courses_from s 0 cs ++ course_at s k c ∷ []) place ∙
+    ap (λ (ds : List program.Course). ds ++ course_at s n c ∷ []) same ∙
+    ap (λ (d : program.Course). opening_to s n ++ d ∷ []) fresh ∙
+    sym (opening_more s n below)
+
+-- ---- what turns keep
+
+-- what the opening play has and each turn keeps, each play that is reached has
+pub reached_keeps : (s : Setup) (I : Play → Type 0) → I (opening s) → ((q : Play) (worker : ℕ) → I q → I (turn q worker)) → (p : Play) → IsReached s p → I p
+reached_keeps s I first step p (opens) = first
+reached_keeps s I first step p (goes_on q worker reached) = step q worker (reached_keeps s I first step q reached)
+
+-- each play that is reached keeps what the laws of histories ask for
+pub reached_kept : (s : Setup) → IsOfForm s → (p : Play) → IsReached s p → Keeps s p
+reached_kept s form = reached_keeps s (Keeps s) (keeps_opening s form) (keeps_turn s)
+
+-- a worker's course between two commands of its own
+pub record IsAtRest (worker : ℕ) (course : program.Course) : Type 0 where
+  pub script : list_all is_yield course.script ≡ true
+  pub worker_is : course.progress.worker ≡ worker
+  pub todo : course.progress.todo ≡ []
+
+-- every worker's course is between two commands
+abbrev pub AllAtRest : Play → Type 0
+AllAtRest p = (worker : ℕ) (course : program.Course) → slice_get p.courses worker ≡ Some course → IsAtRest worker course
+
+-- what a worker at rest does next: it yields, and is at rest again
+pub record IsYieldOf (worker : ℕ) (i : Item) (after : program.Course) : Type 0 where
+  pub item : i ≡ item.Event (event.Switch worker why.Yield)
+  pub rest : IsAtRest worker after
+
+-- the next item within a script of yields is a yield
+pub yield_in : (worker : ℕ) (script : List Command) (last : Option (Reply × ℕ)) (i : Item) (after : program.Course) → list_all is_yield script ≡ true → next_in script (record { worker = worker; todo = [] }) last ≡ Some (i, after) → IsYieldOf worker i after
+unfolding next_in
+yield_in worker [] last i after yields next = absurd (none-some (i, after) next)
+yield_in worker (command.Yield ∷ []) last i after yields next =
+    let parts = some_pair_parts (item.Event (event.Switch worker why.Yield)) i (record { script = []; progress = record { worker = worker; todo = [] }; last = None }) after next in
+    record { item = sym parts.0; rest = subst (IsAtRest worker) parts.1 (record { script = yields; worker_is = refl; todo = refl }) }
+yield_in worker (command.Yield ∷ d ∷ ds) last i after yields next =
+    let parts = some_pair_parts (item.Event (event.Switch worker why.Yield)) i (record { script = d ∷ ds; progress = record { worker = worker; todo = [] }; last = None }) after next in
+    record { item = sym parts.0; rest = subst (IsAtRest worker) parts.1 (record { script = yields; worker_is = refl; todo = refl }) }
+yield_in worker (_ ∷ cs) last i after yields next = absurd (false≢true yields)
+
+-- so is that of a course at rest
+pub rest_next : (worker : ℕ) (course after : program.Course) (i : Item) → IsAtRest worker course → next_step course ≡ Some (i, after) → IsYieldOf worker i after
+rest_next worker course after i rest next =
+    yield_in worker course.script course.last i after rest.script
+    (ap (λ (q : Progress). next_in course.script q course.last) same ∙ next)
+  where
+    same : record { worker = worker; todo = [] } ≡ course.progress
+    same = cc (rest.worker_is, rest.todo)
