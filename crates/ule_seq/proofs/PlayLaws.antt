@@ -1,24 +1,35 @@
 -- How a player goes on: courses, and the plays that turns reach.
-use Rattle.std.proofs.Common.{◌≡◌, Bool, true, false, ℕ, zero, suc, ◌+◌, ◌<◌, ◌≤◌, List, [], ◌∷◌, ◌++◌, length, get_or, take, drop, map, slice_get, slice_set, slice_index_or, Option, Some, None, refl, sym, ◌∙◌, ap, subst, arith, add-one, drop-cons}
+use Rattle.std.proofs.Common.{◌≡◌, Bool, true, false, ℕ, zero, suc, ◌+◌, ◌<◌, ◌≤◌, List, [], ◌∷◌, ◌++◌, length, fold, get_or, take, drop, map, replicate, slice_get, slice_set, slice_index_or, Option, Some, None, refl, sym, ◌∙◌, ap, subst, arith, add-one, drop-cons, rules}
 use Rattle.std.specs.List.{enumerate_from, list_all}
-use Rattle.std.proofs.lemmas.Bool.{false≢true}
-use Rattle.std.proofs.lemmas.List.{drop_all, length-set, length-take-le, length_push, take_more}
+use Rattle.std.proofs.lemmas.Bool.{cond_both, false≢true}
+use Rattle.std.proofs.lemmas.List.{drop_all, length-replicate, length-set, length-take-le, length_push, take_more}
 use Rattle.std.proofs.lemmas.Option.{get_or_from_slice_get, none-some, same_Some, slice_get_within, some_pair_parts}
 use Rattle.ule_score.specs.declared.record.Why.TheVariants as why
 use Rattle.ule_types.specs.Form.{IsOfForm, is_yield}
 use Rattle.ule_types.specs.declared.command.Command.{Command}
 use Rattle.ule_types.specs.declared.command.Command.TheVariants as command
+use Rattle.ule_types.specs.declared.event.Entry.{Entry}
 use Rattle.ule_types.specs.declared.event.Event.{Event}
 use Rattle.ule_types.specs.declared.event.Event.TheVariants as event
 use Rattle.ule_types.specs.declared.event.Item.{Item}
 use Rattle.ule_types.specs.declared.event.Item.TheVariants as item
 use Rattle.ule_types.specs.declared.event.Reply.{Reply}
 use Rattle.ule_types.specs.declared.setup.Setup.{Setup}
+use Rattle.ule_types.specs.declared.setup.ThreadSpec.{ThreadSpec}
 use Rattle.ule_model.specs.Program as program
 use Rattle.ule_model.specs.Program.{Progress, begun, course_of, next_in, next_of, next_step, or_else, stepped}
-use Rattle.ule_model.specs.Rounds.{Play, opening, opening_courses, turn}
-use Rattle.ule_model.proofs.HistoryLaws.{Keeps, keeps_opening, keeps_turn}
-use Rattle.ule_seq.specs.Playing.{IsReached, opens, goes_on, course_at, courses_from, told}
+use Rattle.ule_model.specs.Rounds.{Play, after_item, opening, opening_courses, performed, turn}
+use Rattle.ule_model.specs.Start.{empty_world, first_line, laid, laid_on, record_of, with_unborn, world_at_start}
+use Rattle.ule_model.specs.Step.{is_ready, step}
+use Rattle.ule_model.specs.Switch.{switched}
+use Rattle.ule_model.specs.World.{World, fresh_line, side_of}
+use Rattle.ule_model.proofs.Courses.{left_falls}
+use Rattle.ule_model.proofs.HistoryLaws.{AreYields, Keeps, all_take, form_yields, keeps_opening, keeps_turn}
+use Rattle.ule_model.proofs.LegalLaws.{each_after_set}
+use Rattle.ule_model.proofs.RoundsLaws.{turn_cases}
+use Rattle.ule_model.proofs.YieldRounds.{all_left, left_performed}
+use Rattle.ule_seq.specs.Conditions.{CanStep}
+use Rattle.ule_seq.specs.Playing.{IsPerformed, IsPlay, IsReached, PlayerValue, opens, goes_on, course_at, courses_from, told}
 use Rattle.ule_seq.specs.Programs.{progress_of}
 use Rattle.ule_seq.specs.declared.program.Program.{Program}
 use Rattle.ule_seq.specs.declared.rounds.Course.{Course}
@@ -166,7 +177,113 @@ yield_in worker (_ ∷ cs) last i after yields next = absurd (false≢true yield
 pub rest_next : (worker : ℕ) (course after : program.Course) (i : Item) → IsAtRest worker course → next_step course ≡ Some (i, after) → IsYieldOf worker i after
 rest_next worker course after i rest next =
     yield_in worker course.script course.last i after rest.script
-    (ap (λ (q : Progress). next_in course.script q course.last) same ∙ next)
+    (ap (λ (u : ℕ). next_in course.script (record { worker = u; todo = [] }) course.last) (sym rest.worker_is) ∙
+    ap (λ (is : List Item). next_in course.script (record { worker = course.progress.worker; todo = is }) course.last) (sym rest.todo) ∙ next)
+
+-- the opening courses are at rest
+pub rest_from : (n : ℕ) (scripts : List (List Command)) → AreYields scripts → (worker : ℕ) (course : program.Course) → slice_get (map (λ e. course_of e.0 e.1) (enumerate_from n scripts)) worker ≡ Some course → IsAtRest (n + worker) course
+rest_from n [] all worker course got = absurd (none-some course got)
+rest_from n (script ∷ scripts) all zero course got =
+    subst (IsAtRest (n + 0)) (same_Some (course_of n script) course got) (record { script = all.0; worker_is = omega arith; todo = refl })
+rest_from n (script ∷ scripts) all (suc worker) course got =
+    let e : n + 1 + worker ≡ n + suc worker = omega arith in
+    subst (λ (u : ℕ). IsAtRest u course) e (rest_from (n + 1) scripts all.1 worker course got)
+
+-- each turn keeps all at rest
+pub rest_turn : (p : Play) (worker : ℕ) → AllAtRest p → AllAtRest (turn p worker)
+rest_turn p worker rest = turn_cases AllAtRest p worker (λ finished. rest) goes
   where
-    same : record { worker = worker; todo = [] } ≡ course.progress
-    same = cc (rest.worker_is, rest.todo)
+    goes : (course after : program.Course) (i : Item) → slice_get p.courses worker ≡ Some course → next_step course ≡ Some (i, after) → AllAtRest (after_item worker i after p)
+    goes course after i got next =
+        let next_one = rest_next worker course after i (rest worker course got) next in
+        subst (λ j. AllAtRest (after_item worker j after p)) (sym next_one.item)
+        (each_after_set IsAtRest p.courses worker course
+        (record after { last = Some ((step p.world worker (event.Switch worker why.Yield) p.now).1, p.now) }) got
+        (record { script = next_one.rest.script; worker_is = next_one.rest.worker_is; todo = next_one.rest.todo }) (λ w d other found. rest w d found))
+
+-- all workers of a play that is reached are at rest
+pub reached_rests : (s : Setup) → IsOfForm s → (p : Play) → IsReached s p → AllAtRest p
+reached_rests s form = reached_keeps s AllAtRest first rest_turn
+  where
+    first : AllAtRest (opening s)
+    first worker course got =
+        let e : 0 + worker ≡ worker = omega arith in
+        subst (λ (u : ℕ). IsAtRest u course) e
+        (rest_from 0 (take s.cpus s.scripts) (all_take (λ script. list_all is_yield script ≡ true) s.cpus s.scripts (form_yields s form)) worker course got)
+
+-- ---- the CPUs of a play
+
+-- each event leaves as many CPUs as there were
+pub step_count : (w : World) (worker : ℕ) (e : Event) (now : ℕ) → length (step w worker e now).0.lines ≡ length w.lines
+step_count w worker (event.Switch c y) now = length-set w.lines c (switched c y now (side_of c w)).0.line
+step_count w worker _ now = refl
+
+-- so does each turn
+pub count_turn : (s : Setup) (p : Play) (worker : ℕ) → length p.world.lines ≡ s.cpus → length (turn p worker).world.lines ≡ s.cpus
+count_turn s p worker count =
+    turn_cases (λ q. length q.world.lines ≡ s.cpus) p worker (λ finished. count) (λ course after i got next. item_count i after)
+  where
+    item_count : (i : Item) (after : program.Course) → length (after_item worker i after p).world.lines ≡ s.cpus
+    item_count (item.Advance k) after = count
+    item_count (item.Event e) after =
+        cond_both (is_ready p.world worker e) (performed worker e after p) p (λ q. length q.world.lines ≡ s.cpus)
+        (λ ready. step_count p.world worker e p.now ∙ count) (λ lost. count)
+
+-- a declared thread leaves as many CPUs as there were
+pub laid_count : (w : World) (specs : List ThreadSpec) → length (fold laid w specs).lines ≡ length w.lines
+laid_count w [] = refl
+laid_count w (spec ∷ specs) =
+    laid_count (laid w spec) specs ∙ length-set w.lines spec.cpu (laid_on spec.cpu (record_of w.settings spec) (side_of spec.cpu w)).line
+
+-- so does an unborn one
+pub unborn_count : (w : World) (ts : List ℕ) → length (fold with_unborn w ts).lines ≡ length w.lines
+unborn_count w [] = refl
+unborn_count w (t ∷ ts) = unborn_count (with_unborn w t) ts
+
+-- the world of a play that is reached has the CPUs of the setup
+pub reached_count : (s : Setup) (p : Play) → IsReached s p → length p.world.lines ≡ s.cpus
+reached_count s = reached_keeps s (λ q. length q.world.lines ≡ s.cpus) first (count_turn s)
+  where
+    first : length (world_at_start s).lines ≡ s.cpus
+    first =
+        unborn_count (fold laid (empty_world s) s.threads) s.unborn ∙ laid_count (empty_world s) s.threads ∙
+        length-set (replicate s.cpus fresh_line) 0 (first_line s.jitter) ∙ length-replicate s.cpus fresh_line
+
+-- ---- a turn of the player
+
+-- what a player needs for the event that a worker's course gives
+pub record CanPerform (s : Setup) (v : PlayerValue) (worker : ℕ) (i : Item) : Type 0 where
+  pub item : i ≡ item.Event (event.Switch worker why.Yield)
+  pub step : CanStep v.world (event.Switch worker why.Yield) v.now
+  pub room : 0 < v.outcome.room
+
+-- the course that a player has of a worker is that of its play
+pub course_got : (s : Setup) (v : PlayerValue) (p : Play) (worker : ℕ) (c : Course) → IsPlay s v p → slice_get v.courses worker ≡ Some c → slice_get p.courses worker ≡ Some (course_at s worker c)
+course_got s v p worker c play got =
+    let e : 0 + worker ≡ worker = omega arith in
+    ap (λ cs. slice_get cs worker) play.courses ∙ numbered_get (course_at s) 0 v.courses worker c got ∙ ap (λ (k : ℕ). Some (course_at s k c)) e
+
+-- where a course has a next item, a player has what that needs
+pub can_perform : (s : Setup) (v : PlayerValue) (p : Play) (worker : ℕ) (c : Course) (i : Item) (after : program.Course) → IsOfForm s → worker < s.cpus → IsPlay s v p → slice_get v.courses worker ≡ Some c → next_step (course_at s worker c) ≡ Some (i, after) → CanPerform s v worker i
+can_perform s v p worker c i after form below play got next = record {
+  item = yield.item;
+  step = record {
+    names = search (rules, (subst (λ (n : ℕ). worker < n) (sym (reached_count s p play.reached) ∙ play.world.count) below));
+    begun = omega (arith, kept.time, play.now);
+    bounded = omega (arith, kept.time, play.now);
+    in_time = play.in_time;
+  };
+  room = omega (arith, kept.count, left_falls s.cpus (course_at s worker c) after i next, left_among, play.room, ap (λ (es : List Entry). length es) play.entries);
+}
+  where
+    kept : Keeps s p
+    kept = reached_kept s form p play.reached
+
+    there : slice_get p.courses worker ≡ Some (course_at s worker c)
+    there = course_got s v p worker c play got
+
+    yield : IsYieldOf worker i after
+    yield = rest_next worker (course_at s worker c) after i (reached_rests s form p play.reached worker (course_at s worker c) there) next
+
+    left_among : all_left s.cpus (performed worker (event.Switch worker why.Yield) after p) + 1 ≤ all_left s.cpus p
+    left_among = left_performed s.cpus p worker (event.Switch worker why.Yield) (course_at s worker c) after there (next ∙ ap (λ (j : Item). Some (j, after)) yield.item)

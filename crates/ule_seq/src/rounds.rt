@@ -71,12 +71,12 @@ impl Course {
     }
 
     /// The course with the reply and the time of the event just performed.
-    fn told(self, reply: Reply, now: u64) -> Course
-        ensures { result ≡ told self reply now }
+    fn told(&self, reply: &Reply, now: u64) -> Course
+        ensures { result ≡ told self.now reply.now now }
     {
         Course {
-            last: Some((reply, now)),
-            ..self
+            last: Some((*reply, now)),
+            ..*self
         }
     }
 }
@@ -115,7 +115,7 @@ impl Player {
             return false;
         };
         match item {
-            Item::Event(event) => self.perform(worker, &event, ahead),
+            Item::Event(event) => self.perform(worker, &event, &ahead),
             Item::Advance(ticks) => {
                 self.now += u64::from(ticks);
                 self.courses[usize::from(worker)] = ahead;
@@ -125,22 +125,21 @@ impl Player {
     }
 
     /// An event of a worker, after which it stands at the course ahead.
-    fn perform(&mut self, worker: u8, event: &Event, ahead: Course)
+    fn perform(&mut self, worker: u8, event: &Event, ahead: &Course)
         requires step { CanStep self.old.world event.now self.old.now }
         requires worker { worker < length self.old.courses }
         requires room { 0 < self.old.outcome.room }
-        ensures { IsPerformed self.old worker event.now ahead self.new }
+        ensures { IsPerformed self.old worker event.now ahead.now self.new }
     {
         let now = self.now;
         let reply = self.world.step(worker, event, now);
-        let entry = Entry {
+        self.courses[usize::from(worker)] = ahead.told(&reply, now);
+        self.outcome.note(Entry {
             worker,
             event: *event,
             now,
             reply,
-        };
-        self.outcome.note(entry);
-        self.courses[usize::from(worker)] = ahead.told(reply, now);
+        });
     }
 
     /// A round: each worker has one turn, in rising number. Says whether any had a further item.
@@ -200,9 +199,9 @@ fn opening_courses(alloc: Global, s: &Setup) -> Result<Vec<Course>, Memory>
             program: Program::start(s, worker),
             last: None,
         };
-        let Ok(()) = courses.extend_from_slice(&[course]) else {
+        if courses.push(course).is_err() {
             return Err(Memory);
-        };
+        }
     }
     Ok(courses)
 }

@@ -4,4 +4,4 @@ use Rattle.ule_seq.proofs.PlayLaws.{course_more}
 use Rattle.ule_seq.proofs.rounds.opening_courses.Goals as goal
 
 pub loop-worker-preserved : goal.loop-worker-preserved
-loop-worker-preserved c = let n = c.in-Ok.ensures in let m = c.start.ensures in ?
+loop-worker-preserved c = let n = c.push.ensures in let m = c.is_err.ensures in ?
