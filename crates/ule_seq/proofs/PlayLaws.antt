@@ -1,11 +1,13 @@
 -- How a player goes on: courses, and the plays that turns reach.
-use Rattle.std.proofs.Common.{◌≡◌, Bool, true, false, ℕ, zero, suc, ◌+◌, ◌<◌, ◌≤◌, List, [], ◌∷◌, ◌++◌, length, fold, get_or, take, drop, map, replicate, slice_get, slice_set, slice_index_or, Option, Some, None, refl, sym, ◌∙◌, ap, subst, arith, add-one, drop-cons, rules}
+use Rattle.std.proofs.Common.{◌≡◌, Bool, true, false, ℕ, zero, suc, ◌+◌, ◌<◌, ◌≤◌, List, [], ◌∷◌, ◌++◌, length, fold, get_or, take, drop, map, replicate, slice_get, slice_set, slice_index_or, Option, Some, None, option_and_then, refl, sym, ◌∙◌, ap, subst, arith, add-one, drop-cons, rules}
 use Rattle.std.specs.List.{enumerate_from, list_all}
 use Rattle.std.proofs.lemmas.Bool.{cond_both, false≢true}
-use Rattle.std.proofs.lemmas.List.{drop_all, length-replicate, length-set, length-take-le, length_push, take_more}
+use Rattle.std.proofs.lemmas.List.{drop_all, length-map, length-replicate, length-set, length-take-le, length_push, take_more}
+use Rattle.std.proofs.lemmas.List.FromFn.{length-enumerate_from}
 use Rattle.std.proofs.lemmas.Option.{get_or_from_slice_get, none-some, same_Some, slice_get_within, some_pair_parts}
 use Rattle.ule_score.specs.declared.record.Why.TheVariants as why
 use Rattle.ule_types.specs.Form.{IsOfForm, is_yield}
+use Rattle.ule_types.specs.Outcome.{OutcomeValue}
 use Rattle.ule_types.specs.declared.command.Command.{Command}
 use Rattle.ule_types.specs.declared.command.Command.TheVariants as command
 use Rattle.ule_types.specs.declared.event.Entry.{Entry}
@@ -18,7 +20,7 @@ use Rattle.ule_types.specs.declared.setup.Setup.{Setup}
 use Rattle.ule_types.specs.declared.setup.ThreadSpec.{ThreadSpec}
 use Rattle.ule_model.specs.Program as program
 use Rattle.ule_model.specs.Program.{Progress, begun, course_of, next_in, next_of, next_step, or_else, stepped}
-use Rattle.ule_model.specs.Rounds.{Play, after_item, opening, opening_courses, performed, turn}
+use Rattle.ule_model.specs.Rounds.{Play, after_item, after_step, entry_of, opening, opening_courses, performed, turn}
 use Rattle.ule_model.specs.Start.{empty_world, first_line, laid, laid_on, record_of, with_unborn, world_at_start}
 use Rattle.ule_model.specs.Step.{is_ready, step}
 use Rattle.ule_model.specs.Switch.{switched}
@@ -26,9 +28,10 @@ use Rattle.ule_model.specs.World.{World, fresh_line, side_of}
 use Rattle.ule_model.proofs.Courses.{left_falls}
 use Rattle.ule_model.proofs.HistoryLaws.{AreYields, Keeps, all_take, form_yields, keeps_opening, keeps_turn}
 use Rattle.ule_model.proofs.LegalLaws.{each_after_set}
-use Rattle.ule_model.proofs.RoundsLaws.{turn_cases}
+use Rattle.ule_model.proofs.RoundsLaws.{turn_cases, turn_finished}
 use Rattle.ule_model.proofs.YieldRounds.{all_left, left_performed}
-use Rattle.ule_seq.specs.Conditions.{CanStep}
+use Rattle.ule_model.specs.WorldValue.{Shows}
+use Rattle.ule_seq.specs.Conditions.{AllNoEarlier, CanStep}
 use Rattle.ule_seq.specs.Playing.{IsPerformed, IsPlay, IsReached, PlayerValue, opens, goes_on, course_at, courses_from, told}
 use Rattle.ule_seq.specs.Programs.{progress_of}
 use Rattle.ule_seq.specs.declared.program.Program.{Program}
@@ -287,3 +290,65 @@ can_perform s v p worker c i after form below play got next = record {
 
     left_among : all_left s.cpus (performed worker (event.Switch worker why.Yield) after p) + 1 ≤ all_left s.cpus p
     left_among = left_performed s.cpus p worker (event.Switch worker why.Yield) (course_at s worker c) after there (next ∙ ap (λ (j : Item). Some (j, after)) yield.item)
+
+-- a player has a course for each worker
+pub courses_count : (s : Setup) (v : PlayerValue) (p : Play) → IsOfForm s → IsPlay s v p → length v.courses ≡ s.cpus
+courses_count s v p form play =
+    sym (length-map (enumerate_from 0 v.courses) (λ e. course_at s e.0 e.1) ∙ length-enumerate_from 0 v.courses) ∙
+    ap (λ (cs : List program.Course). length cs) (sym play.courses) ∙ (reached_kept s form p play.reached).legal.count
+
+-- the play after a turn in which the worker has no further item
+pub turn_ended : (s : Setup) (v : PlayerValue) (p : Play) (worker : ℕ) (c : Course) → IsPlay s v p → slice_get v.courses worker ≡ Some c → next_step (course_at s worker c) ≡ None → turn p worker ≡ p
+turn_ended s v p worker c play got ended =
+    turn_finished p worker (λ course found. subst (λ d. next_step d ≡ None) (same_Some (course_at s worker c) course (sym (course_got s v p worker c play got) ∙ found)) ended)
+
+-- the play after a turn in which the worker's item was an event that was performed
+pub turn_performed : (s : Setup) (v new : PlayerValue) (p : Play) (worker : ℕ) (c ahead : Course) → IsPlay s v p → 0 < v.outcome.room → slice_get v.courses worker ≡ Some c → next_step (course_at s worker c) ≡ Some (item.Event (event.Switch worker why.Yield), course_at s worker ahead) → IsPerformed v worker (event.Switch worker why.Yield) ahead new → IsPlay s new (turn p worker)
+turn_performed s v new p worker c ahead play room got next done =
+    subst (IsPlay s new) (sym turned) (record {
+      reached = subst (IsReached s) turned (goes_on p worker play.reached);
+      world = subst (λ (n : ℕ). Shows new.world (step p.world worker e n).0) (sym play.now) (done.steps p.world play.world).0;
+      courses = courses;
+      now = play.now ∙ sym done.now;
+      entries = entries;
+      room = omega (arith, play.room, ap (λ (o : OutcomeValue). length o.entries) done.outcome, ap (λ (o : OutcomeValue). o.room) done.outcome, length_push v.outcome.entries (record { worker = worker; event = e; now = v.now; reply = done.reply }));
+      bare = record {
+        threads = ap (λ (o : OutcomeValue). o.threads) done.outcome ∙ play.bare.threads;
+        cpus = ap (λ (o : OutcomeValue). o.cpus) done.outcome ∙ play.bare.cpus;
+      };
+      in_time = subst (AllNoEarlier new.world) (sym done.now) done.in_time;
+    })
+  where
+    e : Event
+    e = event.Switch worker why.Yield
+
+    -- the reply is that of the step
+    reply : (step p.world worker e p.now).1 ≡ done.reply
+    reply = ap (λ (n : ℕ). (step p.world worker e n).1) play.now ∙ sym (done.steps p.world play.world).1
+
+    turned : turn p worker ≡ performed worker e (course_at s worker ahead) p
+    turned =
+        ap (λ (o : Option program.Course). after_step worker (option_and_then next_step o) p) (course_got s v p worker c play got) ∙
+        ap (λ (o : Option (Item × program.Course)). after_step worker o p) next
+
+    -- the course that it stands at
+    reached_course : record (course_at s worker ahead) { last = Some ((step p.world worker e p.now).1, p.now) } ≡ course_at s worker (told ahead done.reply v.now)
+    reached_course =
+        ap (λ (r : Reply). record (course_at s worker ahead) { last = Some (r, p.now) }) reply ∙
+        ap (λ (n : ℕ). record (course_at s worker ahead) { last = Some (done.reply, n) }) play.now
+
+    courses : slice_set p.courses worker (record (course_at s worker ahead) { last = Some ((step p.world worker e p.now).1, p.now) }) ≡ courses_from s 0 new.courses
+    courses =
+        let at : 0 + worker ≡ worker = omega arith in
+        ap (slice_set p.courses worker) reached_course ∙
+        ap (λ (cs : List program.Course). slice_set cs worker (course_at s worker (told ahead done.reply v.now))) play.courses ∙
+        ap (λ (k : ℕ). slice_set (courses_from s 0 v.courses) worker (course_at s k (told ahead done.reply v.now))) (sym at) ∙
+        sym (numbered_set (course_at s) 0 v.courses worker (told ahead done.reply v.now)) ∙
+        ap (courses_from s 0) (sym done.courses)
+
+    entries : p.entries ++ entry_of p worker e ∷ [] ≡ new.outcome.entries
+    entries =
+        ap (λ (es : List Entry). es ++ entry_of p worker e ∷ []) play.entries ∙
+        ap (λ (r : Reply). v.outcome.entries ++ record { worker = worker; event = e; now = p.now; reply = r } ∷ []) reply ∙
+        ap (λ (n : ℕ). v.outcome.entries ++ record { worker = worker; event = e; now = n; reply = done.reply } ∷ []) play.now ∙
+        sym (ap (λ (o : OutcomeValue). o.entries) done.outcome)

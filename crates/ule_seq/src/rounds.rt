@@ -199,9 +199,9 @@ fn opening_courses(alloc: Global, s: &Setup) -> Result<Vec<Course>, Memory>
             program: Program::start(s, worker),
             last: None,
         };
-        if courses.push(course).is_err() {
+        let Ok(()) = courses.push(course) else {
             return Err(Memory);
-        }
+        };
     }
     Ok(courses)
 }

@@ -3,5 +3,5 @@ use Rattle.ule_model.specs.Rounds.{Play, rounds}
 use Rattle.ule_seq.specs.Playing.{IsPlay}
 use Rattle.ule_seq.proofs.rounds.Player.run.Given as goal
 
-abbrev pub invariant-loop-_round : goal.invariant-loop-_round
-invariant-loop-_round l = (p : Play) → IsPlay l.s l.initial.self p → IsPlay l.s l.self (rounds l._round p)
+abbrev pub invariant-loop-round : goal.invariant-loop-round
+invariant-loop-round l = (p : Play) → IsPlay l.s l.initial.self p → IsPlay l.s l.self (rounds l._round p)
