@@ -4,7 +4,7 @@ use Rattle.std.specs.List.{enumerate_from, list_all}
 use Rattle.std.proofs.lemmas.Bool.{cond_both, false≢true}
 use Rattle.std.proofs.lemmas.List.{drop_all, length-map, length-replicate, length-set, length-take-le, length_push, take_more}
 use Rattle.std.proofs.lemmas.List.FromFn.{length-enumerate_from}
-use Rattle.std.proofs.lemmas.Option.{get_or_from_slice_get, none-some, same_Some, slice_get_within, some_pair_parts}
+use Rattle.std.proofs.lemmas.Option.{get_or_from_slice_get, none-some, same_Some, slice_get-get_or, slice_get_within, some_pair_parts}
 use Rattle.ule_score.specs.declared.record.Why.TheVariants as why
 use Rattle.ule_types.specs.Form.{IsOfForm, is_yield}
 use Rattle.ule_types.specs.Outcome.{OutcomeValue}
@@ -20,8 +20,8 @@ use Rattle.ule_types.specs.declared.setup.Setup.{Setup}
 use Rattle.ule_types.specs.declared.setup.ThreadSpec.{ThreadSpec}
 use Rattle.ule_model.specs.Program as program
 use Rattle.ule_model.specs.Program.{Progress, begun, course_of, next_in, next_of, next_step, or_else, stepped}
-use Rattle.ule_model.specs.Rounds.{Play, after_item, after_step, entry_of, opening, opening_courses, performed, turn}
-use Rattle.ule_model.specs.Start.{empty_world, first_line, laid, laid_on, record_of, with_unborn, world_at_start}
+use Rattle.ule_model.specs.Rounds.{Play, after_item, after_step, entry_of, greatest_rounds, opening, opening_courses, performed, play_of, turn}
+use Rattle.ule_model.specs.Start.{empty_world, first_line, laid, laid_on, record_of, starting_time, with_unborn, world_at_start}
 use Rattle.ule_model.specs.Step.{is_ready, step}
 use Rattle.ule_model.specs.Switch.{switched}
 use Rattle.ule_model.specs.World.{World, fresh_line, side_of}
@@ -32,6 +32,7 @@ use Rattle.ule_model.proofs.RoundsLaws.{turn_cases, turn_finished}
 use Rattle.ule_model.proofs.YieldRounds.{all_left, left_performed}
 use Rattle.ule_model.specs.WorldValue.{Shows}
 use Rattle.ule_seq.specs.Conditions.{AllNoEarlier, CanStep}
+use Rattle.ule_seq.specs.Outcomes.{HasFinals, HasLines, IsOutcomeOf}
 use Rattle.ule_seq.specs.Playing.{IsPerformed, IsPlay, IsReached, PlayerValue, opens, goes_on, course_at, courses_from, told}
 use Rattle.ule_seq.specs.Programs.{progress_of}
 use Rattle.ule_seq.specs.declared.program.Program.{Program}
@@ -352,3 +353,66 @@ turn_performed s v new p worker c ahead play room got next done =
         ap (λ (r : Reply). v.outcome.entries ++ record { worker = worker; event = e; now = p.now; reply = r } ∷ []) reply ∙
         ap (λ (n : ℕ). v.outcome.entries ++ record { worker = worker; event = e; now = n; reply = done.reply } ∷ []) play.now ∙
         sym (ap (λ (o : OutcomeValue). o.entries) done.outcome)
+
+-- the course that a player reads is that of the worker
+pub course_read : (v : PlayerValue) (worker place : ℕ) (items : List Course) (c : Course) → worker < length v.courses → v.courses ≡ items → place ≡ worker → c ≡ get_or items place c → slice_get v.courses worker ≡ Some c
+course_read v worker place items c below same at read =
+    slice_get-get_or v.courses worker c below ∙
+    ap (λ (d : Course). Some d) (ap (λ (cs : List Course). get_or cs worker c) same ∙ ap (λ (k : ℕ). get_or items k c) (sym at) ∙ sym read)
+
+-- an event that a worker's course gives is its yield
+pub event_is : (s : Setup) (v : PlayerValue) (p : Play) (worker : ℕ) (c ahead : Course) (e : Event) → IsOfForm s → worker < s.cpus → IsPlay s v p → slice_get v.courses worker ≡ Some c → next_step (course_at s worker c) ≡ Some (item.Event e, course_at s worker ahead) → e ≡ event.Switch worker why.Yield
+event_is s v p worker c ahead e form below play got next =
+    let is : item.Event e ≡ item.Event (event.Switch worker why.Yield) = (can_perform s v p worker c (item.Event e) (course_at s worker ahead) form below play got next).item in
+    cc is
+
+-- no course lets time go on
+pub never_advances : (s : Setup) (v : PlayerValue) (p : Play) (worker : ℕ) (c ahead : Course) (k : ℕ) → IsOfForm s → worker < s.cpus → IsPlay s v p → slice_get v.courses worker ≡ Some c → next_step (course_at s worker c) ≡ Some (item.Advance k, course_at s worker ahead) → ⊥
+never_advances s v p worker c ahead k form below play got next =
+    let is : item.Advance k ≡ item.Event (event.Switch worker why.Yield) = (can_perform s v p worker c (item.Advance k) (course_at s worker ahead) form below play got next).item in
+    cc is
+
+-- a player can perform the event that a worker's course gives
+pub can_step : (s : Setup) (v : PlayerValue) (p : Play) (worker : ℕ) (c ahead : Course) (e : Event) → IsOfForm s → worker < s.cpus → IsPlay s v p → slice_get v.courses worker ≡ Some c → next_step (course_at s worker c) ≡ Some (item.Event e, course_at s worker ahead) → CanStep v.world e v.now
+can_step s v p worker c ahead e form below play got next =
+    subst (λ (f : Event). CanStep v.world f v.now) (sym (event_is s v p worker c ahead e form below play got next))
+    (can_perform s v p worker c (item.Event e) (course_at s worker ahead) form below play got next).step
+
+-- it has room to note it
+pub has_room : (s : Setup) (v : PlayerValue) (p : Play) (worker : ℕ) (c ahead : Course) (e : Event) → IsOfForm s → worker < s.cpus → IsPlay s v p → slice_get v.courses worker ≡ Some c → next_step (course_at s worker c) ≡ Some (item.Event e, course_at s worker ahead) → 0 < v.outcome.room
+has_room s v p worker c ahead e form below play got next =
+    (can_perform s v p worker c (item.Event e) (course_at s worker ahead) form below play got next).room
+
+-- the play after a turn in which that event was performed
+pub turn_taken : (s : Setup) (v new : PlayerValue) (p : Play) (worker : ℕ) (c ahead : Course) (e : Event) → IsOfForm s → worker < s.cpus → IsPlay s v p → slice_get v.courses worker ≡ Some c → next_step (course_at s worker c) ≡ Some (item.Event e, course_at s worker ahead) → IsPerformed v worker e ahead new → IsPlay s new (turn p worker)
+turn_taken s v new p worker c ahead e form below play got next done =
+    let is : e ≡ event.Switch worker why.Yield = event_is s v p worker c ahead e form below play got next in
+    turn_performed s v new p worker c ahead play (has_room s v p worker c ahead e form below play got next) got
+    (next ∙ ap (λ (f : Event). Some (item.Event f, course_at s worker ahead)) is)
+    (subst (λ (f : Event). IsPerformed v worker f ahead new) is done)
+
+-- a play has as many courses as the setup has CPUs
+pub play_count : (s : Setup) (v : PlayerValue) (p : Play) → IsOfForm s → IsPlay s v p → length p.courses ≡ s.cpus
+play_count s v p form play = (reached_kept s form p play.reached).legal.count
+
+-- ---- the opening and the end
+
+-- a player at the start
+pub opening_play : (s : Setup) (v : PlayerValue) → Shows v.world (world_at_start s) → AllNoEarlier v.world starting_time → courses_from s 0 v.courses ≡ opening_courses s → v.now ≡ starting_time → v.outcome ≡ record { entries = []; threads = []; cpus = []; now = 0; room = greatest_rounds } → IsPlay s v (opening s)
+opening_play s v shows in_time courses now outcome = record {
+  reached = opens;
+  world = shows;
+  courses = sym courses;
+  now = sym now;
+  entries = sym (ap (λ (o : OutcomeValue). o.entries) outcome);
+  room = omega (arith, ap (λ (o : OutcomeValue). length o.entries) outcome, ap (λ (o : OutcomeValue). o.room) outcome);
+  bare = record { threads = ap (λ (o : OutcomeValue). o.threads) outcome; cpus = ap (λ (o : OutcomeValue). o.cpus) outcome };
+  in_time = subst (AllNoEarlier v.world) (sym now) in_time;
+}
+
+-- the outcome of a player that has the play of the setup
+pub outcome_of_play : (s : Setup) (v : PlayerValue) (o : OutcomeValue) → IsPlay s v (play_of s) → HasFinals v.world v.outcome o v.now → IsOutcomeOf s o
+outcome_of_play s v o play finals = record {
+  entries = finals.entries ∙ sym play.entries;
+  lines = subst (HasLines o (play_of s).world) (sym play.now) (finals.lines (play_of s).world play.world);
+}

@@ -1,9 +1,16 @@
 -- A turn with no further item changes nothing; any other performs the yield that the worker's course gives.
-use Rattle.ule_seq.proofs.PlayLaws.{can_perform, course_got}
+use Rattle.std.proofs.Common.{◌≡◌, ◌<◌, length, slice_get, Some, sym, ◌∙◌, ap, subst, arith}
+use Rattle.ule_seq.specs.Playing.{PlayerValue}
+use Rattle.ule_seq.proofs.PlayLaws.{can_step, course_read, courses_count, has_room, never_advances, turn_ended, turn_taken}
 use Rattle.ule_seq.proofs.rounds.Player.turn.Goals as goal
 
-pub perform-requires-clause-step : goal.perform-requires-clause-step
-perform-requires-clause-step c = let a = c.in-Some in let b = c.in-Some.ensures in let d = c.in-Some.item-is in let g = c.in-Some.ahead-is in let f = c.in-Event.is in ?
+pub index-requires : goal.index-requires
+index-requires c = let a = c.self.view_is in let b = c.from.ensures in let d = c.type_inv in ?
 
-pub returns-in_default-clause-turned : goal.returns-in_default-clause-turned
-returns-in_default-clause-turned c = let a = c.in_default.is in let b = c.step.ensures in let d = c.index.ensures in ?
+pub perform-requires-clause-step : goal.perform-requires-clause-step
+perform-requires-clause-step c =
+    let play = c.requires.play.1 in
+    let below : c.args.worker < length c.args.self.now.courses = omega (arith, courses_count c.args.s.now c.args.self.now c.requires.play.0 c.requires.form play) in
+    let got = course_read c.args.self.now c.args.worker c.from.result c.self.inside.courses.items c.index.result.now below ? c.from.ensures c.index.ensures in
+    can_step c.args.s.now c.args.self.now c.requires.play.0 c.args.worker c.index.result.now c.in-Some.ahead c.in-Event.event c.requires.form c.requires.worker play got
+    (sym c.in-Some.ensures ∙ ap (λ i. Some (i, _)) c.in-Event.is)

@@ -1,0 +1,22 @@
+-- The rounds past one that changed nothing change nothing.
+use Rattle.std.proofs.Common.{◌≡◌, ◌≤◌, sym, ◌∙◌, ap, subst, arith}
+use Rattle.ule_model.proofs.RoundsLaws.{rounds_more, rounds_none, rounds_past_still}
+use Rattle.ule_model.specs.Rounds.{Play, round, rounds}
+use Rattle.ule_seq.specs.Playing.{IsPlay}
+use Rattle.ule_seq.proofs.rounds.Player.run.Goals as goal
+
+pub loop-round-init : goal.loop-round-init
+loop-round-init c p play = subst (IsPlay c.args.s.now c.args.self.now) (sym (rounds_none p)) play
+
+pub round-requires-clause-play : goal.round-requires-clause-play
+round-requires-clause-play c =
+    (rounds c.loop-round.round c.requires.play.0, c.loop-round.invariant c.requires.play.0 c.requires.play.1)
+
+pub loop-round-preserved : goal.loop-round-preserved
+loop-round-preserved c p play = let k = c.loop-round in ?
+
+pub returns-then-not-round : goal.returns-then-not-round
+returns-then-not-round c p play = let k = c.round.ensures in ?
+
+pub returns : goal.returns
+returns c p play = ?
