@@ -10,13 +10,22 @@ loop-round-init c p play = subst (IsPlay c.args.s.now c.args.self.now) (sym (rou
 
 pub round-requires-clause-play : goal.round-requires-clause-play
 round-requires-clause-play c =
-    (rounds c.loop-round.round c.requires.play.0, c.loop-round.invariant c.requires.play.0 c.requires.play.1)
+    (rounds c.loop-round._round c.requires.play.0, c.loop-round.invariant c.requires.play.0 c.requires.play.1)
 
 pub loop-round-preserved : goal.loop-round-preserved
-loop-round-preserved c p play = let k = c.loop-round in ?
+loop-round-preserved c p play =
+    subst (IsPlay c.args.s.now c.round.new.self) (sym (rounds_more c.loop-round._round p))
+    (c.round.ensures.played (rounds c.loop-round._round p) (c.loop-round.invariant p play))
 
 pub returns-then-not-round : goal.returns-then-not-round
-returns-then-not-round c p play = let k = c.round.ensures in ?
+returns-then-not-round c p play =
+    let kept = c.loop-round.invariant p play in
+    let still : round (rounds c.loop-round._round p) ≡ rounds c.loop-round._round p = c.round.ensures.ended ? (rounds c.loop-round._round p) kept in
+    let past : c.loop-round._round ≤ 65536 = omega arith in
+    subst (IsPlay c.args.s.now c.round.new.self) (still ∙ sym (rounds_past_still c.loop-round._round 65536 p past still))
+    (c.round.ensures.played (rounds c.loop-round._round p) kept)
 
 pub returns : goal.returns
-returns c p play = ?
+returns c p play =
+    let all : c.loop-round._round ≡ 65536 = omega arith in
+    subst (λ n. IsPlay c.args.s.now c.loop-round.self (rounds n p)) all (c.loop-round.invariant p play)
