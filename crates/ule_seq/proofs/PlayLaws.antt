@@ -355,10 +355,10 @@ turn_performed s v new p worker c ahead play room got next done =
         sym (ap (λ (o : OutcomeValue). o.entries) done.outcome)
 
 -- the course that a player reads is that of the worker
-pub course_read : (v : PlayerValue) (worker place : ℕ) (items : List Course) (c : Course) → worker < length v.courses → v.courses ≡ items → place ≡ worker → c ≡ get_or items place c → slice_get v.courses worker ≡ Some c
-course_read v worker place items c below same at read =
-    slice_get-get_or v.courses worker c below ∙
-    ap (λ (d : Course). Some d) (ap (λ (cs : List Course). get_or cs worker c) same ∙ ap (λ (k : ℕ). get_or items k c) (sym at) ∙ sym read)
+pub course_read : (s : Setup) (v : PlayerValue) (p : Play) (worker place : ℕ) (items : List Course) (c : Course) → IsOfForm s → worker < s.cpus → IsPlay s v p → items ≡ v.courses → place ≡ worker → c ≡ get_or items place c → slice_get v.courses worker ≡ Some c
+course_read s v p worker place items c form below play same at read =
+    slice_get-get_or v.courses worker c (subst (λ (n : ℕ). worker < n) (sym (courses_count s v p form play)) below) ∙
+    ap (λ (d : Course). Some d) (ap (λ (cs : List Course). get_or cs worker c) (sym same) ∙ ap (λ (k : ℕ). get_or items k c) (sym at) ∙ sym read)
 
 -- an event that a worker's course gives is its yield
 pub event_is : (s : Setup) (v : PlayerValue) (p : Play) (worker : ℕ) (c ahead : Course) (e : Event) → IsOfForm s → worker < s.cpus → IsPlay s v p → slice_get v.courses worker ≡ Some c → next_step (course_at s worker c) ≡ Some (item.Event e, course_at s worker ahead) → e ≡ event.Switch worker why.Yield

@@ -1,6 +1,7 @@
 -- What is told of a world at the end of a play.
-use Rattle.std.specs.Prelude.{◌≡◌, ℕ, ◌+◌, ◌%◌, ◌^◌, ◌<◌, List, [], length, slice_get, IfSome}
-use Rattle.ule_model.specs.CpuValue.{CpuValue}
+use Rattle.std.specs.Prelude.{◌≡◌, ℕ, ◌+◌, ◌%◌, ◌^◌, ◌<◌, List, [], length, slice_get, slice_set, Option, Some, None, IfSome}
+use Rattle.ule_model.specs.CpuValue.{CpuValue, value_laid}
+use Rattle.ule_model.specs.Start.{record_of}
 use Rattle.ule_model.specs.Finals.{thread_lines}
 use Rattle.ule_model.specs.Rounds.{play_of}
 use Rattle.ule_model.specs.World.{World}
@@ -8,6 +9,7 @@ use Rattle.ule_model.specs.WorldValue.{Shows, WorldValue}
 use Rattle.ule_tdq.specs.Cpu.{StartsAs}
 use Rattle.ule_types.specs.Outcome.{OutcomeValue}
 use Rattle.ule_types.specs.declared.setup.Setup.{Setup}
+use Rattle.ule_types.specs.declared.setup.ThreadSpec.{ThreadSpec}
 
 -- an outcome without final lines
 pub record IsBare (o : OutcomeValue) : Type 0 where
@@ -34,3 +36,11 @@ pub record IsOutcomeOf (s : Setup) (o : OutcomeValue) : Type 0 where
 pub record AreFresh (s : Setup) (n : ℕ) (cpus : List CpuValue) : Type 0 where
   pub count : length cpus ≡ n
   pub each : (c : ℕ) → IfSome (slice_get cpus c) (λ v. StartsAs v c s.settings ((s.jitter + 16) % 2 ^ 32))
+
+-- the scheduler with a declared thread queued on its CPU
+abbrev pub laid_part : Option CpuValue → ThreadSpec → WorldValue → WorldValue
+laid_part None spec v = v
+laid_part (Some part) spec v = record v { cpus = slice_set v.cpus spec.cpu (value_laid (record_of v.settings spec) part) }
+
+abbrev pub with_laid : WorldValue → ThreadSpec → WorldValue
+with_laid v spec = laid_part (slice_get v.cpus spec.cpu) spec v

@@ -1,7 +1,8 @@
 ghost use Rattle.std.specs.Prelude.{◌≡◌, ◌≤◌, IsTrue};
 ghost use Rattle.ule_model.specs.Start.{base_of, class_of, nice_of, record_of};
 ghost use Rattle.ule_score.specs.Bounds.{KeepsBounds};
-ghost use Rattle.ule_types.specs.Rules.{are_settings, is_form};
+ghost use Rattle.ule_prio.specs.declared.class.Class.TheVariants.{Ts};
+ghost use Rattle.ule_types.specs.Rules.{are_settings};
 
 use ule_history::{CpuUse, History};
 use ule_prio::{Class, Nice, Priority};
@@ -45,7 +46,9 @@ fn nice_of(form: Form) -> Nice
 /// Its base priority at the start.
 fn base_of(settings: &Settings, form: Form) -> Priority
     requires { IsTrue (are_settings settings.now) }
-    ensures { result ≡ base_of settings.now form }
+    ensures base { result ≡ base_of settings.now form }
+    ensures low { class_of form ≡ Ts → 120 ≤ result }
+    ensures high { class_of form ≡ Ts → result ≤ 223 }
 {
     match form {
         Form::Ts(nice) => ts_priority(FRESH_HISTORY, FRESH_USE, nice, settings.interact),

@@ -1,9 +1,11 @@
-ghost use Rattle.std.specs.Prelude.{◌≡◌, ◌+◌, ◌%◌, ◌^◌, IfOk};
+ghost use Rattle.std.specs.Prelude.{◌≡◌, ℕ, ◌+◌, ◌%◌, ◌^◌, ◌<◌, ◌≤◌, length, slice_get, None, IfOk, IfSome, IsTrue};
+ghost use Rattle.ule_types.specs.Rules.{are_settings};
+ghost use Rattle.ule_model.specs.CpuValue.{thread_in};
 ghost use Rattle.ule_types.specs.Form.{IsOfForm};
-ghost use Rattle.ule_model.specs.Start.{world_at_start, starting_time};
+ghost use Rattle.ule_model.specs.Start.{base_of, world_at_start, starting_time};
 ghost use Rattle.ule_model.specs.WorldValue.{Shows, Steps, line_among, value_step};
 ghost use Rattle.ule_seq.specs.Conditions.{AllNoEarlier, CanStep};
-ghost use Rattle.ule_seq.specs.Outcomes.{AreFresh, HasFinals, IsBare};
+ghost use Rattle.ule_seq.specs.Outcomes.{AreFresh, HasFinals, IsBare, with_laid};
 ghost use Rattle.ule_tdq.specs.Replies.{reply_of};
 ghost use Rattle.ule_types.specs.declared.event.Event.TheVariants.{Switch};
 
@@ -14,7 +16,7 @@ use ule_io::Memory;
 use ule_prio::{Cpu, ThreadId};
 use ule_score::{Settings, Why};
 use ule_tdq::{SwitchOut, Tdq};
-use ule_types::{Event, Outcome, Reply, Setup, ThreadLine};
+use ule_types::{Event, Outcome, Reply, Setup, ThreadLine, ThreadSpec};
 
 /// The world of the sequential scheduler: all CPUs with their threads.
 #[derive(Drop)]
@@ -76,14 +78,31 @@ impl World {
         ensures shows { IfOk result (λ w. Shows w (world_at_start s.now)) }
         ensures in_time { IfOk result (λ w. AllNoEarlier w starting_time) }
     {
-        let mut cpus = empty_cpus(alloc, s)?;
-        for spec in s.threads.as_slice() {
-            let r = record_of(&s.settings, spec);
-            let tdq = &mut cpus[usize::from(spec.cpu.0)];
-            tdq.lay(r);
+        let mut world = World {
+            settings: s.settings,
+            cpus: empty_cpus(alloc, s)?,
+        };
+        let specs = s.threads.as_slice();
+        for spec in specs {
+            world.lay(spec);
         }
-        let settings = s.settings;
-        Ok(World { settings, cpus })
+        Ok(world)
+    }
+
+    /// Queues a declared thread on its CPU.
+    fn lay(&mut self, spec: &ThreadSpec)
+        requires settings { IsTrue (are_settings self.old.settings) }
+        requires exists { spec.now.cpu < length self.old.cpus }
+        requires absent { IfSome (slice_get self.old.cpus spec.now.cpu) (λ part. thread_in part spec.now.id ≡ None) }
+        ensures value { self.new ≡ with_laid self.old spec.now }
+        ensures in_time { (now : ℕ) → AllNoEarlier self.old now → starting_time ≤ now → AllNoEarlier self.new now }
+        ensures number { spec.now.id < 256 }
+        ensures priority { base_of self.old.settings spec.now.form < 256 }
+    {
+        let r = record_of(&self.settings, spec);
+        let _numbers = (r.id.0, r.priority.0); // so that both are known to be below 256
+        let tdq = &mut self.cpus[usize::from(spec.cpu.0)];
+        tdq.lay(r);
     }
 
     /// Performs an event of a worker: one step of the sequential scheduler.

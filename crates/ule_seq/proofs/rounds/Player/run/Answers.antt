@@ -1,5 +1,5 @@
 -- The rounds past one that changed nothing change nothing.
-use Rattle.std.proofs.Common.{◌≡◌, ◌≤◌, sym, ◌∙◌, ap, subst, arith}
+use Rattle.std.proofs.Common.{◌≡◌, ◌≤◌, false, sym, ◌∙◌, ap, subst, arith}
 use Rattle.ule_model.proofs.RoundsLaws.{rounds_more, rounds_none, rounds_past_still}
 use Rattle.ule_model.specs.Rounds.{Play, round, rounds}
 use Rattle.ule_seq.specs.Playing.{IsPlay}
@@ -20,7 +20,8 @@ loop-round-preserved c p play =
 pub returns-then-not-round : goal.returns-then-not-round
 returns-then-not-round c p play =
     let kept = c.loop-round.invariant p play in
-    let still : round (rounds c.loop-round._round p) ≡ rounds c.loop-round._round p = c.round.ensures.ended ? (rounds c.loop-round._round p) kept in
+    let none : c.round.result ≡ false = grind arith in
+    let still : round (rounds c.loop-round._round p) ≡ rounds c.loop-round._round p = c.round.ensures.ended none (rounds c.loop-round._round p) kept in
     let past : c.loop-round._round ≤ 65536 = omega arith in
     subst (IsPlay c.args.s.now c.round.new.self) (still ∙ sym (rounds_past_still c.loop-round._round 65536 p past still))
     (c.round.ensures.played (rounds c.loop-round._round p) kept)
