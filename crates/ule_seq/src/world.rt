@@ -3,7 +3,8 @@ ghost use Rattle.ule_types.specs.Rules.{are_settings};
 ghost use Rattle.ule_model.specs.CpuValue.{thread_in};
 ghost use Rattle.ule_types.specs.Form.{IsOfForm};
 ghost use Rattle.ule_model.specs.Start.{base_of, world_at_start, starting_time};
-ghost use Rattle.ule_model.specs.WorldValue.{Shows, Steps, line_among, value_lines, value_step};
+ghost use Rattle.ule_model.specs.WorldValue.{Shows, Steps, line_among, value_step};
+ghost use Rattle.std.specs.List.{filter_map, range_with_len};
 ghost use Rattle.ule_seq.specs.Conditions.{AllNoEarlier, CanStep};
 ghost use Rattle.ule_seq.specs.Outcomes.{AreFresh, HasFinals, IsBare, with_laid};
 ghost use Rattle.ule_tdq.specs.Replies.{reply_of};
@@ -137,18 +138,21 @@ impl World {
         requires { IsBare out.old }
         ensures { HasFinals self.now out.old out.new now }
     {
-        self.set_threads(out);
+        self.set_threads(256, out);
         self.set_cpus(out);
         out.set_now(now);
     }
 
-    /// Sets the lines of all threads.
-    fn set_threads(&self, out: &mut Outcome)
-        requires { out.old.threads ≡ [] }
-        ensures { out.new ≡ record out.old { threads = value_lines self.now } }
+    /// Sets the lines of the first so many threads.
+    fn set_threads(&self, count: u16, out: &mut Outcome)
+        requires within { count ≤ 256 }
+        requires none { out.old.threads ≡ [] }
+        ensures { out.new ≡ record out.old {
+          threads = filter_map (line_among self.now.cpus) (range_with_len 0 count);
+        } }
     {
-        for t in 0..=255 {
-            if let Some(line) = self.thread_line(ThreadId(t)) {
+        for t in 0..count {
+            if let Some(line) = self.thread_line(ThreadId(t as u8)) {
                 out.set_thread(line);
             }
         }
