@@ -1,1 +1,3 @@
+pub mod PlayLaws
 pub mod Starting
+pub mod FinalLines

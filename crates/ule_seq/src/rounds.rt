@@ -1,11 +1,14 @@
-ghost use Rattle.std.specs.Prelude.{◌≡◌, ◌<◌, IfOk};
+ghost use Rattle.std.specs.Prelude.{◌≡◌, ◌<◌, ◌≤◌, length, false, IfOk};
 ghost use Rattle.ule_types.specs.Form.{IsOfForm};
+ghost use Rattle.ule_model.specs.Rounds.{opening_courses};
 ghost use Rattle.ule_seq.specs.Outcomes.{IsOutcomeOf};
+ghost use Rattle.ule_seq.specs.Playing.{courses_from};
 
 use crate::program::Program;
 use crate::records::STARTING_TIME;
 use crate::world::World;
 use std::alloc::Global;
+use std::marker::Model;
 use ule_io::Memory;
 use ule_types::{Command, Entry, Event, Item, Outcome, Reply, Setup};
 
@@ -29,9 +32,30 @@ struct Player {
     outcome: Outcome,
 }
 
+impl Model for Player {
+    ghost use Rattle.ule_seq.specs.Playing.{PlayerValue};
+
+    ghost Value = { PlayerValue };
+
+    ghost view = { λ p. record {
+      world = p.world;
+      courses = p.courses.items;
+      now = p.now;
+      outcome = p.outcome;
+    } };
+}
+
 impl Course {
+    ghost use Rattle.std.specs.Option.{option_map};
+    ghost use Rattle.ule_model.specs.Program.{next_step};
+    ghost use Rattle.ule_seq.specs.Playing.{course_at, told};
+
     /// The next item of a worker's program with the course after it; none at its end.
-    fn step(&self, s: &Setup, worker: u8) -> Option<(Item, Course)> {
+    fn step(&self, s: &Setup, worker: u8) -> Option<(Item, Course)>
+        requires { worker < 16 }
+        ensures { option_map (λ found. (found.0, course_at s.now worker found.1)) result
+            ≡ next_step (course_at s.now worker self.now) }
+    {
         let mut ahead = *self;
         loop {
             let last = ahead.last.take();
@@ -45,22 +69,30 @@ impl Course {
             ahead.next += 1;
         }
     }
+
+    /// The course with the reply and the time of the event just performed.
+    fn told(&self, reply: &Reply, now: u64) -> Course
+        ensures { result ≡ told self.now reply.now now }
+    {
+        Course {
+            last: Some((*reply, now)),
+            ..*self
+        }
+    }
 }
 
 impl Player {
-    fn start(alloc: Global, s: &Setup) -> Result<Player, Memory> {
+    ghost use Rattle.ule_model.specs.Rounds.{Play, opening, round, rounds, turn};
+    ghost use Rattle.ule_seq.specs.Conditions.{CanStep};
+    ghost use Rattle.ule_seq.specs.Outcomes.{HasFinals, IsBare};
+    ghost use Rattle.ule_seq.specs.Playing.{IsPerformed, IsPlay};
+
+    fn start(alloc: Global, s: &Setup) -> Result<Player, Memory>
+        requires { IsOfForm s.now }
+        ensures { IfOk result (λ v. IsPlay s.now v (opening s.now)) }
+    {
         let world = World::start(alloc, s)?;
-        let mut courses = Vec::new(alloc);
-        for worker in 0..s.cpus {
-            let course = Course {
-                next: 0,
-                program: Program::start(s, worker),
-                last: None,
-            };
-            if courses.push(course).is_err() {
-                return Err(Memory);
-            }
-        }
+        let courses = opening_courses(alloc, s)?;
         let outcome = Outcome::with_room(alloc, GREATEST_ROUNDS)?;
         Ok(Player {
             world,
@@ -71,12 +103,19 @@ impl Player {
     }
 
     /// One turn of a worker: its next item, if there is one. Says whether there was.
-    fn turn(&mut self, s: &Setup, worker: u8) -> bool {
-        let Some((item, ahead)) = self.courses[usize::from(worker)].step(s, worker) else {
+    fn turn(&mut self, s: &Setup, worker: u8) -> bool
+        requires form { IsOfForm s.now }
+        requires worker { worker < s.now.cpus }
+        requires play { (p : Play) × IsPlay s.now self.old p }
+        ensures turned { (p : Play) → IsPlay s.now self.old p → IsPlay s.now self.new (turn p worker) }
+        ensures ended { result ≡ false → (p : Play) → IsPlay s.now self.old p → turn p worker ≡ p }
+    {
+        let course = self.courses[usize::from(worker)];
+        let Some((item, ahead)) = course.step(s, worker) else {
             return false;
         };
         match item {
-            Item::Event(event) => self.perform(worker, event, ahead),
+            Item::Event(event) => self.perform(worker, &event, &ahead),
             Item::Advance(ticks) => {
                 self.now += u64::from(ticks);
                 self.courses[usize::from(worker)] = ahead;
@@ -85,22 +124,31 @@ impl Player {
         true
     }
 
-    fn perform(&mut self, worker: u8, event: Event, ahead: Course) {
+    /// An event of a worker, after which it stands at the course ahead.
+    fn perform(&mut self, worker: u8, event: &Event, ahead: &Course)
+        requires step { CanStep self.old.world event.now self.old.now }
+        requires worker { worker < length self.old.courses }
+        requires room { 0 < self.old.outcome.room }
+        ensures { IsPerformed self.old worker event.now ahead.now self.new }
+    {
         let now = self.now;
-        let reply = self.world.step(worker, &event, now);
-        let mut course = ahead;
-        course.last = Some((reply, now));
-        self.courses[usize::from(worker)] = course;
+        let reply = self.world.step(worker, event, now);
+        self.courses[usize::from(worker)] = ahead.told(&reply, now);
         self.outcome.note(Entry {
             worker,
-            event,
+            event: *event,
             now,
             reply,
         });
     }
 
     /// A round: each worker has one turn, in rising number. Says whether any had a further item.
-    fn round(&mut self, s: &Setup) -> bool {
+    fn round(&mut self, s: &Setup) -> bool
+        requires form { IsOfForm s.now }
+        requires play { (p : Play) × IsPlay s.now self.old p }
+        ensures played { (p : Play) → IsPlay s.now self.old p → IsPlay s.now self.new (round p) }
+        ensures ended { result ≡ false → (p : Play) → IsPlay s.now self.old p → round p ≡ p }
+    {
         let mut moved = false;
         for worker in 0..s.cpus {
             if self.turn(s, worker) {
@@ -109,6 +157,53 @@ impl Player {
         }
         moved
     }
+
+    /// All rounds, until every worker is at the end of its script.
+    fn run(&mut self, s: &Setup)
+        requires form { IsOfForm s.now }
+        requires play { (p : Play) × IsPlay s.now self.old p }
+        ensures { (p : Play) → IsPlay s.now self.old p → IsPlay s.now self.new (rounds 65536 p) }
+    {
+        for _round in 0..GREATEST_ROUNDS {
+            if !self.round(s) {
+                return;
+            }
+        }
+    }
+
+    /// The outcome of this play, with its final lines.
+    fn outcome(self) -> Outcome
+        requires { IsBare self.outcome }
+        ensures { HasFinals self.world self.outcome result self.now }
+    {
+        let Player {
+            world,
+            courses: _,
+            now,
+            mut outcome,
+        } = self;
+        world.finals(now, &mut outcome);
+        outcome
+    }
+}
+
+/// Each worker before its first command.
+fn opening_courses(alloc: Global, s: &Setup) -> Result<Vec<Course>, Memory>
+    requires { s.now.cpus ≤ 16 }
+    ensures { IfOk result (λ courses. courses_from s.now 0 courses.items ≡ opening_courses s.now) }
+{
+    let mut courses = Vec::new(alloc);
+    for worker in 0..s.cpus {
+        let course = Course {
+            next: 0,
+            program: Program::start(s, worker),
+            last: None,
+        };
+        let Ok(()) = courses.push(course) else {
+            return Err(Memory);
+        };
+    }
+    Ok(courses)
 }
 
 /// Plays a setup in rounds, until every worker is at the end of its script. All memory is taken
@@ -118,17 +213,6 @@ pub fn play(alloc: Global, s: &Setup) -> Result<Outcome, Memory>
     ensures { IfOk result (λ o. IsOutcomeOf s.now o) }
 {
     let mut player = Player::start(alloc, s)?;
-    for _round in 0..GREATEST_ROUNDS {
-        if !player.round(s) {
-            break;
-        }
-    }
-    let Player {
-        world,
-        courses: _,
-        now,
-        mut outcome,
-    } = player;
-    world.finals(now, &mut outcome);
-    Ok(outcome)
+    player.run(s);
+    Ok(player.outcome())
 }

@@ -1,9 +1,10 @@
-ghost use Rattle.std.specs.Prelude.{◌≡◌, ℕ, ◌+◌, ◌%◌, ◌^◌, ◌<◌, ◌≤◌, length, slice_get, None, IfOk, IfSome, IsTrue};
+ghost use Rattle.std.specs.Prelude.{◌≡◌, ℕ, ◌+◌, ◌%◌, ◌^◌, ◌<◌, ◌≤◌, [], length, map, slice_get, None, IfOk, IfSome, IsTrue};
 ghost use Rattle.ule_types.specs.Rules.{are_settings};
 ghost use Rattle.ule_model.specs.CpuValue.{thread_in};
 ghost use Rattle.ule_types.specs.Form.{IsOfForm};
 ghost use Rattle.ule_model.specs.Start.{base_of, world_at_start, starting_time};
 ghost use Rattle.ule_model.specs.WorldValue.{Shows, Steps, line_among, value_step};
+ghost use Rattle.std.specs.List.{filter_map, range_with_len};
 ghost use Rattle.ule_seq.specs.Conditions.{AllNoEarlier, CanStep};
 ghost use Rattle.ule_seq.specs.Outcomes.{AreFresh, HasFinals, IsBare, with_laid};
 ghost use Rattle.ule_tdq.specs.Replies.{reply_of};
@@ -26,11 +27,14 @@ pub struct World {
 }
 
 impl Model for World {
+    ghost use Rattle.std.specs.Prelude.{◌≤◌, vec_len};
     ghost use Rattle.ule_model.specs.WorldValue.{WorldValue};
 
     ghost Value = { WorldValue };
 
     ghost view = { λ w. record { settings = w.settings; cpus = w.cpus.items } };
+
+    ghost invariant = { λ w. vec_len w.cpus ≤ 16 };
 }
 
 /// The reply of a switch.
@@ -134,20 +138,40 @@ impl World {
         requires { IsBare out.old }
         ensures { HasFinals self.now out.old out.new now }
     {
-        for t in 0..=255 {
-            if let Some(line) = self.thread_line(ThreadId(t)) {
+        self.set_threads(256, out);
+        self.set_cpus(out);
+        out.set_now(now);
+    }
+
+    /// Sets the lines of the first so many threads.
+    fn set_threads(&self, count: u16, out: &mut Outcome)
+        requires within { count ≤ 256 }
+        requires none { out.old.threads ≡ [] }
+        ensures { out.new ≡ record out.old {
+          threads = filter_map (line_among self.now.cpus) (range_with_len 0 count);
+        } }
+    {
+        for t in 0..count {
+            if let Some(line) = self.thread_line(ThreadId(t as u8)) {
                 out.set_thread(line);
             }
         }
+    }
+
+    /// Sets the lines of all CPUs.
+    fn set_cpus(&self, out: &mut Outcome)
+        requires { out.old.cpus ≡ [] }
+        ensures { out.new ≡ record out.old { cpus = map (λ v. v.line) self.now.cpus } }
+    {
         for (c, tdq) in self.cpus.iter().enumerate() {
             out.set_cpu(Cpu(c as u8), tdq.line());
         }
-        out.set_now(now);
     }
 
     /// What a trace tells of a thread.
     fn thread_line(&self, t: ThreadId) -> Option<ThreadLine>
-        ensures { result ≡ line_among self.now.cpus t }
+        ensures line { result ≡ line_among self.now.cpus t }
+        ensures number { IfSome result (λ l. l.id ≡ t) }
     {
         for tdq in &self.cpus {
             if let Some(line) = tdq.thread_line(t) {

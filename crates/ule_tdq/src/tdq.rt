@@ -1,4 +1,4 @@
-ghost use Rattle.std.specs.Prelude.{◌≡◌, ℕ, ◌≤◌, ◌<◌, ◌^◌, None, Some, IfOk, IsTrue, if◌then◌else◌};
+ghost use Rattle.std.specs.Prelude.{◌≡◌, ℕ, ◌≤◌, ◌<◌, ◌^◌, None, Some, IfOk, IfSome, IsTrue, if◌then◌else◌};
 ghost use Rattle.ule_types.specs.Rules.{are_settings};
 ghost use Rattle.std.specs.Option.{option_map};
 ghost use Rattle.ule_model.specs.Start.{balance_count, stepped_word};
@@ -186,7 +186,8 @@ impl Tdq {
 
     /// What a trace tells of a thread, if it is here.
     pub fn thread_line(&self, t: ThreadId) -> Option<ThreadLine>
-        ensures { result ≡ value_line self.now t }
+        ensures line { result ≡ value_line self.now t }
+        ensures number { IfSome result (λ l. l.id ≡ t) }
     {
         let r = self.threads.get(t)?;
         let (place, pos) = self.placed(t)?;
