@@ -5,3 +5,5 @@
 pub use command::top;
 
 pub mod command;
+#[cfg(test)]
+mod tests;

@@ -1,0 +1,86 @@
+use super::*;
+use std::alloc::{AllocError, Global};
+use std::test::Fail;
+use ule_io::{MemSink, MemSource};
+
+/// One CPU and no thread, with a worker that yields twice.
+const TWO_YIELDS: &[u8] = b"ule-scenario 1\njitter 1\ncpus 1\nscript 0\nyield\nyield\nend\n";
+
+/// The trace of the two yields.
+const NOTHING_RAN: &[u8] =
+    b"ule-trace 1\n1 w0 20000 switch 0 yield -> nothing\n2 w0 20000 switch 0 yield -> nothing\nc 0 0 0 0 0 0 0 64\nnow 20000\ndone 2\n";
+
+/// One CPU and a thread, with a worker that does nothing.
+const ONE_THREAD: &[u8] = b"ule-scenario 1\njitter 1\ncpus 1\nthread 0 ts 0 0\nscript 0\nend\n";
+
+/// The trace of the thread that stays in its queue.
+const STAYS_QUEUED: &[u8] =
+    b"ule-trace 1\nt 0 q0.batch.17.0 ts 0 172 - 172 0 0 0 20000 20000 0 0 0 20000 - - 0\nc 0 0 0 0 0 0 0 64\nnow 20000\ndone 0\n";
+
+/// The status that `top` gives for these words.
+fn status(
+    alloc: Global,
+    words: &[&str],
+    src: &mut MemSource,
+    out: &mut MemSink,
+) -> Result<u8, AllocError> {
+    let mut owned = Vec::new(alloc);
+    for word in words {
+        owned.push(String::from_str(alloc, word)?)?;
+    }
+    Ok(top(alloc, &owned, src, out))
+}
+
+#[test]
+fn run_writes_a_trace_or_a_refusal(rt: HostRuntime) -> Result<(), Fail> {
+    let cases: [(&[u8], u8, &[u8]); 3] = [
+        (TWO_YIELDS, 0, NOTHING_RAN),
+        (ONE_THREAD, 0, STAYS_QUEUED),
+        (b"", 3, b"refused 0 0 0\n"),
+    ];
+    for (input, want, text) in cases {
+        let mut src = MemSource::start(rt.alloc(), input, 7, &[])?;
+        let mut out = MemSink::start(rt.alloc(), 200, 5, &[])?;
+        assert_eq!(rt; status(rt.alloc(), &["run"], &mut src, &mut out)?, want);
+        assert!(rt; src.left().is_empty(), "the whole input is read");
+        assert_eq!(rt; out.bytes(), text);
+    }
+    Ok(())
+}
+
+#[test]
+fn other_words_touch_nothing(rt: HostRuntime) -> Result<(), Fail> {
+    let cases: [&[&str]; 5] = [&[], &[""], &["Run"], &["runs"], &["run", "run"]];
+    for words in cases {
+        let mut src = MemSource::start(rt.alloc(), TWO_YIELDS, 7, &[])?;
+        let mut out = MemSink::start(rt.alloc(), 200, 5, &[])?;
+        assert_eq!(rt; status(rt.alloc(), words, &mut src, &mut out)?, 1);
+        assert_eq!(rt; src.left(), TWO_YIELDS);
+        assert!(rt; out.bytes().is_empty());
+    }
+    Ok(())
+}
+
+#[test]
+fn a_read_fault_writes_nothing(rt: HostRuntime) -> Result<(), Fail> {
+    let mut src = MemSource::start(rt.alloc(), TWO_YIELDS, 30, &[2])?;
+    let mut out = MemSink::start(rt.alloc(), 200, 5, &[])?;
+    assert_eq!(rt; status(rt.alloc(), &["run"], &mut src, &mut out)?, 2);
+    assert_eq!(rt; src.left().len(), 26);
+    assert!(rt; out.bytes().is_empty());
+    Ok(())
+}
+
+#[test]
+fn a_write_fault_leaves_a_front(rt: HostRuntime) -> Result<(), Fail> {
+    // The trace has 122 bytes: with 50 a write the third write is the last, and then comes the flush.
+    let cases: [(usize, &[u64], usize); 3] = [(0, &[], 0), (50, &[3], 100), (50, &[4], 122)];
+    for (most, fails, taken) in cases {
+        let mut src = MemSource::start(rt.alloc(), TWO_YIELDS, 7, &[])?;
+        let mut out = MemSink::start(rt.alloc(), 200, most, fails)?;
+        assert_eq!(rt; status(rt.alloc(), &["run"], &mut src, &mut out)?, 4);
+        assert_eq!(rt; out.bytes().len(), taken);
+        assert!(rt; NOTHING_RAN.starts_with(out.bytes()));
+    }
+    Ok(())
+}
