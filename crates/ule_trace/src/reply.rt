@@ -13,7 +13,8 @@ use ule_prio::{Cpu, Kind, Priority, ThreadId};
 use ule_score::Place;
 use ule_types::Reply;
 
-fn spell_stands(held: &mut Held, name: &'static str, place: Place)
+// Appends a keyword and the place where a thread stands.
+fn spell_standing(held: &mut Held, name: &'static str, place: Place)
     requires short { length name.now ≤ 24 }
     requires room { length held.old + 100 ≤ CAPACITY }
     ensures text { held.new ≡ held.old ++ spaced (name.now ∷ place_word place ∷ []) }
@@ -22,6 +23,32 @@ fn spell_stands(held: &mut Held, name: &'static str, place: Place)
     held.words(&[Text(name)]);
     held.byte(b' ');
     spell_place(held, place);
+}
+
+fn spell_ticked(held: &mut Held, current: Option<ThreadId>, due: bool, ended: bool)
+    requires { length held.old + 125 ≤ CAPACITY }
+    ensures text { held.new ≡ held.old ++ spaced (reply_words (Reply.Ticked current due ended)) }
+    ensures growth { length held.new ≤ length held.old + 125 }
+{
+    held.words(&[
+        Text("ticked"),
+        optional_thread(current),
+        Flag(due),
+        Flag(ended),
+    ]);
+}
+
+fn spell_switched(held: &mut Held, out: Option<ThreadId>, into: Option<ThreadId>, preempted: bool)
+    requires { length held.old + 125 ≤ CAPACITY }
+    ensures text { held.new ≡ held.old ++ spaced (reply_words (Reply.Switched out into preempted)) }
+    ensures growth { length held.new ≤ length held.old + 125 }
+{
+    held.words(&[
+        Text("switched"),
+        optional_thread(out),
+        optional_thread(into),
+        Flag(preempted),
+    ]);
 }
 
 fn spell_woken(held: &mut Held, p: Priority, bound: Option<Cpu>, last: Cpu, last_run: u64)
@@ -36,6 +63,14 @@ fn spell_woken(held: &mut Held, p: Priority, bound: Option<Cpu>, last: Cpu, last
         cpu(last),
         Number(last_run),
     ]);
+}
+
+fn spell_seen(held: &mut Held, load: u64, movable: u64, low: Priority)
+    requires { length held.old + 125 ≤ CAPACITY }
+    ensures text { held.new ≡ held.old ++ spaced (reply_words (Reply.Seen load movable low)) }
+    ensures growth { length held.new ≤ length held.old + 125 }
+{
+    held.words(&[Text("seen"), Number(load), Number(movable), priority(low)]);
 }
 
 fn spell_landed(held: &mut Held, kind: Kind, bucket: u8, preempts: bool)
@@ -98,19 +133,6 @@ fn spell_exited(
     ]);
 }
 
-fn spell_switched(held: &mut Held, out: Option<ThreadId>, into: Option<ThreadId>, preempted: bool)
-    requires { length held.old + 125 ≤ CAPACITY }
-    ensures text { held.new ≡ held.old ++ spaced (reply_words (Reply.Switched out into preempted)) }
-    ensures growth { length held.new ≤ length held.old + 125 }
-{
-    held.words(&[
-        Text("switched"),
-        optional_thread(out),
-        optional_thread(into),
-        Flag(preempted),
-    ]);
-}
-
 /// Appends the words of a reply, each behind a space.
 pub fn spell_reply(held: &mut Held, r: Reply)
     requires { length held.old + 125 ≤ CAPACITY }
@@ -118,14 +140,7 @@ pub fn spell_reply(held: &mut Held, r: Reply)
     ensures growth { length held.new ≤ length held.old + 125 }
 {
     match r {
-        Reply::Ticked(current, due, ended) => {
-            held.words(&[
-                Text("ticked"),
-                optional_thread(current),
-                Flag(due),
-                Flag(ended),
-            ])
-        }
+        Reply::Ticked(current, due, ended) => spell_ticked(held, current, due, ended),
         Reply::Unmarked => held.words(&[Text("unmarked")]),
         Reply::Nothing => held.words(&[Text("nothing")]),
         Reply::Switched(out, into, preempted) => spell_switched(held, out, into, preempted),
@@ -133,18 +148,16 @@ pub fn spell_reply(held: &mut Held, r: Reply)
             held.words(&[Text("dropped"), thread(out), optional_thread(into)])
         }
         Reply::Bedded => held.words(&[Text("bedded")]),
-        Reply::NotAsleep(place) => spell_stands(held, "notasleep", place),
+        Reply::NotAsleep(place) => spell_standing(held, "notasleep", place),
         Reply::Woken(p, bound, last, last_run) => spell_woken(held, p, bound, last, last_run),
-        Reply::Seen(load, movable, low) => {
-            held.words(&[Text("seen"), Number(load), Number(movable), priority(low)])
-        }
+        Reply::Seen(load, movable, low) => spell_seen(held, load, movable, low),
         Reply::Landed(kind, bucket, preempts) => spell_landed(held, kind, bucket, preempts),
         Reply::Moved(t, kind, bucket, preempts) => spell_moved(held, t, kind, bucket, preempts),
         Reply::NoneMovable(load, movable, other) => spell_none_movable(held, load, movable, other),
         Reply::Changed(p, requeued, marked) => {
             held.words(&[Text("changed"), priority(p), Flag(requeued), Flag(marked)])
         }
-        Reply::NotAllowed(place) => spell_stands(held, "notallowed", place),
+        Reply::NotAllowed(place) => spell_standing(held, "notallowed", place),
         Reply::Hatched => held.words(&[Text("hatched")]),
         Reply::Forked(parent, p) => held.words(&[Text("forked"), thread(parent), priority(p)]),
         Reply::Returned => held.words(&[Text("returned")]),
