@@ -12,7 +12,7 @@ loop-worker-preserved c = record {
   played = λ p play. subst (IsPlay c.args.s.now c.turn.new.self) (sym (turns_more c.loop-worker.worker p))
       (c.turn.ensures.turned (turns c.loop-worker.worker p) (c.loop-worker.invariant.played p play));
   ended = λ still p play. elim c.if-turn.branch [
-    then-turn w ↦ cc
+    | then-turn w ↦ cc
     | else-turn w ↦
         turns_more c.loop-worker.worker p ∙
         c.turn.ensures.ended w.if-turn.false (turns c.loop-worker.worker p) (c.loop-worker.invariant.played p play) ∙
