@@ -1,15 +1,15 @@
 -- The world at the start: fresh CPUs, on which the declared threads are laid one after another.
-use Rattle.std.proofs.Common.{◌≡◌, ℕ, zero, suc, ◌+◌, ◌%◌, ◌^◌, ◌<◌, ◌≤◌, Bool, true, false, ◌&&◌, ◌==◌, List, [], ◌∷◌, ◌++◌, length, map, fold, take, Option, Some, None, IfSome, IsTrue, slice_get, slice_set, refl, sym, ◌∙◌, ap, subst, ⊎_elim, nat_lt, arith}
+use Rattle.std.proofs.Common.{◌≡◌, ℕ, zero, suc, ◌+◌, ◌%◌, ◌^◌, ◌<◌, ◌≤◌, Bool, true, false, ◌&&◌, ◌==◌, List, [], ◌∷◌, ◌++◌, length, map, fold, take, Option, Some, None, IfSome, slice_get, refl, sym, ◌∙◌, ap, subst, ⊎_elim, nat_lt, arith}
 use Rattle.std.proofs.lemmas.List.{length-set, length_push}
 use Rattle.std.proofs.lemmas.Option.{get_or_from_slice_get, none-some, slice_get_cases, slice_get_within}
 use Rattle.std.proofs.lemmas.List.Sums.{AllPass-from_list_all, fold_more}
 use Rattle.std.proofs.lemmas.Bool.{ltb-true}
 use Rattle.std.specs.List.{AllByRecursion, list_all}
 use Rattle.std.specs.Option.{option_map}
-use Rattle.ule_model.specs.CpuValue.{CpuValue, StandsFor, thread_in, thread_on, value_laid}
+use Rattle.ule_model.specs.CpuValue.{CpuValue, thread_in, thread_on, value_laid}
 use Rattle.ule_model.specs.Places.{is_on}
 use Rattle.ule_model.specs.Start.{base_of, empty_world, laid, record_of}
-use Rattle.ule_model.specs.World.{Member, World, is_thread, side_of, thread_of}
+use Rattle.ule_model.specs.World.{World, is_thread, thread_of}
 use Rattle.ule_model.specs.WorldValue.{IsPart, Shows, WorldValue}
 use Rattle.ule_model.proofs.StartLaws.{IsEmptyCpu, declared_distinct, empty_shows, laid_shows, new_after}
 use Rattle.ule_model.proofs.Threads.{find_nowhere, none_passes}
@@ -35,7 +35,8 @@ pub fresh_push : (s : Setup) (n : ℕ) (cpus new : List CpuValue) (v : CpuValue)
     StartsAs v n s.settings ((s.jitter + 16) % 2 ^ 32) → new ≡ cpus ++ v ∷ [] → AreFresh s (n + 1) new
 fresh_push s n cpus new v fresh starts is = record {
   count = let same = fresh.count in ap length is ∙ length_push cpus v ∙ omega arith;
-  each = λ k. rw is (push_each (λ c u. StartsAs u c s.settings ((s.jitter + 16) % 2 ^ 32)) cpus v fresh.each (rw fresh.count starts) k) }
+  each = λ k. rw is (push_each (λ c u. StartsAs u c s.settings ((s.jitter + 16) % 2 ^ 32)) cpus v fresh.each (rw fresh.count starts) k);
+}
 
 -- no CPU at all
 pub fresh_none : (s : Setup) (cpus : List CpuValue) → cpus ≡ [] → AreFresh s 0 cpus
@@ -44,8 +45,17 @@ fresh_none s cpus none = record { count = ap length none; each = λ k. rw none t
 -- a CPU that starts is one of the empty world
 empty_cpu : (s : Setup) (c : ℕ) (v : CpuValue) → StartsAs v c s.settings ((s.jitter + 16) % 2 ^ 32) → IsEmptyCpu s c v
 empty_cpu s c v h = record {
-  cpu = h.cpu; settings = h.settings; slots = h.slots; threads = h.threads; current = h.current;
-  real = h.real; batch = h.batch; idle = h.idle; line = h.line; balance_word = h.balance_word }
+  cpu = h.cpu;
+  settings = h.settings;
+  slots = h.slots;
+  threads = h.threads;
+  current = h.current;
+  real = h.real;
+  batch = h.batch;
+  idle = h.idle;
+  line = h.line;
+  balance_word = h.balance_word;
+}
 
 empty_if : (s : Setup) (c : ℕ) (o : Option CpuValue) → IfSome o (λ v. StartsAs v c s.settings ((s.jitter + 16) % 2 ^ 32)) → IfSome o (IsEmptyCpu s c)
 empty_if s c None h = tt
@@ -67,8 +77,8 @@ pub absent_on : (v : WorldValue) (w : World) (c t : ℕ) (u : CpuValue) → Show
 absent_on v w c t u shows found none =
     let part : IsPart w c u = subst (λ (o : Option CpuValue). IfSome o (IsPart w c)) found (shows.parts c) in
     let off : thread_on u.cpu t w.members ≡ None =
-        find_nowhere (λ m. is_thread t m && is_on u.cpu m.place) w.members
-            (both_fail (is_thread t) (λ m. is_on u.cpu m.place) w.members (none_passes (is_thread t) w.members none)) in
+    find_nowhere (λ m. is_thread t m && is_on u.cpu m.place) w.members
+    (both_fail (is_thread t) (λ m. is_on u.cpu m.place) w.members (none_passes (is_thread t) w.members none)) in
     part.stands.threads t ∙ ap (option_map (λ m. m.thread)) off
 
 -- ---- what the rules of a setup say of its threads
@@ -140,7 +150,7 @@ pub next_shows : (s : Setup) (v : WorldValue) (specs : List ThreadSpec) (k : ℕ
     Shows (with_laid v spec) (world_after s specs (k + 1))
 next_shows s v specs k spec shows distinct at within number priority =
     let more : world_after s specs (k + 1) ≡ laid (world_after s specs k) spec =
-        fold_more laid (empty_world s) specs k spec (slice_get_within specs k spec at) ∙ ap (laid (world_after s specs k)) (get_or_from_slice_get specs k spec spec at) in
+    fold_more laid (empty_world s) specs k spec (slice_get_within specs k spec at) ∙ ap (laid (world_after s specs k)) (get_or_from_slice_get specs k spec spec at) in
     rw more (split (slice_get v.cpus spec.cpu) refl)
   where
     split : (o : Option CpuValue) → slice_get v.cpus spec.cpu ≡ o → Shows (laid_part o spec v) (laid (world_after s specs k) spec)

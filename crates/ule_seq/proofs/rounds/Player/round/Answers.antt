@@ -1,7 +1,6 @@
 -- A round is the turns of all workers.
-use Rattle.std.proofs.Common.{◌≡◌, length, sym, ◌∙◌, ap, subst, arith}
+use Rattle.std.proofs.Common.{◌≡◌, length, sym, ◌∙◌, subst, arith}
 use Rattle.ule_model.proofs.RoundsLaws.{turns, turns_more}
-use Rattle.ule_model.specs.Rounds.{Play, turn}
 use Rattle.ule_seq.specs.Playing.{IsPlay}
 use Rattle.ule_seq.proofs.PlayLaws.{play_count}
 use Rattle.ule_seq.proofs.rounds.Player.round.Goals as goal
@@ -12,7 +11,7 @@ loop-worker-preserved c = record {
   played = λ p play. subst (IsPlay c.args.s.now c.turn.new.self) (sym (turns_more c.loop-worker.worker p))
       (c.turn.ensures.turned (turns c.loop-worker.worker p) (c.loop-worker.invariant.played p play));
   ended = λ still p play. elim c.if-turn.branch [
-    then-turn w ↦ cc
+    | then-turn w ↦ cc
     | else-turn w ↦
         turns_more c.loop-worker.worker p ∙
         c.turn.ensures.ended w.if-turn.false (turns c.loop-worker.worker p) (c.loop-worker.invariant.played p play) ∙

@@ -9,9 +9,9 @@ use Rattle.ule_seq.proofs.world.World.set_threads.Goals.{in-Some, in_default}
 pub loop-t-preserved : goal.loop-t-preserved
 loop-t-preserved c = record {
   lines = elim c.match-thread_line.branch [
-    in-Some w ↦
-      w.out-is ∙ set_some (line_among c.args.self.now.cpus) c.loop-t.t w.in-Some.line c.args.out.now c.loop-t.out w.set_thread.new.self
-      c.loop-t.invariant.lines w.set_thread.ensures w.in-Some.ensures.line w.in-Some.ensures.number c.loop-t.invariant.below
+    | in-Some w ↦
+        w.out-is ∙ set_some (line_among c.args.self.now.cpus) c.loop-t.t w.in-Some.line c.args.out.now c.loop-t.out w.set_thread.new.self
+        c.loop-t.invariant.lines w.set_thread.ensures w.in-Some.ensures.line w.in-Some.ensures.number c.loop-t.invariant.below
     | in_default w ↦
         w.out-is ∙ set_none (line_among c.args.self.now.cpus) c.loop-t.t c.args.out.now c.loop-t.out
         c.loop-t.invariant.lines (sym c.thread_line.ensures.line ∙ w.in_default.is)

@@ -1,4 +1,4 @@
-use Rattle.std.proofs.Common.{◌≡◌, ◌<◌, ◌≤◌, true, List, length, map, slice_get, Some, refl, sym, ◌∙◌, ap, subst, arith}
+use Rattle.std.proofs.Common.{◌≡◌, ◌<◌, true, List, length, map, slice_get, Some, refl, sym, ◌∙◌, ap, subst, arith}
 use Rattle.std.proofs.lemmas.Option.{slice_get_read}
 use Rattle.ule_model.specs.Start.{starting_time}
 use Rattle.ule_model.specs.WorldValue.{WorldValue}
@@ -13,8 +13,11 @@ loop-spec-init c =
     let fresh = c.in_ok-empty_cpus.ensures in
     let v : WorldValue = record { settings = s.settings; cpus = c.in_ok-empty_cpus.field-0.items } in
     record {
-      shows = fresh_shows s v refl fresh; settings = refl; count = fresh.count;
-      in_time = fresh_in_time s s.cpus starting_time v.cpus fresh }
+      shows = fresh_shows s v refl fresh;
+      settings = refl;
+      count = fresh.count;
+      in_time = fresh_in_time s s.cpus starting_time v.cpus fresh;
+    }
 
 pub lay-requires-clause-absent : goal.lay-requires-clause-absent
 lay-requires-clause-absent c =
@@ -41,4 +44,5 @@ loop-spec-preserved c =
       shows = rw c.lay.ensures.value (next_shows s v specs k spec kept.shows distinct at within c.lay.ensures.number c.lay.ensures.priority);
       settings = ap (λ (w : WorldValue). w.settings) c.lay.ensures.value ∙ rest.0 ∙ kept.settings;
       count = ap (λ (w : WorldValue). length w.cpus) c.lay.ensures.value ∙ rest.1 ∙ kept.count;
-      in_time = c.lay.ensures.in_time starting_time kept.in_time (omega arith) }
+      in_time = c.lay.ensures.in_time starting_time kept.in_time (omega arith);
+    }

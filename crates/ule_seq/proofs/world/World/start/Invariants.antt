@@ -9,4 +9,5 @@ invariant-loop-spec l = record {
   shows : Shows l.world (fold laid (empty_world l.s) (take l.spec-index l.specs));
   settings : l.world.settings ≡ l.s.settings;
   count : length l.world.cpus ≡ l.s.cpus;
-  in_time : AllNoEarlier l.world starting_time }
+  in_time : AllNoEarlier l.world starting_time;
+}
