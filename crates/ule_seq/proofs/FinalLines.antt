@@ -1,5 +1,5 @@
 -- Lines that are set in rising number.
-use Rattle.std.proofs.Common.{◌≡◌, ℕ, ◌+◌, ◌<◌, ◌≤◌, Bool, true, false, nat_lt, List, [], ◌∷◌, ◌++◌, drop, filter, length, map, take, Option, Some, None, if◌then◌else◌, refl, sym, ◌∙◌, ap, subst, append-nil, suc, arith}
+use Rattle.std.proofs.Common.{◌≡◌, ℕ, ◌+◌, ◌<◌, Bool, true, false, nat_lt, List, [], ◌∷◌, ◌++◌, filter, length, map, Option, Some, None, if◌then◌else◌, refl, sym, ◌∙◌, ap, subst, append-nil, suc, arith}
 use Rattle.std.specs.List.{AllByRecursion, cons_option, filter_map, range_with_len}
 use Rattle.std.specs.Option.{option_to_list}
 use Rattle.std.specs.Prelude.{IfSome, slice_get, slice_index_or}
@@ -11,7 +11,7 @@ use Rattle.ule_model.specs.CpuValue.{CpuValue}
 use Rattle.ule_model.specs.World.{World, fresh_line}
 use Rattle.ule_model.specs.WorldValue.{IsPart, Shows, WorldValue, value_lines}
 use Rattle.ule_model.proofs.FinalLaws.{lines_shown}
-use Rattle.ule_seq.specs.Outcomes.{HasFinals, HasLines}
+use Rattle.ule_seq.specs.Outcomes.{HasFinals}
 use Rattle.ule_model.proofs.RoundsLaws.{range_push}
 use Rattle.ule_model.proofs.Within.{all-append, all_along}
 

@@ -1,3 +1,3 @@
+pub mod FinalLines
 pub mod PlayLaws
 pub mod Starting
-pub mod FinalLines

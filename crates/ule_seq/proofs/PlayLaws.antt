@@ -1,5 +1,5 @@
 -- How a player goes on: courses, and the plays that turns reach.
-use Rattle.std.proofs.Common.{◌≡◌, Bool, true, false, ℕ, zero, suc, ◌+◌, ◌<◌, ◌≤◌, List, [], ◌∷◌, ◌++◌, length, fold, get_or, take, drop, map, replicate, slice_get, slice_set, slice_index_or, Option, Some, None, option_and_then, refl, sym, ◌∙◌, ap, subst, arith, add-one, drop-cons, rules}
+use Rattle.std.proofs.Common.{◌≡◌, true, ℕ, zero, suc, ◌+◌, ◌<◌, ◌≤◌, List, [], ◌∷◌, ◌++◌, length, fold, get_or, take, drop, map, replicate, slice_get, slice_set, slice_index_or, Option, Some, None, option_and_then, refl, sym, ◌∙◌, ap, subst, arith, add-one, drop-cons, rules}
 use Rattle.std.specs.List.{enumerate_from, list_all}
 use Rattle.std.proofs.lemmas.Bool.{cond_both, false≢true}
 use Rattle.std.proofs.lemmas.List.{drop_all, length-map, length-replicate, length-set, length-take-le, length_push, take_more}
@@ -85,14 +85,7 @@ step_more s worker c rest mid new command below got empty none after begins =
 
 -- ---- courses
 
--- numbers for one more
-pub enumerate_push : {X : Type 0} (n : ℕ) (xs : List X) (x : X) → enumerate_from n (xs ++ x ∷ []) ≡ enumerate_from n xs ++ (n + length xs, x) ∷ []
-enumerate_push n [] x = let e : n ≡ n + 0 = omega arith in ap (λ (k : ℕ). (k, x) ∷ []) e
-enumerate_push {X} n (y ∷ ys) x =
-    let e : n + 1 + length ys ≡ n + suc (length ys) = omega arith in
-    ap (λ (zs : List (ℕ × X)). (n, y) ∷ zs) (enumerate_push (n + 1) ys x ∙ ap (λ (k : ℕ). enumerate_from (n + 1) ys ++ (k, x) ∷ []) e)
-
--- the same after a map
+-- a numbered list with one more, after a map
 pub numbered_push : {X Y : Type 0} (f : ℕ → X → Y) (n : ℕ) (xs : List X) (x : X) → map (λ e. f e.0 e.1) (enumerate_from n (xs ++ x ∷ [])) ≡ map (λ e. f e.0 e.1) (enumerate_from n xs) ++ f (n + length xs) x ∷ []
 numbered_push f n [] x = let e : n ≡ n + 0 = omega arith in ap (λ (k : ℕ). f k x ∷ []) e
 numbered_push {X} {Y} f n (y ∷ ys) x =

@@ -1,15 +1,15 @@
 -- The world at the start: fresh CPUs, on which the declared threads are laid one after another.
-use Rattle.std.proofs.Common.{◌≡◌, ℕ, zero, suc, ◌+◌, ◌%◌, ◌^◌, ◌<◌, ◌≤◌, Bool, true, false, ◌&&◌, ◌==◌, List, [], ◌∷◌, ◌++◌, length, map, fold, take, Option, Some, None, IfSome, IsTrue, slice_get, slice_set, refl, sym, ◌∙◌, ap, subst, ⊎_elim, nat_lt, arith}
+use Rattle.std.proofs.Common.{◌≡◌, ℕ, zero, suc, ◌+◌, ◌%◌, ◌^◌, ◌<◌, ◌≤◌, Bool, true, false, ◌&&◌, ◌==◌, List, [], ◌∷◌, ◌++◌, length, map, fold, take, Option, Some, None, IfSome, slice_get, refl, sym, ◌∙◌, ap, subst, ⊎_elim, nat_lt, arith}
 use Rattle.std.proofs.lemmas.List.{length-set, length_push}
 use Rattle.std.proofs.lemmas.Option.{get_or_from_slice_get, none-some, slice_get_cases, slice_get_within}
 use Rattle.std.proofs.lemmas.List.Sums.{AllPass-from_list_all, fold_more}
 use Rattle.std.proofs.lemmas.Bool.{ltb-true}
 use Rattle.std.specs.List.{AllByRecursion, list_all}
 use Rattle.std.specs.Option.{option_map}
-use Rattle.ule_model.specs.CpuValue.{CpuValue, StandsFor, thread_in, thread_on, value_laid}
+use Rattle.ule_model.specs.CpuValue.{CpuValue, thread_in, thread_on, value_laid}
 use Rattle.ule_model.specs.Places.{is_on}
 use Rattle.ule_model.specs.Start.{base_of, empty_world, laid, record_of}
-use Rattle.ule_model.specs.World.{Member, World, is_thread, side_of, thread_of}
+use Rattle.ule_model.specs.World.{World, is_thread, thread_of}
 use Rattle.ule_model.specs.WorldValue.{IsPart, Shows, WorldValue}
 use Rattle.ule_model.proofs.StartLaws.{IsEmptyCpu, declared_distinct, empty_shows, laid_shows, new_after}
 use Rattle.ule_model.proofs.Threads.{find_nowhere, none_passes}

@@ -1,7 +1,5 @@
 -- What the calls of the sequential scheduler need.
-use Rattle.std.specs.Prelude.{◌≡◌, ℕ, ◌<◌, ◌≤◌, ◌^◌, Bool, true, nat_lt, ◌&&◌, List, length, slice_get, IfSome, IsTrue}
-use Rattle.ule_model.specs.CpuValue.{CpuValue}
-use Rattle.ule_model.specs.Step.{is_performed}
+use Rattle.std.specs.Prelude.{ℕ, ◌<◌, ◌≤◌, ◌^◌, Bool, nat_lt, length, slice_get, IfSome, IsTrue}
 use Rattle.ule_model.specs.WorldValue.{WorldValue}
 use Rattle.ule_tdq.specs.Cpu.{IsNoEarlier}
 use Rattle.ule_types.specs.declared.event.Event.{Event}

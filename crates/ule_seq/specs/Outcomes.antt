@@ -1,5 +1,5 @@
 -- What is told of a world at the end of a play.
-use Rattle.std.specs.Prelude.{◌≡◌, ℕ, ◌+◌, ◌%◌, ◌^◌, ◌<◌, List, [], length, slice_get, slice_set, Option, Some, None, IfSome}
+use Rattle.std.specs.Prelude.{◌≡◌, ℕ, ◌+◌, ◌%◌, ◌^◌, List, [], length, slice_get, slice_set, Option, Some, None, IfSome}
 use Rattle.ule_model.specs.CpuValue.{CpuValue, value_laid}
 use Rattle.ule_model.specs.Start.{record_of}
 use Rattle.ule_model.specs.Finals.{thread_lines}

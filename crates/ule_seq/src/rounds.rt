@@ -10,7 +10,7 @@ use crate::world::World;
 use std::alloc::Global;
 use std::marker::Model;
 use ule_io::Memory;
-use ule_types::{Command, Entry, Event, Item, Outcome, Reply, Setup};
+use ule_types::{Entry, Event, Item, Outcome, Reply, Setup};
 
 /// The greatest number of items of all scripts, and so of rounds.
 pub const GREATEST_ROUNDS: u32 = 65_536;

@@ -1,5 +1,4 @@
-use Rattle.std.proofs.Common.{◌≡◌, ◌≤◌, arith, refl, rules, lit≤, lit<, sym, ◌∙◌}
-use Rattle.ule_prio.specs.declared.class.Class.TheVariants.{Ts}
+use Rattle.std.proofs.Common.{arith, refl, lit≤, lit<, sym, ◌∙◌}
 use Rattle.ule_seq.proofs.records.record_of.Goals as goal
 
 pub returns-clause-bounds : goal.returns-clause-bounds

@@ -1,5 +1,5 @@
 -- One worker more has its course, and at the end all have.
-use Rattle.std.proofs.Common.{◌≡◌, ◌+◌, ◌<◌, [], length, slice_index_or, None, sym, ◌∙◌, ap, arith}
+use Rattle.std.proofs.Common.{◌+◌, ◌<◌, [], length, slice_index_or, None, ◌∙◌, ap, arith}
 use Rattle.std.proofs.lemmas.List.{length_push}
 use Rattle.ule_model.specs.Program.{Progress}
 use Rattle.ule_model.proofs.HistoryLaws.{HasScripts, setup_scripts}

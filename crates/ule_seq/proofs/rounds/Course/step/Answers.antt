@@ -1,5 +1,5 @@
 -- Each turn of the loop is a turn of the recursion on the commands not begun.
-use Rattle.std.proofs.Common.{◌≡◌, ◌<◌, ◌≤◌, [], length, slice_index_or, sym, ◌∙◌, arith}
+use Rattle.std.proofs.Common.{◌<◌, ◌≤◌, [], length, slice_index_or, sym, ◌∙◌, arith}
 use Rattle.ule_seq.proofs.PlayLaws.{step_more, step_none, step_some}
 use Rattle.ule_seq.proofs.rounds.Course.step.Goals as goal
 

@@ -1,5 +1,5 @@
 -- A turn with no further item changes nothing; any other performs the yield that the worker's course gives.
-use Rattle.std.proofs.Common.{◌≡◌, ◌<◌, length, slice_get, Some, sym, ◌∙◌, ap, subst, arith}
+use Rattle.std.proofs.Common.{length, Some, sym, ◌∙◌, ap, subst, arith}
 use Rattle.ule_types.specs.declared.event.Item.{Item}
 use Rattle.ule_seq.specs.Playing.{IsPlay, PlayerValue, course_at}
 use Rattle.ule_seq.proofs.PlayLaws.{can_step, course_read, courses_count, has_room, never_advances, turn_ended, turn_taken}
