@@ -10,4 +10,6 @@ pub mod lines;
 pub mod queues;
 pub mod records;
 pub mod tdq;
+#[cfg(test)]
+mod tests;
 pub mod threads;
