@@ -1,8 +1,9 @@
 -- One CPU as a value: records by thread number, lists of numbers, and the CPU's own numbers. Each
 -- step is a plain function of the value; StandsFor says of which side of a world it is the value.
-use Rattle.std.specs.Prelude.{◌≡◌, ℕ, Bool, false, ◌&&◌, List, find, length, slice_index_or, slice_set, Option, Some, None, if◌then◌else◌}
+use Rattle.std.specs.Prelude.{◌≡◌, ℕ, ◌+◌, ◌-◌, Bool, false, ◌&&◌, List, find, length, slice_index_or, slice_set, Option, Some, None, option_and_then, if◌then◌else◌}
 use Rattle.std.specs.Option.{option_map}
 use Rattle.ule_prio.specs.Kind.{kind_at}
+use Rattle.ule_prio.specs.Preemption.{takes_over}
 use Rattle.ule_prio.specs.declared.kind.Kind.{Kind}
 use Rattle.ule_prio.specs.declared.kind.Kind.TheVariants.{Real, Batch, Idle}
 use Rattle.ule_runq.specs.Runq.{is_empty_at, with_tail, with_head, without, first_from}
@@ -11,12 +12,14 @@ use Rattle.ule_score.specs.declared.record.Settings.{Settings}
 use Rattle.ule_score.specs.declared.record.ThreadRecord.{ThreadRecord}
 use Rattle.ule_score.specs.declared.record.Why.{Why}
 use Rattle.ule_types.specs.declared.event.Reply.{Reply}
-use Rattle.ule_types.specs.declared.event.Reply.TheVariants.{Unmarked, Switched}
+use Rattle.ule_types.specs.declared.event.Reply.TheVariants.{Unmarked, Switched, Ticked}
 use Rattle.ule_model.specs.CalendarIndexes.{ridx_after_removal}
 use Rattle.ule_model.specs.Insertion.{Insertion, Ordinary, Borrowing, Preempted, bucket_of}
+use Rattle.ule_model.specs.Landing.{current_priority, marked_if, placed_on}
 use Rattle.ule_model.specs.Places.{is_on}
 use Rattle.ule_model.specs.Shows.{ShowsQueue}
 use Rattle.ule_model.specs.Switch.{one_more, after_running, before_running, insertion_of, is_preemption, is_unasked, started_reply}
+use Rattle.ule_model.specs.Tick.{after_tick, is_due, line_after_tick, load_of, marked_at_end, word_after_tick}
 use Rattle.ule_model.specs.World.{Member, Side, current_of, is_thread}
 
 -- a CPU: the record of each thread number on it, its current thread, its three queues, its numbers
@@ -25,6 +28,7 @@ pub record CpuValue : Type 0 where
   pub settings : Settings
   pub threads : List (Option ThreadRecord)
   pub current : Option ℕ
+  pub load : ℕ
   pub real : List (List ℕ)
   pub batch : List (List ℕ)
   pub idle : List (List ℕ)
@@ -121,9 +125,76 @@ value_switched why now v =
     if is_unasked why v.line.resched then (v, Unmarked)
     else value_switched_from v.current (is_preemption why v.line.slice_end) now (without_marks v)
 
+-- ---- one thread more
+
 -- the CPU with one thread more, queued
 abbrev pub value_laid : ThreadRecord → CpuValue → CpuValue
-value_laid r v = inserted Ordinary r.priority r.id (record v { threads = slice_set v.threads r.id (Some r) })
+value_laid r v = inserted Ordinary r.priority r.id (record v { threads = slice_set v.threads r.id (Some r); load = v.load + 1 })
+
+-- the record of the current thread
+abbrev pub current_in : CpuValue → Option ThreadRecord
+current_in v = option_and_then (thread_in v) v.current
+
+-- whether a thread of priority p takes over from the current thread
+abbrev pub takes_over_in : ℕ → Bool → CpuValue → Bool
+takes_over_in p remote v = takes_over p (current_priority (current_in v)) remote v.settings.preempt
+
+-- the CPU with a thread that comes to it, marked where it takes over
+abbrev pub value_added : ThreadRecord → Bool → CpuValue → CpuValue
+value_added r remote v =
+    let next = value_laid (placed_on v.cpu r) v in
+    record next { line = marked_if (takes_over_in r.priority remote v) next.line }
+
+-- ---- one thread less
+
+-- the CPU without its current thread t
+abbrev pub without_current : ℕ → CpuValue → CpuValue
+without_current t v = record v {
+  threads = slice_set v.threads t None;
+  current = None;
+  load = v.load - 1;
+  line = record v.line { resched = false; slice_end = false; switches = one_more v.line.switches };
+}
+
+-- the record of a thread that left, and the thread that runs now
+pub record Taken : Type 0 where
+  pub thread : ThreadRecord
+  pub into : Option ℕ
+
+-- the CPU whose current thread t left with this record, and what came of it
+abbrev pub value_taken_with : Option ThreadRecord → (ThreadRecord → ThreadRecord) → ℕ → ℕ → CpuValue → CpuValue × Option Taken
+value_taken_with None change now t v = (v, None)
+value_taken_with (Some r) change now t v =
+    let next = chosen_next now (without_current t v) in (next.0, Some (record { thread = change r; into = next.1 }))
+
+-- the current thread leaves its CPU, its record changed, and the next is chosen
+abbrev pub value_taken_from : Option ℕ → (ThreadRecord → ThreadRecord) → ℕ → CpuValue → CpuValue × Option Taken
+value_taken_from None change now v = (v, None)
+value_taken_from (Some t) change now v = value_taken_with (thread_in v t) change now t v
+
+abbrev pub value_taken : (ThreadRecord → ThreadRecord) → ℕ → CpuValue → CpuValue × Option Taken
+value_taken change now v = value_taken_from v.current change now v
+
+-- ---- a tick
+
+-- the CPU's own numbers after a tick
+abbrev pub value_clocked : CpuValue → CpuValue
+value_clocked v = record v {
+  line = line_after_tick v.cpu v.load (is_empty_at v.batch v.line.ridx) v.balance_word v.line;
+  balance_word = word_after_tick v.cpu v.line.balance v.balance_word;
+}
+
+-- what a tick makes of the current thread
+abbrev pub value_ticked_with : Option ThreadRecord → Bool → ℕ → CpuValue → CpuValue × Reply
+value_ticked_with None due now v = (v, Ticked None due false)
+value_ticked_with (Some r) due now v =
+    let ended = (after_tick v.settings now v.load r).1 in
+    (record (with_thread r.id (λ x. (after_tick v.settings now v.load x).0) v) { line = marked_at_end ended v.line },
+      Ticked (Some r.id) due ended)
+
+-- the step of a tick
+abbrev pub value_ticked : ℕ → CpuValue → CpuValue × Reply
+value_ticked now v = value_ticked_with (current_in v) (is_due v.cpu v.line.balance) now (value_clocked v)
 
 -- thread t, if it runs or waits on CPU c
 abbrev pub thread_on : ℕ → ℕ → List Member → Option Member
@@ -136,6 +207,7 @@ pub record StandsFor (v : CpuValue) (s : Side) : Type 0 where
   -- the balance word is CPU 0's
   pub balance_word : v.cpu ≡ 0 → v.balance_word ≡ s.balance_word
   pub current : v.current ≡ option_map (λ m. m.thread.id) (current_of v.cpu s.members)
+  pub load : v.load ≡ load_of v.cpu s.members
   pub slots : length v.threads ≡ 256
   -- the records are those of the threads that run or wait on the CPU
   pub threads : (t : ℕ) → thread_in v t ≡ option_map (λ m. m.thread) (thread_on v.cpu t s.members)

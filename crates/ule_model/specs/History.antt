@@ -1,10 +1,24 @@
 -- What the history of rounds is: a legal and whole history of its setup.
-use Rattle.std.specs.Prelude.{◌≡◌, ◌≤◌, length}
+use Rattle.std.specs.Prelude.{◌≡◌, ◌≢◌, ℕ, ◌<◌, ◌≤◌, ◌⊎◌, List, [], ◌∷◌, length, slice_get, Some, None}
+use Rattle.std.specs.List.{AllByRecursion}
+use Rattle.ule_score.specs.Bounds.{KeepsBounds}
 use Rattle.ule_types.specs.Form.{IsOfForm}
+use Rattle.ule_types.specs.declared.event.Entry.{Entry}
 use Rattle.ule_types.specs.declared.setup.Setup.{Setup}
-use Rattle.ule_model.specs.Legal.{IsLegal, IsWhole, end_time, replayed}
-use Rattle.ule_model.specs.Rounds.{Play, greatest_rounds, play_of}
+use Rattle.ule_model.specs.Legal.{IsLegal, IsWhole, after_entry, end_time, replayed}
+use Rattle.ule_model.specs.Program.{Course, next_step}
+use Rattle.ule_model.specs.Rounds.{Play, greatest_rounds, opening, play_of, round, rounds}
 use Rattle.ule_model.specs.Start.{world_at_start}
+use Rattle.ule_model.specs.World.{World}
+
+-- each record of a world keeps its bounds
+abbrev pub KeepsRecords : World → Type 0
+KeepsRecords w = AllByRecursion (λ m. KeepsBounds m.thread) w.members
+
+-- so it is in a world and after each of these entries
+unfoldable pub KeepsAllRecords : World → List Entry → Type 0
+KeepsAllRecords w [] = KeepsRecords w
+KeepsAllRecords w (e ∷ es) = KeepsRecords w × KeepsAllRecords (after_entry w e) es
 
 -- the entries of a play are a legal and whole history of a setup, and its world and time are those at its end
 pub record IsHistoryOf (s : Setup) (p : Play) : Type 0 where
@@ -13,7 +27,19 @@ pub record IsHistoryOf (s : Setup) (p : Play) : Type 0 where
   pub world : replayed (world_at_start s) p.entries ≡ p.world
   pub time : p.now ≡ end_time s
   pub count : length p.entries ≤ greatest_rounds
+  pub bounds : KeepsAllRecords (world_at_start s) p.entries
 
 -- the rounds of a setup that a scenario can spell so far make a legal and whole history of it
 abbrev pub RoundsAreLegal : Type 0
 RoundsAreLegal = (s : Setup) → IsOfForm s → IsHistoryOf s (play_of s)
+
+-- a play went on: an event was entered, or time advanced
+abbrev pub GoesOn : Play → Play → Type 0
+GoesOn p q = (length p.entries < length q.entries) ⊎ (p.now < q.now)
+
+-- each round performs an item where a worker has a further one
+abbrev pub RoundsGoOn : Type 0
+RoundsGoOn =
+    (s : Setup) (n worker : ℕ) (course : Course) → IsOfForm s →
+    slice_get (rounds n (opening s)).courses worker ≡ Some course → next_step course ≢ None →
+    GoesOn (rounds n (opening s)) (round (rounds n (opening s)))

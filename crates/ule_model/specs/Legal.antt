@@ -1,5 +1,5 @@
 -- Legal histories: which lists of entries the sequential scheduler can make.
-use Rattle.std.specs.Prelude.{◌≡◌, ℕ, ◌+◌, ◌<◌, ◌≤◌, Bool, true, ◌==◌, ◌||◌, List, [], ◌∷◌, filter, map, sum, slice_get, Option, Some, None}
+use Rattle.std.specs.Prelude.{◌≡◌, ℕ, ◌+◌, ◌<◌, ◌≤◌, Bool, true, ◌==◌, ◌||◌, List, [], ◌∷◌, filter, map, sum, slice_get, Some, None}
 use Rattle.std.specs.List.{AllByRecursion, list_any, flat_map}
 use Rattle.ule_types.specs.Commands.{is_among}
 use Rattle.ule_types.specs.declared.command.Command.{Command}

@@ -2,6 +2,7 @@
 use Rattle.std.specs.Prelude.{◌≡◌, ◌≢◌, ℕ, ◌<◌, true, int_lt, List, [], ◌∷◌, map, slice_index_or, length, if◌then◌else◌}
 use Rattle.std.specs.List.{AllByRecursion}
 use Rattle.ule_prio.specs.declared.kind.Kind.{Kind}
+use Rattle.ule_score.specs.TimesharePriority.{IsNice}
 use Rattle.ule_score.specs.declared.place.Place.{Place}
 use Rattle.ule_score.specs.declared.place.Place.TheVariants.{Running, Queued, Asleep, Unborn, Gone, Hand}
 use Rattle.ule_model.specs.Insertion.{members_in}
@@ -44,6 +45,7 @@ IsPlace (Hand w) = Unit {0}
 pub record IsMade (m : Member) : Type 0 where
   pub number : m.thread.id < 256
   pub priority : m.thread.priority < 256
+  pub nice : IsNice m.thread.nice
   pub place : IsPlace m.place
 
 -- two threads of a world: they have two numbers, two orders in one bucket, and no CPU runs both

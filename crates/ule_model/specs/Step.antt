@@ -8,8 +8,11 @@ use Rattle.ule_types.specs.declared.event.Event.{Event}
 use Rattle.ule_types.specs.declared.event.Event.TheVariants.{Tick, Switch, Drop, Bed, Wake, Look, Land, Move, Lend, Unlend, Renice, Hatch, Fork, Return, Exit, Bury, Inherit}
 use Rattle.ule_types.specs.declared.event.Reply.{Reply}
 use Rattle.ule_types.specs.declared.event.Reply.TheVariants.{Nothing}
+use Rattle.ule_model.specs.Landing.{landed}
 use Rattle.ule_model.specs.Places.{hand_of, lock_of}
+use Rattle.ule_model.specs.Sleep.{bedded, dropped, woken}
 use Rattle.ule_model.specs.Switch.{switched}
+use Rattle.ule_model.specs.Tick.{ticked}
 use Rattle.ule_model.specs.World.{Member, Side, World, side_of, with_side, thread_of}
 
 -- the thread that an event seeks under the lock of its place
@@ -112,12 +115,26 @@ locks_of w (Inherit t r) = lock_of_thread w.members t
 abbrev pub on_side : ℕ → (Side → Side × Reply) → World → World × Reply
 on_side c change w = let done = change (side_of c w) in (with_side c done.0 w, done.1)
 
+-- a step that moves a thread to or from a place on no CPU
+abbrev pub on_members : (List Member → List Member × Reply) → World → World × Reply
+on_members change w = let done = change w.members in (record w { members = done.0 }, done.1)
+
 -- the events that have a step so far
 abbrev pub is_performed : Event → Bool
+is_performed (Tick c) = true
 is_performed (Switch c why) = true
+is_performed (Drop c channel) = true
+is_performed (Bed t channel) = true
+is_performed (Wake t) = true
+is_performed (Land t c) = true
 is_performed _ = false
 
 -- the step; an event that has none yet changes nothing
 abbrev pub step : World → ℕ → Event → ℕ → World × Reply
+step w worker (Tick c) now = on_side c (ticked c now) w
 step w worker (Switch c why) now = on_side c (switched c why now) w
+step w worker (Drop c channel) now = on_side c (dropped c worker now) w
+step w worker (Bed t channel) now = on_members (bedded t channel) w
+step w worker (Wake t) now = on_members (woken t worker now w.settings) w
+step w worker (Land t c) now = on_side c (landed t c worker) w
 step w worker _ now = (w, Nothing)

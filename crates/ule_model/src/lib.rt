@@ -1,9 +1,7 @@
 //! What the scheduler is: the definitions that queues, CPUs and the whole scheduler are proved
-//! against, and the laws about these definitions alone.
+//! against. It has no code that runs but a type that they name.
 #![tactic(auto)]
 
-pub use history::rounds_are_legal;
 pub use insertion::Insertion;
 
-pub mod history;
 pub mod insertion;

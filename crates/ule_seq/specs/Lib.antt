@@ -1,4 +1,3 @@
-pub mod Conditions
 pub mod Outcomes
 pub mod Playing
 pub mod Programs

@@ -1,9 +1,9 @@
 -- The form of a setup that a scenario can spell so far.
-use Rattle.std.specs.Prelude.{◌≡◌, Bool, true, false, not, ◌&&◌, List, [], ◌∷◌, IsTrue, replicate}
+use Rattle.std.specs.Prelude.{◌≡◌, ℕ, Bool, true, false, nat_lt, nat_le, ◌&&◌, ◌||◌, List, [], IsTrue, count_by, slice_index_or}
 use Rattle.std.specs.List.{list_all}
 use Rattle.ule_score.specs.declared.record.Settings.{Settings}
 use Rattle.ule_types.specs.declared.command.Command.{Command}
-use Rattle.ule_types.specs.declared.command.Command.TheVariants.{Yield}
+use Rattle.ule_types.specs.declared.command.Command.TheVariants.{Tick, Time, Yield, Resched, Sleep, Wake, Lend, Unlend, Renice, Fork, Exit, Idle, Balance, Look}
 use Rattle.ule_types.specs.declared.setup.Form.{Form}
 use Rattle.ule_types.specs.declared.setup.Form.TheVariants.{Ts}
 use Rattle.ule_types.specs.declared.setup.ThreadSpec.{ThreadSpec}
@@ -17,19 +17,41 @@ abbrev pub is_timeshare : Form → Bool
 is_timeshare (Ts n) = true
 is_timeshare _ = false
 
-abbrev pub is_yield : Command → Bool
-is_yield Yield = true
-is_yield _ = false
+-- whether a thread is a timeshare thread, which is bound where there are several CPUs
+abbrev pub is_plain : ℕ → ThreadSpec → Bool
+is_plain cpus spec = is_timeshare spec.form && (nat_lt cpus 2 || spec.bound)
 
--- whether a thread is a timeshare thread that is bound to no CPU
-abbrev pub is_plain : ThreadSpec → Bool
-is_plain spec = is_timeshare spec.form && not spec.bound
+-- whether a command has its items so far
+abbrev pub is_built : Command → Bool
+is_built Tick = true
+is_built (Time k) = true
+is_built Yield = true
+is_built Resched = true
+is_built (Sleep channel) = true
+is_built (Wake t) = true
+is_built (Lend t p) = false
+is_built (Unlend t) = false
+is_built (Renice t n) = false
+is_built (Fork t) = false
+is_built Exit = false
+is_built Idle = false
+is_built Balance = false
+is_built (Look c) = false
 
--- one CPU with the default settings, plain threads, and a script of yields
+abbrev pub is_tick : Command → Bool
+is_tick Tick = true
+is_tick _ = false
+
+-- whether no balance comes due while it has no items: on several CPUs, worker 0 has fewer ticks
+-- than the least balance count
+abbrev pub has_few_ticks : ℕ → List (List Command) → Bool
+has_few_ticks cpus scripts = nat_lt cpus 2 || nat_le (count_by is_tick (slice_index_or scripts 0 [])) 63
+
+-- the default settings, plain threads of which none is unborn, and scripts of the commands built so far
 pub record IsOfForm (s : Setup) : Type 0 where
   pub settings : s.settings ≡ default_settings
-  pub cpus : s.cpus ≡ 1
-  pub threads : IsTrue (list_all is_plain s.threads)
+  pub threads : IsTrue (list_all (is_plain s.cpus) s.threads)
   pub unborn : s.unborn ≡ []
-  pub script : (script : List Command) × (s.scripts ≡ script ∷ replicate 15 []) × IsTrue (list_all is_yield script)
+  pub scripts : IsTrue (list_all (λ script. list_all is_built script) s.scripts)
+  pub ticks : IsTrue (has_few_ticks s.cpus s.scripts)
   pub turns : s.turns ≡ []

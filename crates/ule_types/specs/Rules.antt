@@ -1,5 +1,5 @@
 -- The rules that every setup keeps.
-use Rattle.std.specs.Prelude.{ℕ, ◌+◌, Bool, true, not, nat_le, nat_lt, ◌&&◌, ◌==◌, List, [], ◌∷◌, ◌++◌, length, map, drop, sum}
+use Rattle.std.specs.Prelude.{ℕ, ◌+◌, ℤ, pos, negsuc, Bool, true, not, nat_le, nat_lt, ◌&&◌, ◌==◌, List, [], ◌∷◌, ◌++◌, length, map, drop, sum}
 use Rattle.std.specs.List.{list_all, flat_map}
 use Rattle.ule_prio.specs.Class.{is_within, is_base_of}
 use Rattle.ule_prio.specs.declared.class.Class.TheVariants as class
@@ -20,9 +20,14 @@ is_distinct (x ∷ xs) = not (is_among xs x) && is_distinct xs
 abbrev pub are_settings : Settings → Bool
 are_settings s = is_within 1 100 s.interact && is_within 6 1000 s.slice && is_within 1 64 s.steal
 
--- whether a base priority is one of its class
+-- whether a nice value is one of -20..20
+abbrev pub is_nice : ℤ → Bool
+is_nice (pos n) = nat_le n 20
+is_nice (negsuc n) = nat_lt n 20
+
+-- whether a nice value is in range, or a base priority one of its class
 abbrev pub is_form : Form → Bool
-is_form (Ts n) = true
+is_form (Ts n) = is_nice n
 is_form (Ithd p) = is_base_of class.Ithd p
 is_form (Rt p) = is_base_of class.Rt p
 is_form (Fifo p) = is_base_of class.Fifo p

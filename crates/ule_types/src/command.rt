@@ -1,3 +1,6 @@
+ghost use Rattle.std.specs.Prelude.{◌≡◌};
+ghost use Rattle.ule_types.specs.Commands.{greatest_of, greatest_of_tick};
+
 use ule_prio::{Cpu, Nice, Priority, ThreadId};
 
 /// A command of a script. Worker w performs it for CPU w.
@@ -31,4 +34,38 @@ pub enum Command {
     Balance,
     /// The CPU's load, movable count and low priority are read.
     Look(Cpu),
+}
+
+/// The greatest number of items that a command of this worker has where there are so many CPUs:
+/// what the command is charged against the budget of 65,536 items, whatever comes of it. A tick of
+/// worker 0 may be followed by a balance where there are several CPUs.
+pub fn greatest(c: &Command, worker: u8, cpus: u8) -> u32
+    ensures { result ≡ greatest_of c.now worker cpus }
+{
+    let cpus_there = u32::from(cpus);
+    match *c {
+        Command::Tick => greatest_of_tick(worker, cpus),
+        Command::Sleep(_) => 2,
+        Command::Wake(_) => cpus_there + 2,
+        Command::Fork(_) => cpus_there + 3,
+        Command::Exit => 3,
+        Command::Idle | Command::Balance => 2 * cpus_there,
+        Command::Time(_)
+        | Command::Yield
+        | Command::Resched
+        | Command::Lend(..)
+        | Command::Unlend(_)
+        | Command::Renice(..)
+        | Command::Look(_) => 1,
+    }
+}
+
+fn greatest_of_tick(worker: u8, cpus: u8) -> u32
+    ensures { result ≡ greatest_of_tick worker cpus }
+{
+    if worker == 0 && cpus > 1 {
+        1 + 2 * u32::from(cpus)
+    } else {
+        1
+    }
 }

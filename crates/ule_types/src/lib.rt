@@ -2,7 +2,7 @@
 //! and replies of the scheduler, and the outcome that a trace spells.
 #![tactic(auto)]
 
-pub use command::Command;
+pub use command::{Command, greatest};
 pub use event::{Entry, Event, Item, MoveWhy, Reply};
 pub use fault::ScenarioFault;
 pub use items::Items;

@@ -1,7 +1,7 @@
 use Rattle.std.proofs.Common.{◌<◌, length, IsTrue, subst}
 use Rattle.std.proofs.lemmas.Bool.{ltb-true}
 use Rattle.ule_types.specs.declared.event.Event.{Event}
-use Rattle.ule_model.proofs.WorldLaws.{step_shows}
+use Rattle.ule_laws.proofs.WorldLaws.{step_shows}
 use Rattle.ule_seq.specs.Conditions.{names_cpu}
 use Rattle.ule_seq.proofs.world.World.step.Goals as goal
 

@@ -1,0 +1,158 @@
+-- Each turn keeps a play legal so far, whatever the next item is.
+use Rattle.std.proofs.Common.{◌≡◌, ℕ, ◌+◌, ◌<◌, ◌≤◌, Bool, true, false, List, [], ◌∷◌, ◌++◌, length, slice_get, slice_set, zero, suc, Some, if◌then◌else◌, refl, sym, ◌∙◌, ap, subst, ⊎_elim, arith}
+use Rattle.std.specs.List.{AllByRecursion}
+use Rattle.std.proofs.lemmas.Bool.{cases_eq}
+use Rattle.std.proofs.lemmas.List.{length-set}
+use Rattle.std.proofs.lemmas.Option.{none-some, same_Some, slice_get_within}
+use Rattle.ule_types.specs.declared.event.Entry.{Entry}
+use Rattle.ule_types.specs.declared.event.Event.{Event}
+use Rattle.ule_types.specs.declared.event.Item.{Item}
+use Rattle.ule_types.specs.declared.event.Item.TheVariants as item
+use Rattle.ule_types.specs.declared.setup.Setup.{Setup}
+use Rattle.ule_model.specs.Legal.{Follows, stays, IsEntryOf, IsReplayed, IsInTime, after_entry, entries_of, replayed, with_locks}
+use Rattle.ule_model.specs.Program.{Course, next_step}
+use Rattle.ule_model.specs.Rounds.{Play, after_item, entry_of, opening, opening_courses, performed, turn}
+use Rattle.ule_model.specs.Start.{starting_time, world_at_start}
+use Rattle.ule_model.specs.Step.{has_thread, is_ready, step, locks_of}
+use Rattle.ule_model.specs.World.{World}
+use Rattle.ule_laws.proofs.Courses.{follows_acted, follows_advanced}
+use Rattle.ule_laws.proofs.Histories.{IsInTime-push, IsReplayed-push, all-with_locks, entries_of_other, entries_of_own, replayed_push, with_locks_push}
+use Rattle.ule_laws.proofs.RoundsLaws.{turn_cases}
+use Rattle.ule_laws.proofs.Within.{all-append, all_along}
+
+-- ---- one course changed among all
+
+-- the element written is the one read there
+pub slice_get-set_same : {X : Type 0} (xs : List X) (i : ℕ) (x v : X) → slice_get xs i ≡ Some x → slice_get (slice_set xs i v) i ≡ Some v
+slice_get-set_same [] i x v got = absurd (none-some x got)
+slice_get-set_same (y ∷ ys) zero x v got = refl
+slice_get-set_same (y ∷ ys) (suc i) x v got = slice_get-set_same ys i x v got
+
+-- any other element is read as before
+pub slice_get-set_other : {X : Type 0} (xs : List X) (i j : ℕ) (v : X) → (j ≡ i → ⊥) → slice_get (slice_set xs i v) j ≡ slice_get xs j
+slice_get-set_other [] i j v other = refl
+slice_get-set_other (y ∷ ys) zero zero v other = absurd (other refl)
+slice_get-set_other (y ∷ ys) zero (suc j) v other = refl
+slice_get-set_other (y ∷ ys) (suc i) zero v other = refl
+slice_get-set_other (y ∷ ys) (suc i) (suc j) v other = slice_get-set_other ys i j v (λ e. other (ap suc e))
+
+-- what holds of the element written, and of each other, holds of each afterwards
+pub each_after_set : {X : Type 0} (Q : ℕ → X → Type 0) (xs : List X) (i : ℕ) (x v : X) → slice_get xs i ≡ Some x → Q i v → ((j : ℕ) (y : X) → (j ≡ i → ⊥) → slice_get xs j ≡ Some y → Q j y) → (j : ℕ) (y : X) → slice_get (slice_set xs i v) j ≡ Some y → Q j y
+each_after_set Q xs i x v got here others j y found =
+    ⊎_elim
+    (λ (same : j ≡ i).
+    let at : slice_get (slice_set xs i v) i ≡ Some y = subst (λ k. slice_get (slice_set xs i v) k ≡ Some y) same found in
+    let is : v ≡ y = same_Some v y (sym (slice_get-set_same xs i x v got) ∙ at) in
+    subst (λ k. Q k y) (sym same) (subst (Q i) is here))
+    (λ (other : j ≡ i → ⊥). others j y other (sym (slice_get-set_other xs i j v other) ∙ found))
+    (cases_eq j i)
+
+-- ---- what a play keeps
+
+-- a worker's entries so far lead it to this course, by this time
+pub record StandsAt (s : Setup) (es : List Entry) (now worker : ℕ) (course : Course) : Type 0 where
+  pub start : Course
+  pub total : ℕ
+  pub first : slice_get (opening_courses s) worker ≡ Some start
+  pub follows : Follows start 0 (entries_of worker es) course total
+  pub by_now : starting_time + total ≤ now
+
+-- a play that is legal so far
+pub record IsLegalSoFar (s : Setup) (p : Play) : Type 0 where
+  pub count : length p.courses ≡ s.cpus
+  pub workers : AllByRecursion (λ e. e.worker < s.cpus) p.entries
+  pub made : IsReplayed (world_at_start s) p.entries
+  pub world : replayed (world_at_start s) p.entries ≡ p.world
+  pub courses : (worker : ℕ) (course : Course) → slice_get p.courses worker ≡ Some course → StandsAt s p.entries p.now worker course
+  pub by_now : AllByRecursion (λ e. e.now ≤ p.now) p.entries
+  pub in_time : IsInTime (with_locks (world_at_start s) p.entries)
+
+-- the opening play is legal so far
+pub legal_opening : (s : Setup) → length (opening_courses s) ≡ s.cpus → IsLegalSoFar s (opening s)
+unfolding replayed IsReplayed with_locks IsInTime
+legal_opening s count = record {
+  count = count;
+  workers = tt;
+  made = tt;
+  world = refl;
+  courses = λ worker course got. record { start = course; total = 0; first = got; follows = stays course 0; by_now = omega arith };
+  by_now = tt;
+  in_time = tt;
+}
+
+-- time that goes on keeps a play legal so far
+pub legal_advanced : (s : Setup) (p : Play) (worker k : ℕ) (course after : Course) → IsLegalSoFar s p → slice_get p.courses worker ≡ Some course → next_step course ≡ Some (item.Advance k, after) → IsLegalSoFar s (after_item worker (item.Advance k) after p)
+legal_advanced s p worker k course after legal got next = record {
+  count = length-set p.courses worker after ∙ legal.count;
+  workers = legal.workers;
+  made = legal.made;
+  world = legal.world;
+  courses = each_after_set (StandsAt s p.entries (p.now + k)) p.courses worker course after got (own (legal.courses worker course got)) (λ w c other found. later w c (legal.courses w c found));
+  by_now = all_along (λ e. e.now ≤ p.now) (λ e. e.now ≤ p.now + k) p.entries (λ e early. omega arith) legal.by_now;
+  in_time = legal.in_time;
+}
+  where
+    own : StandsAt s p.entries p.now worker course → StandsAt s p.entries (p.now + k) worker after
+    own at = record { start = at.start; total = at.total + k; first = at.first; follows = follows_advanced k after at.follows next; by_now = omega (arith, at.by_now) }
+
+    later : (w : ℕ) (c : Course) → StandsAt s p.entries p.now w c → StandsAt s p.entries (p.now + k) w c
+    later w c at = record { start = at.start; total = at.total; first = at.first; follows = at.follows; by_now = omega (arith, at.by_now) }
+
+-- an event that is ready and has its thread keeps a play legal so far
+pub legal_performed : (s : Setup) (p : Play) (worker : ℕ) (e : Event) (course after : Course) → IsLegalSoFar s p → slice_get p.courses worker ≡ Some course → next_step course ≡ Some (item.Event e, after) → is_ready p.world worker e ≡ true → has_thread p.world worker e ≡ true → IsLegalSoFar s (performed worker e after p)
+legal_performed s p worker e course after legal got next ready thread = record {
+  count = length-set p.courses worker reached ∙ legal.count;
+  workers = all-append (λ y. y.worker < s.cpus) p.entries (x ∷ []) legal.workers (subst (λ n. worker < n) legal.count (slice_get_within p.courses worker course got), tt);
+  made = IsReplayed-push start p.entries x legal.made (subst (λ w. IsEntryOf w x) (sym legal.world) (record { ready = ready; thread = thread; reply = refl }));
+  world = replayed_push start p.entries x ∙ ap (λ w. after_entry w x) legal.world;
+  courses = each_after_set (StandsAt s (p.entries ++ x ∷ []) p.now) p.courses worker course reached got (own (legal.courses worker course got)) (λ w c other found. others w c other (legal.courses w c found));
+  by_now = all-append (λ y. y.now ≤ p.now) p.entries (x ∷ []) legal.by_now (omega arith, tt);
+  in_time = subst IsInTime (sym (with_locks_push start p.entries x))
+      (IsInTime-push (with_locks start p.entries) (record { entry = x; locks = locks_of (replayed start p.entries) e }) legal.in_time (all-with_locks (λ y. y.now ≤ p.now) start p.entries legal.by_now));
+}
+  where
+    start : World
+    start = world_at_start s
+
+    x : Entry
+    x = entry_of p worker e
+
+    reached : Course
+    reached = record after { last = Some ((step p.world worker e p.now).1, p.now) }
+
+    own : StandsAt s p.entries p.now worker course → StandsAt s (p.entries ++ x ∷ []) p.now worker reached
+    own at = record {
+      start = at.start;
+      total = at.total;
+      first = at.first;
+      follows = subst (λ ys. Follows at.start 0 ys reached at.total) (sym (entries_of_own worker p.entries x refl)) (follows_acted x after at.follows next at.by_now);
+      by_now = at.by_now;
+    }
+
+    others : (w : ℕ) (c : Course) → (w ≡ worker → ⊥) → StandsAt s p.entries p.now w c → StandsAt s (p.entries ++ x ∷ []) p.now w c
+    others w c other at = record {
+      start = at.start;
+      total = at.total;
+      first = at.first;
+      follows = subst (λ ys. Follows at.start 0 ys c at.total) (sym (entries_of_other w p.entries x (λ same. other (sym same)))) at.follows;
+      by_now = at.by_now;
+    }
+
+-- a worker's next event, where it is ready, has its thread
+abbrev pub HasThread : Play → ℕ → Type 0
+HasThread p worker = (course after : Course) (e : Event) → slice_get p.courses worker ≡ Some course → next_step course ≡ Some (item.Event e, after) → is_ready p.world worker e ≡ true → has_thread p.world worker e ≡ true
+
+-- the next item of a worker keeps a play legal so far
+pub legal_after_item : (s : Setup) (p : Play) (worker : ℕ) (i : Item) (course after : Course) → IsLegalSoFar s p → HasThread p worker → slice_get p.courses worker ≡ Some course → next_step course ≡ Some (i, after) → IsLegalSoFar s (after_item worker i after p)
+legal_after_item s p worker (item.Advance k) course after legal thread got next = legal_advanced s p worker k course after legal got next
+legal_after_item s p worker (item.Event e) course after legal thread got next = if_ready (is_ready p.world worker e) refl
+  where
+    if_ready : (ready : Bool) → is_ready p.world worker e ≡ ready → IsLegalSoFar s (if ready then performed worker e after p else p)
+    if_ready true is = legal_performed s p worker e course after legal got next is (thread course after e got next is)
+    if_ready false is = legal
+
+-- a turn keeps a play legal so far
+pub legal_turn : (s : Setup) (p : Play) (worker : ℕ) → IsLegalSoFar s p → HasThread p worker → IsLegalSoFar s (turn p worker)
+legal_turn s p worker legal thread =
+    turn_cases (IsLegalSoFar s) p worker (λ finished. legal)
+    (λ course after i got next. legal_after_item s p worker i course after legal thread got next)
