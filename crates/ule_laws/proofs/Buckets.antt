@@ -15,7 +15,7 @@ use Rattle.ule_model.specs.Places.{rank_of, waits_in}
 use Rattle.ule_model.specs.Shows.{AreApart, ShowsQueue, by_order, ids_of, bucket_ids}
 use Rattle.ule_model.specs.World.{Member, is_thread, moved_to, with_record}
 use Rattle.ule_laws.proofs.Orders.{length-by_order, map-by_order, ids_lacking, ids_without, all-by_order, all_from_map, tail_order_above, head_order_below, by_order_last, by_order_first}
-use Rattle.ule_laws.proofs.Within.{Lacks, Within, changed, changed_within, all-append, all_front, all_back}
+use Rattle.ule_members.proofs.Within.{Lacks, Within, changed, changed_within, all-append, all_front, all_back}
 
 -- ---- the threads of a bucket
 

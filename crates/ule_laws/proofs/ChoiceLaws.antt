@@ -16,7 +16,7 @@ use Rattle.ule_model.specs.Insertion.{members_in}
 use Rattle.ule_model.specs.Places.{rank_of, waits_in, waits_on}
 use Rattle.ule_model.specs.Shows.{ShowsQueue, IsMade, IsPlace, IsWellMade, by_order, ids_of}
 use Rattle.ule_model.specs.World.{Member, Side, thread_of}
-use Rattle.ule_laws.proofs.Membership.{Has, all_has, all_from_has, has-filter, has_filtered, has_none, same_from_order, thread_of_has}
+use Rattle.ule_members.proofs.Membership.{Has, all_has, all_from_has, has-filter, has_filtered, has_none, same_from_order, thread_of_has}
 use Rattle.ule_laws.proofs.Orders.{lt_not_back}
 use Rattle.ule_laws.proofs.Rising.{IsLeastOf, head_by_order, int_same, by_order_has}
 use Rattle.ule_laws.proofs.PlaceLaws.{kind_from_rank, place_from_waits_in, waits_in_place, place_from_waits_on, waits_on_place}

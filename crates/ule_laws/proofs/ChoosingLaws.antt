@@ -20,9 +20,9 @@ use Rattle.ule_model.specs.World.{Member, Side, current_of, thread_of, is_thread
 use Rattle.ule_laws.proofs.Buckets.{IsOut, shows_without, shows-changed_out, shows-with_record, empty_shown}
 use Rattle.ule_laws.proofs.ChoiceLaws.{Agrees, choices_agree}
 use Rattle.ule_laws.proofs.PlaceLaws.{waits_on_place}
-use Rattle.ule_laws.proofs.Threads.{thread_of-changed, thread_on_within, thread_on-changed, thread_on-changed_other, current_of-changed_none}
+use Rattle.ule_members.proofs.Threads.{thread_of-changed, thread_on_within, thread_on-changed, thread_on-changed_other, current_of-changed_none}
 use Rattle.ule_laws.proofs.WellMade.{well_made_running, well_made-with_record}
-use Rattle.ule_laws.proofs.Within.{Within, within_thread}
+use Rattle.ule_members.proofs.Within.{Within, within_thread}
 
 -- the side with queued thread t running on CPU c, its record as it was
 abbrev pub taken : ℕ → Kind → ℕ → Side → Side

@@ -24,9 +24,9 @@ use Rattle.ule_model.specs.Switch.{one_more, after_running, unmarked, counted, i
 use Rattle.ule_model.specs.World.{Member, Side, current_of, thread_of, is_thread, moved_to, with_record}
 use Rattle.ule_laws.proofs.Buckets.{IsOut, orders_in, shows-changed_out, shows-appended, shows_with_tail, shows_with_head}
 use Rattle.ule_laws.proofs.ChoosingLaws.{AreChosen, recorded_stands, choosing_stands}
-use Rattle.ule_laws.proofs.Threads.{find_skips, find_nowhere, no_other_runs, thread_of_within, thread_of-changed, thread_on_within, thread_on-changed, current_runs, within_current, find-appended, find-appended_new}
+use Rattle.ule_members.proofs.Threads.{find_skips, find_nowhere, no_other_runs, thread_of_within, thread_of-changed, thread_on_within, thread_on-changed, current_runs, within_current, find-appended, find-appended_new}
 use Rattle.ule_laws.proofs.WellMade.{waits_on_where, well_made-with_record, well_made_last, well_made_first, well_made_appended}
-use Rattle.ule_laws.proofs.Within.{Within, changed_within, within_thread, all-append}
+use Rattle.ule_members.proofs.Within.{Within, changed_within, within_thread, all-append}
 
 -- ---- a thread that joins a queue
 

@@ -24,9 +24,9 @@ use Rattle.ule_model.specs.Switch.{before_running, after_running, running_chosen
 use Rattle.ule_model.specs.World.{Member, Side, World, is_thread, thread_of, current_of, moved_to, with_record, fresh_line, side_of, with_side}
 use Rattle.ule_laws.proofs.ChoiceLaws.{least_keeps}
 use Rattle.ule_laws.proofs.CpuLaws.{off_out, appended_stands}
-use Rattle.ule_laws.proofs.Membership.{Has, all_from_has, has_filtered, same_from_number, has_thread_of, has_within}
-use Rattle.ule_laws.proofs.Threads.{find_nowhere, none_passes, current_runs, within_current}
-use Rattle.ule_laws.proofs.Within.{changed}
+use Rattle.ule_members.proofs.Membership.{Has, all_from_has, has_filtered, same_from_number, has_thread_of, has_within}
+use Rattle.ule_members.proofs.Threads.{find_nowhere, none_passes, current_runs, within_current}
+use Rattle.ule_members.proofs.Within.{changed}
 
 -- ---- threads that stay
 

@@ -19,11 +19,11 @@ use Rattle.ule_model.specs.Shows.{ShowsQueue, IsWellMade}
 use Rattle.ule_model.specs.World.{Member, Side, World, is_thread, thread_of, current_of, side_of}
 use Rattle.ule_model.specs.WorldValue.{WorldValue, IsPart, IsOnOne, Shows, queued_place, first_place, current_place, value_place, value_line, first_line, line_among, value_lines}
 use Rattle.ule_laws.proofs.Elsewhere.{IsOn}
-use Rattle.ule_laws.proofs.Membership.{Has, all_has, has_within, same_from_number}
+use Rattle.ule_members.proofs.Membership.{Has, all_has, has_within, same_from_number}
 use Rattle.ule_laws.proofs.PlaceLaws.{place_from_waits_on, waits_on_place}
 use Rattle.ule_laws.proofs.Positions.{place_in_shown, place_in_lacks}
-use Rattle.ule_laws.proofs.Threads.{find_only, find_nowhere, none_passes, no_other_runs, thread_on_within, within_thread_on, thread_on_stands, current_runs, within_current}
-use Rattle.ule_laws.proofs.Within.{Within, all_along, within_thread}
+use Rattle.ule_members.proofs.Threads.{find_only, find_nowhere, none_passes, no_other_runs, thread_on_within, within_thread_on, thread_on_stands, current_runs, within_current}
+use Rattle.ule_members.proofs.Within.{Within, all_along, within_thread}
 use Rattle.ule_laws.proofs.WorldLaws.{IsAt, cpu_at}
 
 -- ---- the place of a thread

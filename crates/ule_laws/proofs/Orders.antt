@@ -8,7 +8,7 @@ use Rattle.std.proofs.lemmas.List.Elements.{recursion_from_All}
 use Rattle.ule_model.specs.Insertion.{tail_order, head_order}
 use Rattle.ule_model.specs.Shows.{with_ordered, by_order, ids_of}
 use Rattle.ule_model.specs.World.{Member, is_thread}
-use Rattle.ule_laws.proofs.Within.{Lacks, all-append, all_along}
+use Rattle.ule_members.proofs.Within.{Lacks, all-append, all_along}
 
 -- ---- one more in order
 

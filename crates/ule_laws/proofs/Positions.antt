@@ -17,7 +17,7 @@ use Rattle.ule_model.specs.Places.{waits_in}
 use Rattle.ule_model.specs.Shows.{ShowsQueue, IsWellMade, with_ordered, by_order, ids_of, bucket_ids}
 use Rattle.ule_model.specs.World.{Member}
 use Rattle.ule_laws.proofs.ChoiceLaws.{bucket_within}
-use Rattle.ule_laws.proofs.Membership.{Has, all_has, all_from_has, has-filter, has_filtered, same_from_number, same_from_order}
+use Rattle.ule_members.proofs.Membership.{Has, all_has, all_from_has, has-filter, has_filtered, same_from_number, same_from_order}
 use Rattle.ule_laws.proofs.PlaceLaws.{place_from_waits_in, waits_in_place}
 use Rattle.ule_laws.proofs.Rising.{IsRising, rising-by_order, has_by_order, by_order_has, int_lt_other, int_lt_same}
 

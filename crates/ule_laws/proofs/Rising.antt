@@ -8,7 +8,7 @@ use Rattle.std.proofs.lemmas.Option.{slice_get-map, same_Some, none-some}
 use Rattle.ule_model.specs.Shows.{with_ordered, by_order, ids_of}
 use Rattle.ule_model.specs.World.{Member}
 use Rattle.ule_laws.proofs.Orders.{lt_not_back}
-use Rattle.ule_laws.proofs.Membership.{Has, all_has, all_from_has}
+use Rattle.ule_members.proofs.Membership.{Has, all_has, all_from_has}
 
 -- two integers of which none is the smaller are equal
 pub int_same : (x y : ℤ) → int_lt x y ≡ false → int_lt y x ≡ false → x ≡ y

@@ -23,9 +23,9 @@ use Rattle.ule_model.specs.World.{Member, Side, World, is_thread, thread_of, mov
 use Rattle.ule_model.specs.WorldValue.{WorldValue, IsPart, IsOnOne, Shows}
 use Rattle.ule_laws.proofs.CpuLaws.{IsJoined, laid_stands}
 use Rattle.ule_laws.proofs.Elsewhere.{queued_rest, laid_elsewhere}
-use Rattle.ule_laws.proofs.Membership.{has_thread_of}
-use Rattle.ule_laws.proofs.Threads.{find-appended, find-appended_new, none_passes}
-use Rattle.ule_laws.proofs.Within.{changed_between}
+use Rattle.ule_members.proofs.Membership.{has_thread_of}
+use Rattle.ule_members.proofs.Threads.{find-appended, find-appended_new, none_passes}
+use Rattle.ule_members.proofs.Within.{changed_between}
 use Rattle.ule_laws.proofs.WorldLaws.{IsEvent, event_shows}
 
 -- ---- before any thread is laid

@@ -13,8 +13,8 @@ use Rattle.ule_model.specs.Shows.{IsPlace, IsMade, AreApart, AllApart, IsWellMad
 use Rattle.ule_model.specs.World.{Member, is_thread, thread_of, current_of, moved_to, with_record}
 use Rattle.ule_laws.proofs.Buckets.{orders_in}
 use Rattle.ule_laws.proofs.Orders.{all_from_map, tail_order_above, head_order_below, lt_apart}
-use Rattle.ule_laws.proofs.Threads.{none_passes}
-use Rattle.ule_laws.proofs.Within.{Within, all_front, all_back, all_along, well_made_between, well_made_within}
+use Rattle.ule_members.proofs.Threads.{none_passes}
+use Rattle.ule_members.proofs.Within.{Within, all_front, all_back, all_along, well_made_between, well_made_within}
 
 -- ---- a change of records alone
 

@@ -1,7 +1,3 @@
-//! The laws of the definitions in `ule_model`: each is the contract of a function that does
-//! nothing.
+//! The laws by which a value of the code stands for a world: each step of a CPU's value and of the
+//! whole scheduler's is that of the world that it shows.
 #![tactic(auto)]
-
-pub use history::rounds_are_legal;
-
-pub mod history;

@@ -12,8 +12,8 @@ use Rattle.ule_model.specs.World.{World, fresh_line}
 use Rattle.ule_model.specs.WorldValue.{IsPart, Shows, WorldValue, value_lines}
 use Rattle.ule_laws.proofs.FinalLaws.{lines_shown}
 use Rattle.ule_seq.specs.Outcomes.{HasFinals}
-use Rattle.ule_laws.proofs.RoundsLaws.{range_push}
-use Rattle.ule_laws.proofs.Within.{all-append, all_along}
+use Rattle.ule_rounds.proofs.RoundsLaws.{range_push}
+use Rattle.ule_members.proofs.Within.{all-append, all_along}
 
 -- lines below a number
 abbrev pub AreBelow : ℕ → List ThreadLine → Type 0

@@ -25,11 +25,11 @@ use Rattle.ule_model.specs.Start.{empty_world, first_line, laid, laid_on, record
 use Rattle.ule_model.specs.Step.{is_ready, step}
 use Rattle.ule_model.specs.Switch.{switched}
 use Rattle.ule_model.specs.World.{World, fresh_line, side_of}
-use Rattle.ule_laws.proofs.Courses.{left_falls}
-use Rattle.ule_laws.proofs.HistoryLaws.{AreYields, Keeps, all_take, form_yields, keeps_opening, keeps_turn}
-use Rattle.ule_laws.proofs.LegalLaws.{each_after_set}
-use Rattle.ule_laws.proofs.RoundsLaws.{turn_cases, turn_finished}
-use Rattle.ule_laws.proofs.YieldRounds.{all_left, left_performed}
+use Rattle.ule_rounds.proofs.Courses.{left_falls}
+use Rattle.ule_rounds.proofs.HistoryLaws.{AreYields, Keeps, all_take, form_yields, keeps_opening, keeps_turn}
+use Rattle.ule_rounds.proofs.LegalLaws.{each_after_set}
+use Rattle.ule_rounds.proofs.RoundsLaws.{turn_cases, turn_finished}
+use Rattle.ule_rounds.proofs.YieldRounds.{all_left, left_performed}
 use Rattle.ule_model.specs.WorldValue.{Shows}
 use Rattle.ule_seq.specs.Conditions.{AllNoEarlier, CanStep}
 use Rattle.ule_seq.specs.Outcomes.{HasFinals, HasLines, IsOutcomeOf}

@@ -12,7 +12,7 @@ use Rattle.ule_model.specs.Start.{base_of, empty_world, laid, record_of}
 use Rattle.ule_model.specs.World.{World, is_thread, thread_of}
 use Rattle.ule_model.specs.WorldValue.{IsPart, Shows, WorldValue}
 use Rattle.ule_laws.proofs.StartLaws.{IsEmptyCpu, declared_distinct, empty_shows, laid_shows, new_after}
-use Rattle.ule_laws.proofs.Threads.{find_nowhere, none_passes}
+use Rattle.ule_members.proofs.Threads.{find_nowhere, none_passes}
 use Rattle.ule_seq.specs.Outcomes.{AreFresh, laid_part, with_laid}
 use Rattle.ule_types.specs.declared.setup.ThreadSpec.{ThreadSpec}
 use Rattle.ule_tdq.specs.Cpu.{IsNoEarlier, StartsAs}

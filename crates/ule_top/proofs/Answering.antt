@@ -11,7 +11,7 @@ use Rattle.ule_model.specs.Finals.{thread_line, thread_lines}
 use Rattle.ule_model.specs.Places.{lock_of}
 use Rattle.ule_model.specs.Rounds.{play_of}
 use Rattle.ule_model.specs.World.{Member, thread_of}
-use Rattle.ule_laws.proofs.HistoryLaws.{history_of_rounds}
+use Rattle.ule_rounds.proofs.HistoryLaws.{history_of_rounds}
 use Rattle.ule_scenario.specs.Scenario.{Spells}
 use Rattle.ule_score.specs.declared.record.CpuLine.{CpuLine}
 use Rattle.ule_seq.specs.Outcomes.{HasLines, IsOutcomeOf}

@@ -6,7 +6,7 @@ use Rattle.ule_history.specs.CpuUseUpdate.{updated_use, slid_use, windowed_use, 
 use Rattle.ule_model.specs.Finals.{thread_lines}
 use Rattle.ule_model.specs.Program.{next_in}
 use Rattle.ule_model.specs.Rounds.{Play, opening, play_of, round, rounds, greatest_rounds}
-use Rattle.ule_laws.proofs.RoundsLaws.{rounds_past_still, rounds_suc, rounds_none}
+use Rattle.ule_rounds.proofs.RoundsLaws.{rounds_past_still, rounds_suc, rounds_none}
 use Rattle.ule_score.specs.Score.{score_of}
 use Rattle.ule_score.specs.TimesharePriority.{timeshare_priority, priority_at, batch_priority, use_steps}
 use Rattle.ule_trace.specs.Trace.{trace_text}

@@ -1,6 +1,6 @@
 -- A round is the turns of all workers.
 use Rattle.std.proofs.Common.{◌≡◌, length, sym, ◌∙◌, subst, arith}
-use Rattle.ule_laws.proofs.RoundsLaws.{turns, turns_more}
+use Rattle.ule_rounds.proofs.RoundsLaws.{turns, turns_more}
 use Rattle.ule_seq.specs.Playing.{IsPlay}
 use Rattle.ule_seq.proofs.PlayLaws.{play_count}
 use Rattle.ule_seq.proofs.rounds.Player.round.Goals as goal

@@ -1,7 +1,7 @@
 -- The turns so far, and that they changed nothing where none moved.
 use Rattle.std.proofs.Common.{◌≡◌, false}
 use Rattle.ule_model.specs.Rounds.{Play}
-use Rattle.ule_laws.proofs.RoundsLaws.{turns}
+use Rattle.ule_rounds.proofs.RoundsLaws.{turns}
 use Rattle.ule_seq.specs.Playing.{IsPlay}
 use Rattle.ule_seq.proofs.rounds.Player.round.Given as goal
 

@@ -1,6 +1,6 @@
 -- The rounds past one that changed nothing change nothing.
 use Rattle.std.proofs.Common.{◌≡◌, ◌≤◌, false, sym, ◌∙◌, subst, arith}
-use Rattle.ule_laws.proofs.RoundsLaws.{rounds_more, rounds_none, rounds_past_still}
+use Rattle.ule_rounds.proofs.RoundsLaws.{rounds_more, rounds_none, rounds_past_still}
 use Rattle.ule_model.specs.Rounds.{round, rounds}
 use Rattle.ule_seq.specs.Playing.{IsPlay}
 use Rattle.ule_seq.proofs.rounds.Player.run.Goals as goal

@@ -18,11 +18,11 @@ use Rattle.ule_model.specs.Legal.{Begins, IsLegal, IsWhole, amount_of, end_time}
 use Rattle.ule_model.specs.Program.{Course, course_of}
 use Rattle.ule_model.specs.Rounds.{Play, greatest_rounds, opening, opening_courses, play_of, turn}
 use Rattle.ule_model.specs.Start.{starting_time}
-use Rattle.ule_laws.proofs.Courses.{IsYielding, left_of}
-use Rattle.ule_laws.proofs.LegalLaws.{IsLegalSoFar, StandsAt, legal_opening, legal_turn}
-use Rattle.ule_laws.proofs.RoundsLaws.{IsFinished, rounds_keep}
-use Rattle.ule_laws.proofs.Within.{all_along}
-use Rattle.ule_laws.proofs.YieldRounds.{AllYield, all_left, entries_turn, rounds_finish, yield_turn_cases, yields_have_threads, yields_turn}
+use Rattle.ule_rounds.proofs.Courses.{IsYielding, left_of}
+use Rattle.ule_rounds.proofs.LegalLaws.{IsLegalSoFar, StandsAt, legal_opening, legal_turn}
+use Rattle.ule_rounds.proofs.RoundsLaws.{IsFinished, rounds_keep}
+use Rattle.ule_members.proofs.Within.{all_along}
+use Rattle.ule_rounds.proofs.YieldRounds.{AllYield, all_left, entries_turn, rounds_finish, yield_turn_cases, yields_have_threads, yields_turn}
 
 -- ---- what the rules of a setup say
 

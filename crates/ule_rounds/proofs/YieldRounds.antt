@@ -13,9 +13,9 @@ use Rattle.ule_types.specs.declared.event.Item.TheVariants as item
 use Rattle.ule_model.specs.Program.{Course, next_step}
 use Rattle.ule_model.specs.Rounds.{Play, after_item, entry_of, performed, round, rounds, turn}
 use Rattle.ule_model.specs.Step.{step}
-use Rattle.ule_laws.proofs.Courses.{IsYielding, has_thread-switch, left_falls, left_of, switch_of, yielding_next}
-use Rattle.ule_laws.proofs.LegalLaws.{HasThread, each_after_set}
-use Rattle.ule_laws.proofs.RoundsLaws.{IsFinished, round_finished, rounds_none, rounds_still, rounds_suc, turn_cases, turns, turns_keep, turns_more}
+use Rattle.ule_rounds.proofs.Courses.{IsYielding, has_thread-switch, left_falls, left_of, switch_of, yielding_next}
+use Rattle.ule_rounds.proofs.LegalLaws.{HasThread, each_after_set}
+use Rattle.ule_rounds.proofs.RoundsLaws.{IsFinished, round_finished, rounds_none, rounds_still, rounds_suc, turn_cases, turns, turns_keep, turns_more}
 
 -- ---- a turn
 

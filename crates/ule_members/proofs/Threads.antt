@@ -8,7 +8,7 @@ use Rattle.ule_model.specs.CpuValue.{thread_on}
 use Rattle.ule_model.specs.Places.{runs_on, is_on}
 use Rattle.ule_model.specs.Shows.{AreApart, IsWellMade}
 use Rattle.ule_model.specs.World.{Member, is_thread, thread_of, current_of}
-use Rattle.ule_laws.proofs.Within.{Lacks, Within, found_at, within_found, changed, changed_within, all_front, all_back, all_along}
+use Rattle.ule_members.proofs.Within.{Lacks, Within, found_at, within_found, changed, changed_within, all_front, all_back, all_along}
 
 -- ---- look-ups in any list
 

@@ -15,10 +15,10 @@ use Rattle.ule_model.specs.Rounds.{Play, after_item, entry_of, opening, opening_
 use Rattle.ule_model.specs.Start.{starting_time, world_at_start}
 use Rattle.ule_model.specs.Step.{has_thread, is_ready, step, locks_of}
 use Rattle.ule_model.specs.World.{World}
-use Rattle.ule_laws.proofs.Courses.{follows_acted, follows_advanced}
-use Rattle.ule_laws.proofs.Histories.{IsInTime-push, IsReplayed-push, all-with_locks, entries_of_other, entries_of_own, replayed_push, with_locks_push}
-use Rattle.ule_laws.proofs.RoundsLaws.{turn_cases}
-use Rattle.ule_laws.proofs.Within.{all-append, all_along}
+use Rattle.ule_rounds.proofs.Courses.{follows_acted, follows_advanced}
+use Rattle.ule_rounds.proofs.Histories.{IsInTime-push, IsReplayed-push, all-with_locks, entries_of_other, entries_of_own, replayed_push, with_locks_push}
+use Rattle.ule_rounds.proofs.RoundsLaws.{turn_cases}
+use Rattle.ule_members.proofs.Within.{all-append, all_along}
 
 -- ---- one course changed among all
 

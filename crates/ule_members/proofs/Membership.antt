@@ -7,7 +7,7 @@ use Rattle.ule_prio.specs.declared.kind.Kind.{Kind}
 use Rattle.ule_model.specs.Places.{waits_in}
 use Rattle.ule_model.specs.Shows.{AreApart, AllApart, IsWellMade}
 use Rattle.ule_model.specs.World.{Member, is_thread, thread_of}
-use Rattle.ule_laws.proofs.Within.{Within}
+use Rattle.ule_members.proofs.Within.{Within}
 
 -- x stands in the list
 abbrev pub Has : {X : Type 0} → X → List X → Type 0

@@ -8,7 +8,7 @@ use Rattle.ule_types.specs.declared.event.Entry.{Entry}
 use Rattle.ule_model.specs.Legal.{Locked, IsEntryOf, IsReplayed, IsInTime, after_entry, entries_of, replayed, share, with_locks}
 use Rattle.ule_model.specs.Step.{locks_of}
 use Rattle.ule_model.specs.World.{World}
-use Rattle.ule_laws.proofs.Within.{all-append}
+use Rattle.ule_members.proofs.Within.{all-append}
 
 -- the world after one entry more
 pub replayed_push : (w : World) (es : List Entry) (e : Entry) → replayed w (es ++ e ∷ []) ≡ after_entry (replayed w es) e
