@@ -16,7 +16,9 @@ use Rattle.ule_types.specs.declared.event.Reply.TheVariants.{Unmarked, Switched}
 use Rattle.ule_runq.specs.Runq.{is_empty_at, without}
 use Rattle.ule_model.specs.CalendarIndexes.{reach_of, calendar_bucket}
 use Rattle.ule_model.specs.CpuValue.{CpuValue, StandsFor, thread_in, with_thread, with_inserted, inserted_in, inserted, inserted_thread, removed_from, first_in, current_chosen, with_given_way, without_marks, value_laid, thread_on, chosen_next, value_switched_from, value_switched}
-use Rattle.ule_model.specs.Insertion.{Insertion, Ordinary, Borrowing, Preempted, bucket_of, order_of, place_of_insertion, order_of_insertion, with_queued, queued}
+use Rattle.ule_model.specs.Insertion.{bucket_of, order_of, place_of_insertion, order_of_insertion, with_queued, queued}
+use Rattle.ule_model.specs.declared.insertion.Insertion.{Insertion}
+use Rattle.ule_model.specs.declared.insertion.Insertion.TheVariants.{Ordinary, Borrowing, Preempted}
 use Rattle.ule_model.specs.Places.{rank_of, is_kind, runs_on, waits_on, waits_in, is_on}
 use Rattle.ule_model.specs.Shows.{ShowsQueue, IsWellMade}
 use Rattle.ule_model.specs.Start.{unborn_member, laid_on}

@@ -16,7 +16,9 @@ use Rattle.ule_score.specs.declared.record.Why.{Why}
 use Rattle.ule_types.specs.declared.event.Reply.TheVariants.{Unmarked}
 use Rattle.ule_model.specs.Choice.{choice_of}
 use Rattle.ule_model.specs.CpuValue.{CpuValue, StandsFor}
-use Rattle.ule_model.specs.Insertion.{Insertion, Ordinary, with_queued, queued, place_of_insertion, order_of_insertion}
+use Rattle.ule_model.specs.Insertion.{with_queued, queued, place_of_insertion, order_of_insertion}
+use Rattle.ule_model.specs.declared.insertion.Insertion.{Insertion}
+use Rattle.ule_model.specs.declared.insertion.Insertion.TheVariants.{Ordinary}
 use Rattle.ule_model.specs.Places.{runs_on, waits_on, waits_in, is_on}
 use Rattle.ule_model.specs.Shows.{ShowsQueue, IsWellMade, by_order, ids_of}
 use Rattle.ule_model.specs.Start.{unborn_member, laid_on}

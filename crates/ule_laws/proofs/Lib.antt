@@ -8,6 +8,8 @@ pub mod Positions
 pub mod ChoosingLaws
 pub mod CpuLaws
 pub mod Elsewhere
+pub mod CpuEvents
+pub mod CpuRest
 pub mod WorldLaws
 pub mod FinalLaws
 pub mod StartLaws

@@ -16,7 +16,9 @@ use Rattle.ule_types.specs.Rules.{is_distinct, declared_ids}
 use Rattle.ule_types.specs.declared.setup.Setup.{Setup}
 use Rattle.ule_types.specs.declared.setup.ThreadSpec.{ThreadSpec}
 use Rattle.ule_model.specs.CpuValue.{CpuValue, thread_in, value_laid}
-use Rattle.ule_model.specs.Insertion.{Insertion, Ordinary, with_queued, queued, place_of_insertion, order_of_insertion}
+use Rattle.ule_model.specs.Insertion.{with_queued, queued, place_of_insertion, order_of_insertion}
+use Rattle.ule_model.specs.declared.insertion.Insertion.{Insertion}
+use Rattle.ule_model.specs.declared.insertion.Insertion.TheVariants.{Ordinary}
 use Rattle.ule_model.specs.Shows.{ShowsQueue, by_order}
 use Rattle.ule_model.specs.Start.{base_of, record_of, unborn_member, laid_on, laid, first_balance_word, balance_count, first_line, empty_world}
 use Rattle.ule_model.specs.World.{Member, Side, World, is_thread, thread_of, moved_to, fresh_line, side_of, with_side}
