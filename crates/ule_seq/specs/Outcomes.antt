@@ -6,7 +6,7 @@ use Rattle.ule_model.specs.Finals.{thread_lines}
 use Rattle.ule_model.specs.Rounds.{play_of}
 use Rattle.ule_model.specs.World.{World}
 use Rattle.ule_model.specs.WorldValue.{Shows, WorldValue}
-use Rattle.ule_tdq.specs.Cpu.{StartsAs}
+use Rattle.ule_model.specs.CpuStart.{StartsAs}
 use Rattle.ule_types.specs.Outcome.{OutcomeValue}
 use Rattle.ule_types.specs.declared.setup.Setup.{Setup}
 use Rattle.ule_types.specs.declared.setup.ThreadSpec.{ThreadSpec}

@@ -1,5 +1,5 @@
 -- A play as the code has it, and of which play of the rounds it is the value.
-use Rattle.std.specs.Prelude.{◌≡◌, ℕ, ◌+◌, ◌-◌, List, [], ◌∷◌, ◌++◌, drop, length, map, slice_index_or, slice_set, Some}
+use Rattle.std.specs.Prelude.{◌≡◌, ◌≢◌, ℕ, ◌+◌, ◌-◌, List, [], ◌∷◌, ◌++◌, drop, length, map, slice_index_or, slice_set, Some}
 use Rattle.std.specs.List.{enumerate_from}
 use Rattle.ule_types.specs.Outcome.{OutcomeValue}
 use Rattle.ule_types.specs.declared.event.Event.{Event}
@@ -8,10 +8,11 @@ use Rattle.ule_types.specs.declared.setup.Setup.{Setup}
 use Rattle.ule_model.specs.Program as program
 use Rattle.ule_model.specs.Rounds.{Play, greatest_rounds, opening, turn}
 use Rattle.ule_model.specs.WorldValue.{Shows, Steps, WorldValue}
-use Rattle.ule_seq.specs.Conditions.{AllNoEarlier}
 use Rattle.ule_seq.specs.Outcomes.{IsBare}
 use Rattle.ule_seq.specs.Programs.{progress_of}
+use Rattle.ule_seq.specs.Readiness.{ready_in}
 use Rattle.ule_seq.specs.declared.rounds.Course.{Course}
+use Rattle.ule_seq.specs.declared.world.Ready.TheVariants.{Yes}
 
 -- what a player holds
 pub record PlayerValue : Type 0 where
@@ -46,7 +47,6 @@ pub record IsPlay (s : Setup) (v : PlayerValue) (p : Play) : Type 0 where
   pub entries : p.entries ≡ v.outcome.entries
   pub room : length v.outcome.entries + v.outcome.room ≡ greatest_rounds
   pub bare : IsBare v.outcome
-  pub in_time : AllNoEarlier v.world v.now
 
 -- a course with what its last event told
 abbrev pub told : Course → Reply → ℕ → Course
@@ -56,10 +56,18 @@ told c reply now = record c { last = Some (reply, now) }
 pub record IsPerformed (old : PlayerValue) (worker : ℕ) (e : Event) (ahead : Course) (new : PlayerValue) : Type 0 where
   pub reply : Reply
   pub steps : Steps old.world worker e old.now new.world reply
-  pub in_time : AllNoEarlier new.world old.now
   pub courses : new.courses ≡ slice_set old.courses worker (told ahead reply old.now)
   pub now : new.now ≡ old.now
   pub outcome : new.outcome ≡ record old.outcome {
     entries = old.outcome.entries ++ record { worker = worker; event = e; now = old.now; reply = reply } ∷ [];
     room = old.outcome.room - 1;
   }
+
+-- an event of a worker was performed, or the turn was lost
+pub record IsAttempted (old : PlayerValue) (worker : ℕ) (e : Event) (ahead : Course) (new : PlayerValue) : Type 0 where
+  pub performed : ready_in old.world worker e ≡ Yes → IsPerformed old worker e ahead new
+  pub lost : ready_in old.world worker e ≢ Yes → new ≡ old
+
+-- the player after a worker let time go on
+abbrev pub advanced : PlayerValue → ℕ → ℕ → Course → PlayerValue
+advanced v worker k ahead = record v { now = v.now + k; courses = slice_set v.courses worker ahead }

@@ -4,8 +4,12 @@
 
 pub use program::Program;
 pub use rounds::play;
-pub use world::World;
+pub use world::{Ready, World};
 
+pub mod chains;
+mod finals;
+pub mod hands;
+mod opening;
 pub mod program;
 pub mod records;
 pub mod rounds;

@@ -1,4 +1,4 @@
-ghost use Rattle.std.specs.Prelude.{◌≡◌, ◌<◌, ◌≤◌, length, false, IfOk};
+ghost use Rattle.std.specs.Prelude.{◌≡◌, ◌+◌, ◌^◌, ◌<◌, ◌≤◌, length, false, IfOk};
 ghost use Rattle.ule_types.specs.Form.{IsOfForm};
 ghost use Rattle.ule_model.specs.Rounds.{opening_courses};
 ghost use Rattle.ule_seq.specs.Outcomes.{IsOutcomeOf};
@@ -6,7 +6,7 @@ ghost use Rattle.ule_seq.specs.Playing.{courses_from};
 
 use crate::program::Program;
 use crate::records::STARTING_TIME;
-use crate::world::World;
+use crate::world::{Ready, World};
 use std::alloc::Global;
 use std::marker::Model;
 use ule_io::Memory;
@@ -83,9 +83,11 @@ impl Course {
 
 impl Player {
     ghost use Rattle.ule_model.specs.Rounds.{Play, opening, round, rounds, turn};
-    ghost use Rattle.ule_seq.specs.Conditions.{CanStep};
+    ghost use Rattle.ule_model.specs.Conditions.{CanStep};
     ghost use Rattle.ule_seq.specs.Outcomes.{HasFinals, IsBare};
-    ghost use Rattle.ule_seq.specs.Playing.{IsPerformed, IsPlay};
+    ghost use Rattle.ule_seq.specs.Playing.{IsAttempted, IsPerformed, IsPlay, advanced};
+    ghost use Rattle.ule_seq.specs.Readiness.{ready_in};
+    ghost use Rattle.ule_seq.specs.declared.world.Ready.TheVariants.{Yes};
 
     fn start(alloc: Global, s: &Setup) -> Result<Player, Memory>
         requires { IsOfForm s.now }
@@ -102,7 +104,8 @@ impl Player {
         })
     }
 
-    /// One turn of a worker: its next item, if there is one. Says whether there was.
+    /// One turn of a worker: its next item, if there is one, unless that seeks a thread in another
+    /// worker's hand: then the turn is lost. Says whether there was an item.
     fn turn(&mut self, s: &Setup, worker: u8) -> bool
         requires form { IsOfForm s.now }
         requires worker { worker < s.now.cpus }
@@ -115,18 +118,39 @@ impl Player {
             return false;
         };
         match item {
-            Item::Event(event) => self.perform(worker, &event, &ahead),
-            Item::Advance(ticks) => {
-                self.now += u64::from(ticks);
-                self.courses[usize::from(worker)] = ahead;
-            }
+            Item::Event(event) => self.attempt(worker, &event, &ahead),
+            Item::Advance(ticks) => self.advance(worker, ticks, ahead),
         }
         true
     }
 
+    /// The turn of a worker whose next item is an event. It is lost where the thread that the event
+    /// seeks is in another worker's hand.
+    fn attempt(&mut self, worker: u8, event: &Event, ahead: &Course)
+        requires step { ready_in self.old.world worker event.now ≡ Yes → CanStep self.old.world worker event.now self.old.now }
+        requires worker { worker < length self.old.courses }
+        requires room { 0 < self.old.outcome.room }
+        ensures { IsAttempted self.old worker event.now ahead.now self.new }
+    {
+        match self.world.ready(worker, event) {
+            Ready::Yes => self.perform(worker, event, ahead),
+            Ready::InHand(_) => {}
+        }
+    }
+
+    /// The turn of a worker whose next item lets time go on.
+    fn advance(&mut self, worker: u8, ticks: u32, ahead: Course)
+        requires worker { worker < length self.old.courses }
+        requires fits { self.old.now + ticks < 2 ^ 64 }
+        ensures { self.new ≡ advanced self.old worker ticks ahead }
+    {
+        self.now += u64::from(ticks);
+        self.courses[usize::from(worker)] = ahead;
+    }
+
     /// An event of a worker, after which it stands at the course ahead.
     fn perform(&mut self, worker: u8, event: &Event, ahead: &Course)
-        requires step { CanStep self.old.world event.now self.old.now }
+        requires step { CanStep self.old.world worker event.now self.old.now }
         requires worker { worker < length self.old.courses }
         requires room { 0 < self.old.outcome.room }
         ensures { IsPerformed self.old worker event.now ahead.now self.new }

@@ -1,40 +1,59 @@
-ghost use Rattle.std.specs.Prelude.{◌≡◌, ℕ, ◌+◌, ◌%◌, ◌^◌, ◌<◌, ◌≤◌, [], length, map, slice_get, None, IfOk, IfSome, IsTrue};
-ghost use Rattle.ule_types.specs.Rules.{are_settings};
+ghost use Rattle.std.specs.Prelude.{◌≡◌, ◌≢◌, ℕ, ◌+◌, ◌%◌, ◌^◌, ◌<◌, ◌≤◌, [], length, map, slice_get, None, Some, IfOk, IfSome, IsTrue, option_and_then};
+ghost use Rattle.std.specs.Option.{option_map};
+ghost use Rattle.ule_model.specs.Conditions.{CanStep};
 ghost use Rattle.ule_model.specs.CpuValue.{thread_in};
+ghost use Rattle.ule_model.specs.Start.{base_of, nice_of, world_at_start};
+ghost use Rattle.ule_model.specs.Step.{holder_of, sought_by};
+ghost use Rattle.ule_model.specs.WorldValue.{Shows, Steps, not_asleep_reply, place_among, value_step};
+ghost use Rattle.ule_model.specs.World.{World};
+ghost use Rattle.ule_score.specs.TimesharePriority.{IsNice};
+ghost use Rattle.ule_seq.specs.Outcomes.{AreFresh, with_laid};
+ghost use Rattle.ule_seq.specs.Readiness.{ready_by, ready_in};
+ghost use Rattle.ule_tdq.specs.Replies.{reply_of, ticked_reply};
 ghost use Rattle.ule_types.specs.Form.{IsOfForm};
-ghost use Rattle.ule_model.specs.Start.{base_of, world_at_start, starting_time};
-ghost use Rattle.ule_model.specs.WorldValue.{Shows, Steps, line_among, value_step};
-ghost use Rattle.std.specs.List.{filter_map, range_with_len};
-ghost use Rattle.ule_seq.specs.Conditions.{AllNoEarlier, CanStep};
-ghost use Rattle.ule_seq.specs.Outcomes.{AreFresh, HasFinals, IsBare, with_laid};
-ghost use Rattle.ule_tdq.specs.Replies.{reply_of};
-ghost use Rattle.ule_types.specs.declared.event.Event.TheVariants.{Switch};
+ghost use Rattle.ule_types.specs.Rules.{are_settings};
+ghost use Rattle.ule_types.specs.declared.event.Event.TheVariants.{Tick, Switch, Drop, Bed, Wake, Land};
 
+use crate::chains::Chains;
+use crate::hands::Hands;
 use crate::records::record_of;
 use std::alloc::Global;
 use std::marker::Model;
 use ule_io::Memory;
 use ule_prio::{Cpu, ThreadId};
-use ule_score::{Settings, Why};
-use ule_tdq::{SwitchOut, Tdq};
-use ule_types::{Event, Outcome, Reply, Setup, ThreadLine, ThreadSpec};
+use ule_score::{Place, Settings, Why};
+use ule_tdq::records::after_sleep;
+use ule_tdq::{Clocked, SwitchOut, Tdq};
+use ule_types::{Event, Reply, Setup, ThreadSpec};
 
-/// The world of the sequential scheduler: all CPUs with their threads.
+/// Whether a worker can perform an event now.
+#[derive(Clone, Copy, Debug, PartialEq, Eq)]
+pub enum Ready {
+    /// It can, as far as the thread that the event seeks goes.
+    Yes,
+    /// The thread that the event seeks is in the hand of this other worker, 0..=15.
+    InHand(u8),
+}
+
+/// The world of the sequential scheduler: all CPUs with their threads, the sleep chains, and what
+/// each worker has in hand.
 #[derive(Drop)]
 pub struct World {
-    settings: Settings,
-    cpus: Vec<Tdq>,
+    pub(crate) settings: Settings,
+    pub(crate) cpus: Vec<Tdq>,
+    pub(crate) chains: Chains,
+    pub(crate) hands: Hands,
 }
 
 impl Model for World {
-    ghost use Rattle.std.specs.Prelude.{◌≤◌, vec_len};
     ghost use Rattle.ule_model.specs.WorldValue.{WorldValue};
+    ghost use Rattle.ule_seq.specs.Worlds.{KeepsWorld, value_of};
 
     ghost Value = { WorldValue };
 
-    ghost view = { λ w. record { settings = w.settings; cpus = w.cpus.items } };
+    ghost view = { value_of };
 
-    ghost invariant = { λ w. vec_len w.cpus ≤ 16 };
+    ghost invariant = { KeepsWorld };
 }
 
 /// The reply of a switch.
@@ -52,132 +71,164 @@ fn reply_of(out: SwitchOut) -> Reply
     }
 }
 
-/// The CPUs of a setup, without threads.
-fn empty_cpus(alloc: Global, s: &Setup) -> Result<Vec<Tdq>, Memory>
-    ensures { IfOk result (λ cpus. AreFresh s.now s.now.cpus cpus.items) }
+/// The reply of a tick.
+fn ticked_reply(out: Clocked) -> Reply
+    ensures { result ≡ ticked_reply out }
 {
-    let word = balance_word(s.jitter);
-    let mut cpus = Vec::new(alloc);
-    for c in 0..s.cpus {
-        let cpu = Tdq::start(alloc, Cpu(c), &s.settings, word)?;
-        if cpus.push(cpu).is_err() {
-            return Err(Memory);
-        }
-    }
-    Ok(cpus)
+    Reply::Ticked(out.cur, out.due, out.ended)
 }
 
-/// Where CPU 0's balance word starts.
-fn balance_word(jitter: u32) -> u32
-    ensures { result ≡ (jitter + 16) % 2 ^ 32 }
+/// The reply of a wake of a thread that doesn't sleep.
+fn not_asleep(place: Option<Place>) -> Reply
+    ensures { result ≡ not_asleep_reply place }
 {
-    ((u64::from(jitter) + 16) % (1 << 32)) as u32
+    match place {
+        None => Reply::Nothing,
+        Some(place) => Reply::NotAsleep(place),
+    }
 }
 
 impl World {
-    /// The world of a setup at the start, in which each declared thread is queued, in order. It
-    /// takes all the memory that it ever needs.
-    pub fn start(alloc: Global, s: &Setup) -> Result<World, Memory>
-        requires { IsOfForm s.now }
-        ensures shows { IfOk result (λ w. Shows w (world_at_start s.now)) }
-        ensures in_time { IfOk result (λ w. AllNoEarlier w starting_time) }
+    /// Whether the thread that an event seeks is in no other worker's hand.
+    pub fn ready(&self, worker: u8, e: &Event) -> Ready
+        ensures value { result ≡ ready_in self.now worker e.now }
+        ensures ready { (w : World) → Shows self.now w →
+            result ≡ ready_by worker (option_and_then (holder_of w.members) (sought_by e.now)) }
     {
-        let mut world = World {
-            settings: s.settings,
-            cpus: empty_cpus(alloc, s)?,
-        };
-        let specs = s.threads.as_slice();
-        for spec in specs {
-            world.lay(spec);
+        match sought_by(e) {
+            None => Ready::Yes,
+            Some(t) => ready_by(worker, self.hands.holder_of(t)),
         }
-        Ok(world)
-    }
-
-    /// Queues a declared thread on its CPU.
-    fn lay(&mut self, spec: &ThreadSpec)
-        requires settings { IsTrue (are_settings self.old.settings) }
-        requires exists { spec.now.cpu < length self.old.cpus }
-        requires absent { IfSome (slice_get self.old.cpus spec.now.cpu) (λ part. thread_in part spec.now.id ≡ None) }
-        ensures value { self.new ≡ with_laid self.old spec.now }
-        ensures in_time { (now : ℕ) → AllNoEarlier self.old now → starting_time ≤ now → AllNoEarlier self.new now }
-        ensures number { spec.now.id < 256 }
-        ensures priority { base_of self.old.settings spec.now.form < 256 }
-    {
-        let r = record_of(&self.settings, spec);
-        let _numbers = (r.id.0, r.priority.0); // so that both are known to be below 256
-        let tdq = &mut self.cpus[usize::from(spec.cpu.0)];
-        tdq.lay(r);
     }
 
     /// Performs an event of a worker: one step of the sequential scheduler.
     pub fn step(&mut self, worker: u8, e: &Event, now: u64) -> Reply
-        requires { CanStep self.old e.now now }
-        ensures steps { Steps self.old worker e.now now self.new result }
-        ensures in_time { AllNoEarlier self.new now }
+        requires { CanStep self.old worker e.now now }
+        ensures { Steps self.old worker e.now now self.new result }
     {
-        let Event::Switch(c, why) = *e else {
-            unreachable!()
-        };
-        self.switch(c, why, now)
+        match *e {
+            Event::Tick(c) => self.tick(worker, c, now),
+            Event::Switch(c, why) => self.switch(worker, c, why, now),
+            Event::Drop(c, channel) => self.drop_current(worker, c, channel, now),
+            Event::Bed(t, channel) => self.bed(worker, t, channel, now),
+            Event::Wake(t) => self.wake(worker, t, now),
+            Event::Land(t, c) => self.land(worker, t, c, now),
+            _ => unreachable!(),
+        }
+    }
+
+    /// A tick of one CPU.
+    fn tick(&mut self, worker: u8, c: Cpu, now: u64) -> Reply
+        requires { CanStep self.old worker (Tick c) now }
+        ensures value { self.new ≡ (value_step self.old worker (Tick c) now).0 }
+        ensures reply { result ≡ (value_step self.old worker (Tick c) now).1 }
+    {
+        let tdq = &mut self.cpus[usize::from(c.0)];
+        ticked_reply(tdq.clock(now))
     }
 
     /// A switch of one CPU.
-    fn switch(&mut self, c: Cpu, why: Why, now: u64) -> Reply
-        requires { CanStep self.old (Switch c why) now }
-        ensures value { self.new ≡ (value_step self.old (Switch c why) now).0 }
-        ensures reply { result ≡ (value_step self.old (Switch c why) now).1 }
-        ensures in_time { AllNoEarlier self.new now }
+    fn switch(&mut self, worker: u8, c: Cpu, why: Why, now: u64) -> Reply
+        requires { CanStep self.old worker (Switch c why) now }
+        ensures value { self.new ≡ (value_step self.old worker (Switch c why) now).0 }
+        ensures reply { result ≡ (value_step self.old worker (Switch c why) now).1 }
     {
         let tdq = &mut self.cpus[usize::from(c.0)];
         reply_of(tdq.switch(why, now))
     }
 
-    /// Sets the final lines of this world in an outcome that has none yet: a line for each thread
-    /// in rising number, a line for each CPU, and the time at the end.
-    pub fn finals(&self, now: u64, out: &mut Outcome)
-        requires { IsBare out.old }
-        ensures { HasFinals self.now out.old out.new now }
+    /// The current thread of one CPU goes to the worker's hand, to sleep on a channel.
+    fn drop_current(&mut self, worker: u8, c: Cpu, channel: u16, now: u64) -> Reply
+        requires { CanStep self.old worker (Drop c channel) now }
+        ensures value { self.new ≡ (value_step self.old worker (Drop c channel) now).0 }
+        ensures reply { result ≡ (value_step self.old worker (Drop c channel) now).1 }
     {
-        self.set_threads(256, out);
-        self.set_cpus(out);
-        out.set_now(now);
+        let tdq = &mut self.cpus[usize::from(c.0)];
+        let Some((out, into)) = tdq.take_current(now, true) else {
+            return Reply::Nothing;
+        };
+        let t = out.id;
+        self.hands.put(worker, Some(out));
+        Reply::Dropped(t, into)
     }
 
-    /// Sets the lines of the first so many threads.
-    fn set_threads(&self, count: u16, out: &mut Outcome)
-        requires within { count ≤ 256 }
-        requires none { out.old.threads ≡ [] }
-        ensures { out.new ≡ record out.old {
-          threads = filter_map (line_among self.now.cpus) (range_with_len 0 count);
-        } }
+    /// The thread in the worker's hand goes to sleep on a channel.
+    fn bed(&mut self, worker: u8, t: ThreadId, channel: u16, now: u64) -> Reply
+        requires { CanStep self.old worker (Bed t channel) now }
+        ensures value { self.new ≡ (value_step self.old worker (Bed t channel) now).0 }
+        ensures reply { result ≡ (value_step self.old worker (Bed t channel) now).1 }
     {
-        for t in 0..count {
-            if let Some(line) = self.thread_line(ThreadId(t as u8)) {
-                out.set_thread(line);
-            }
-        }
+        let Some(r) = self.hands.get(worker) else {
+            unreachable!()
+        };
+        self.hands.put(worker, None);
+        self.chains.bed(r, channel);
+        Reply::Bedded
     }
 
-    /// Sets the lines of all CPUs.
-    fn set_cpus(&self, out: &mut Outcome)
-        requires { out.old.cpus ≡ [] }
-        ensures { out.new ≡ record out.old { cpus = map (λ v. v.line) self.now.cpus } }
+    /// A sleeping thread goes to the worker's hand.
+    fn wake(&mut self, worker: u8, t: ThreadId, now: u64) -> Reply
+        requires { CanStep self.old worker (Wake t) now }
+        ensures value { self.new ≡ (value_step self.old worker (Wake t) now).0 }
+        ensures reply { result ≡ (value_step self.old worker (Wake t) now).1 }
     {
-        for (c, tdq) in self.cpus.iter().enumerate() {
-            out.set_cpu(Cpu(c as u8), tdq.line());
-        }
+        let Some(channel) = self.chains.channel_of(t) else {
+            return not_asleep(self.place_of(t));
+        };
+        let r = after_sleep(&self.settings, now, self.chains.take_out(t, channel));
+        let reply = Reply::Woken(r.priority, r.bound, r.last, r.last_run);
+        self.hands.put(worker, Some(r));
+        reply
     }
 
-    /// What a trace tells of a thread.
-    fn thread_line(&self, t: ThreadId) -> Option<ThreadLine>
-        ensures line { result ≡ line_among self.now.cpus t }
-        ensures number { IfSome result (λ l. l.id ≡ t) }
+    /// The thread in the worker's hand comes to one CPU.
+    fn land(&mut self, worker: u8, t: ThreadId, c: Cpu, now: u64) -> Reply
+        requires { CanStep self.old worker (Land t c) now }
+        ensures value { self.new ≡ (value_step self.old worker (Land t c) now).0 }
+        ensures reply { result ≡ (value_step self.old worker (Land t c) now).1 }
+    {
+        let Some(r) = self.hands.get(worker) else {
+            unreachable!()
+        };
+        self.hands.put(worker, None);
+        let tdq = &mut self.cpus[usize::from(c.0)];
+        let arrival = tdq.add(r, worker != c.0);
+        Reply::Landed(arrival.kind, arrival.bucket, arrival.marked)
+    }
+
+    /// Where a thread runs or waits, if it is on a CPU.
+    fn place_of(&self, t: ThreadId) -> Option<Place>
+        ensures { result ≡ place_among self.now.cpus t }
     {
         for tdq in &self.cpus {
-            if let Some(line) = tdq.thread_line(t) {
-                return Some(line);
+            if let Some(place) = tdq.place_of(t) {
+                return Some(place);
             }
         }
         None
+    }
+}
+
+/// The thread that an event seeks under the lock of its place.
+fn sought_by(e: &Event) -> Option<ThreadId>
+    ensures { result ≡ sought_by e.now }
+{
+    match *e {
+        Event::Wake(t)
+        | Event::Lend(t, _)
+        | Event::Unlend(t)
+        | Event::Renice(t, _)
+        | Event::Inherit(t, _) => Some(t),
+        _ => None,
+    }
+}
+
+/// Whether a worker may seek a thread that is in this worker's hand, if in any.
+fn ready_by(worker: u8, holder: Option<u8>) -> Ready
+    ensures { result ≡ ready_by worker holder }
+{
+    match holder {
+        Some(holder) if holder != worker => Ready::InHand(holder),
+        _ => Ready::Yes,
     }
 }

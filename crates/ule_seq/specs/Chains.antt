@@ -1,0 +1,25 @@
+-- The sleep chains.
+use Rattle.std.specs.Prelude.{◌≡◌, ℕ, List, length, slice_get, slice_set, Option, Some, None, IfSome}
+use Rattle.ule_sleep.specs.Chain.{ChainValue, IsEmptyChain, sleeper_in}
+
+-- what the chains keep: there are eight, each at the place of its number
+pub record KeepsChains (chains : List ChainValue) : Type 0 where
+  pub count : length chains ≡ 8
+  pub numbers : (k : ℕ) → IfSome (slice_get chains k) (λ c. c.number ≡ k)
+
+-- so many chains without sleepers
+pub record AreEmptyChains (count : ℕ) (chains : List ChainValue) : Type 0 where
+  pub count_is : length chains ≡ count
+  pub none : (k : ℕ) → IfSome (slice_get chains k) (λ c. IsEmptyChain c k)
+
+-- thread t doesn't sleep on chain k
+abbrev pub IsAwakeOn : List ChainValue → ℕ → ℕ → Type 0
+IsAwakeOn chains k t = IfSome (slice_get chains k) (λ c. sleeper_in c t ≡ None)
+
+-- the chains with chain k changed
+abbrev pub with_changed : ℕ → (ChainValue → ChainValue) → Option ChainValue → List ChainValue → List ChainValue
+with_changed k change None chains = chains
+with_changed k change (Some c) chains = slice_set chains k (change c)
+
+abbrev pub changed_at : ℕ → (ChainValue → ChainValue) → List ChainValue → List ChainValue
+changed_at k change chains = with_changed k change (slice_get chains k) chains
