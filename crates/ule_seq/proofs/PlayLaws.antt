@@ -1,42 +1,38 @@
 -- How a player goes on: courses, and the plays that turns reach.
-use Rattle.std.proofs.Common.{◌≡◌, true, ℕ, zero, suc, ◌+◌, ◌<◌, ◌≤◌, List, [], ◌∷◌, ◌++◌, length, fold, get_or, take, drop, map, replicate, slice_get, slice_set, slice_index_or, Option, Some, None, option_and_then, refl, sym, ◌∙◌, ap, subst, arith, add-one, drop-cons, rules}
-use Rattle.std.specs.List.{enumerate_from, list_all}
-use Rattle.std.proofs.lemmas.Bool.{cond_both, false≢true}
-use Rattle.std.proofs.lemmas.List.{drop_all, length-map, length-replicate, length-set, length-take-le, length_push, take_more}
+use Rattle.std.proofs.Common.{◌≡◌, Bool, true, false, ◌==◌, ℕ, zero, suc, ◌+◌, ◌^◌, ◌<◌, ◌≤◌, List, [], ◌∷◌, ◌++◌, length, get_or, take, drop, map, slice_get, slice_set, slice_index_or, Option, Some, None, option_and_then, if◌then◌else◌, refl, sym, ◌∙◌, ap, subst, arith, add-one, drop-cons}
+use Rattle.std.specs.List.{enumerate_from}
+use Rattle.std.proofs.lemmas.Bool.{false≢true}
+use Rattle.std.proofs.lemmas.List.{drop_all, length-map, length-take-le, length_push, take_more}
 use Rattle.std.proofs.lemmas.List.FromFn.{length-enumerate_from}
-use Rattle.std.proofs.lemmas.Option.{get_or_from_slice_get, none-some, same_Some, slice_get-get_or, slice_get_within, some_pair_parts}
-use Rattle.ule_score.specs.declared.record.Why.TheVariants as why
-use Rattle.ule_types.specs.Form.{IsOfForm, is_yield}
+use Rattle.std.proofs.lemmas.Option.{get_or_from_slice_get, none-some, same_Some, slice_get-get_or, slice_get_within}
+use Rattle.ule_types.specs.Form.{IsOfForm}
 use Rattle.ule_types.specs.Outcome.{OutcomeValue}
 use Rattle.ule_types.specs.declared.command.Command.{Command}
-use Rattle.ule_types.specs.declared.command.Command.TheVariants as command
 use Rattle.ule_types.specs.declared.event.Entry.{Entry}
 use Rattle.ule_types.specs.declared.event.Event.{Event}
-use Rattle.ule_types.specs.declared.event.Event.TheVariants as event
 use Rattle.ule_types.specs.declared.event.Item.{Item}
 use Rattle.ule_types.specs.declared.event.Item.TheVariants as item
 use Rattle.ule_types.specs.declared.event.Reply.{Reply}
 use Rattle.ule_types.specs.declared.setup.Setup.{Setup}
-use Rattle.ule_types.specs.declared.setup.ThreadSpec.{ThreadSpec}
+use Rattle.ule_model.specs.Conditions.{CanStep}
 use Rattle.ule_model.specs.Program as program
 use Rattle.ule_model.specs.Program.{Progress, begun, course_of, next_in, next_of, next_step, or_else, stepped}
 use Rattle.ule_model.specs.Rounds.{Play, after_item, after_step, entry_of, greatest_rounds, opening, opening_courses, performed, play_of, turn}
-use Rattle.ule_model.specs.Start.{empty_world, first_line, laid, laid_on, record_of, starting_time, with_unborn, world_at_start}
-use Rattle.ule_model.specs.Step.{is_ready, step}
-use Rattle.ule_model.specs.Switch.{switched}
-use Rattle.ule_model.specs.World.{World, fresh_line, side_of}
-use Rattle.ule_rounds.proofs.Courses.{left_falls}
-use Rattle.ule_rounds.proofs.HistoryLaws.{AreYields, Keeps, all_take, form_yields, keeps_opening, keeps_turn}
-use Rattle.ule_rounds.proofs.LegalLaws.{each_after_set}
-use Rattle.ule_rounds.proofs.RoundsLaws.{turn_cases, turn_finished}
-use Rattle.ule_rounds.proofs.YieldRounds.{all_left, left_performed}
-use Rattle.ule_model.specs.WorldValue.{Shows}
-use Rattle.ule_seq.specs.Conditions.{AllNoEarlier, CanStep}
+use Rattle.ule_model.specs.Start.{starting_time, world_at_start}
+use Rattle.ule_model.specs.Step.{holder_of, is_no_others, is_ready, sought_by, step}
+use Rattle.ule_model.specs.World.{World}
+use Rattle.ule_model.specs.WorldValue.{Shows, WorldValue, holder_in}
+use Rattle.ule_laws.proofs.ConditionLaws.{can_step, holder_shown}
+use Rattle.ule_rounds.proofs.HistoryLaws.{Keeps, keeps_opening, keeps_turn, now_bounded, possible}
+use Rattle.ule_rounds.proofs.RoundsLaws.{turn_finished}
+use Rattle.ule_rounds.proofs.Measure.{all_left, left_performed}
 use Rattle.ule_seq.specs.Outcomes.{HasFinals, HasLines, IsOutcomeOf}
-use Rattle.ule_seq.specs.Playing.{IsPerformed, IsPlay, IsReached, PlayerValue, opens, goes_on, course_at, courses_from, told}
+use Rattle.ule_seq.specs.Playing.{IsAttempted, IsPerformed, IsPlay, IsReached, PlayerValue, opens, goes_on, advanced, course_at, courses_from, told}
 use Rattle.ule_seq.specs.Programs.{progress_of}
+use Rattle.ule_seq.specs.Readiness.{ready_by, ready_in}
 use Rattle.ule_seq.specs.declared.program.Program.{Program}
 use Rattle.ule_seq.specs.declared.rounds.Course.{Course}
+use Rattle.ule_seq.specs.declared.world.Ready.TheVariants.{Yes, InHand}
 
 -- ---- the next item of a course
 
@@ -143,116 +139,7 @@ reached_keeps s I first step p (goes_on q worker reached) = step q worker (reach
 pub reached_kept : (s : Setup) → IsOfForm s → (p : Play) → IsReached s p → Keeps s p
 reached_kept s form = reached_keeps s (Keeps s) (keeps_opening s form) (keeps_turn s)
 
--- a worker's course between two commands of its own
-pub record IsAtRest (worker : ℕ) (course : program.Course) : Type 0 where
-  pub script : list_all is_yield course.script ≡ true
-  pub worker_is : course.progress.worker ≡ worker
-  pub todo : course.progress.todo ≡ []
-
--- every worker's course is between two commands
-abbrev pub AllAtRest : Play → Type 0
-AllAtRest p = (worker : ℕ) (course : program.Course) → slice_get p.courses worker ≡ Some course → IsAtRest worker course
-
--- what a worker at rest does next: it yields, and is at rest again
-pub record IsYieldOf (worker : ℕ) (i : Item) (after : program.Course) : Type 0 where
-  pub item : i ≡ item.Event (event.Switch worker why.Yield)
-  pub rest : IsAtRest worker after
-
--- the next item within a script of yields is a yield
-pub yield_in : (worker : ℕ) (script : List Command) (last : Option (Reply × ℕ)) (i : Item) (after : program.Course) → list_all is_yield script ≡ true → next_in script (record { worker = worker; todo = [] }) last ≡ Some (i, after) → IsYieldOf worker i after
-unfolding next_in
-yield_in worker [] last i after yields next = absurd (none-some (i, after) next)
-yield_in worker (command.Yield ∷ []) last i after yields next =
-    let parts = some_pair_parts (item.Event (event.Switch worker why.Yield)) i (record { script = []; progress = record { worker = worker; todo = [] }; last = None }) after next in
-    record { item = sym parts.0; rest = subst (IsAtRest worker) parts.1 (record { script = yields; worker_is = refl; todo = refl }) }
-yield_in worker (command.Yield ∷ d ∷ ds) last i after yields next =
-    let parts = some_pair_parts (item.Event (event.Switch worker why.Yield)) i (record { script = d ∷ ds; progress = record { worker = worker; todo = [] }; last = None }) after next in
-    record { item = sym parts.0; rest = subst (IsAtRest worker) parts.1 (record { script = yields; worker_is = refl; todo = refl }) }
-yield_in worker (_ ∷ cs) last i after yields next = absurd (false≢true yields)
-
--- so is that of a course at rest
-pub rest_next : (worker : ℕ) (course after : program.Course) (i : Item) → IsAtRest worker course → next_step course ≡ Some (i, after) → IsYieldOf worker i after
-rest_next worker course after i rest next =
-    yield_in worker course.script course.last i after rest.script
-    (ap (λ (u : ℕ). next_in course.script (record { worker = u; todo = [] }) course.last) (sym rest.worker_is) ∙
-    ap (λ (is : List Item). next_in course.script (record { worker = course.progress.worker; todo = is }) course.last) (sym rest.todo) ∙ next)
-
--- the opening courses are at rest
-pub rest_from : (n : ℕ) (scripts : List (List Command)) → AreYields scripts → (worker : ℕ) (course : program.Course) → slice_get (map (λ e. course_of e.0 e.1) (enumerate_from n scripts)) worker ≡ Some course → IsAtRest (n + worker) course
-rest_from n [] all worker course got = absurd (none-some course got)
-rest_from n (script ∷ scripts) all zero course got =
-    subst (IsAtRest (n + 0)) (same_Some (course_of n script) course got) (record { script = all.0; worker_is = omega arith; todo = refl })
-rest_from n (script ∷ scripts) all (suc worker) course got =
-    let e : n + 1 + worker ≡ n + suc worker = omega arith in
-    subst (λ (u : ℕ). IsAtRest u course) e (rest_from (n + 1) scripts all.1 worker course got)
-
--- each turn keeps all at rest
-pub rest_turn : (p : Play) (worker : ℕ) → AllAtRest p → AllAtRest (turn p worker)
-rest_turn p worker rest = turn_cases AllAtRest p worker (λ finished. rest) goes
-  where
-    goes : (course after : program.Course) (i : Item) → slice_get p.courses worker ≡ Some course → next_step course ≡ Some (i, after) → AllAtRest (after_item worker i after p)
-    goes course after i got next =
-        let next_one = rest_next worker course after i (rest worker course got) next in
-        subst (λ j. AllAtRest (after_item worker j after p)) (sym next_one.item)
-        (each_after_set IsAtRest p.courses worker course
-        (record after { last = Some ((step p.world worker (event.Switch worker why.Yield) p.now).1, p.now) }) got
-        (record { script = next_one.rest.script; worker_is = next_one.rest.worker_is; todo = next_one.rest.todo }) (λ w d other found. rest w d found))
-
--- all workers of a play that is reached are at rest
-pub reached_rests : (s : Setup) → IsOfForm s → (p : Play) → IsReached s p → AllAtRest p
-reached_rests s form = reached_keeps s AllAtRest first rest_turn
-  where
-    first : AllAtRest (opening s)
-    first worker course got =
-        let e : 0 + worker ≡ worker = omega arith in
-        subst (λ (u : ℕ). IsAtRest u course) e
-        (rest_from 0 (take s.cpus s.scripts) (all_take (λ script. list_all is_yield script ≡ true) s.cpus s.scripts (form_yields s form)) worker course got)
-
--- ---- the CPUs of a play
-
--- each event leaves as many CPUs as there were
-pub step_count : (w : World) (worker : ℕ) (e : Event) (now : ℕ) → length (step w worker e now).0.lines ≡ length w.lines
-step_count w worker (event.Switch c y) now = length-set w.lines c (switched c y now (side_of c w)).0.line
-step_count w worker _ now = refl
-
--- so does each turn
-pub count_turn : (s : Setup) (p : Play) (worker : ℕ) → length p.world.lines ≡ s.cpus → length (turn p worker).world.lines ≡ s.cpus
-count_turn s p worker count =
-    turn_cases (λ q. length q.world.lines ≡ s.cpus) p worker (λ finished. count) (λ course after i got next. item_count i after)
-  where
-    item_count : (i : Item) (after : program.Course) → length (after_item worker i after p).world.lines ≡ s.cpus
-    item_count (item.Advance k) after = count
-    item_count (item.Event e) after =
-        cond_both (is_ready p.world worker e) (performed worker e after p) p (λ q. length q.world.lines ≡ s.cpus)
-        (λ ready. step_count p.world worker e p.now ∙ count) (λ lost. count)
-
--- a declared thread leaves as many CPUs as there were
-pub laid_count : (w : World) (specs : List ThreadSpec) → length (fold laid w specs).lines ≡ length w.lines
-laid_count w [] = refl
-laid_count w (spec ∷ specs) =
-    laid_count (laid w spec) specs ∙ length-set w.lines spec.cpu (laid_on spec.cpu (record_of w.settings spec) (side_of spec.cpu w)).line
-
--- so does an unborn one
-pub unborn_count : (w : World) (ts : List ℕ) → length (fold with_unborn w ts).lines ≡ length w.lines
-unborn_count w [] = refl
-unborn_count w (t ∷ ts) = unborn_count (with_unborn w t) ts
-
--- the world of a play that is reached has the CPUs of the setup
-pub reached_count : (s : Setup) (p : Play) → IsReached s p → length p.world.lines ≡ s.cpus
-reached_count s = reached_keeps s (λ q. length q.world.lines ≡ s.cpus) first (count_turn s)
-  where
-    first : length (world_at_start s).lines ≡ s.cpus
-    first =
-        unborn_count (fold laid (empty_world s) s.threads) s.unborn ∙ laid_count (empty_world s) s.threads ∙
-        length-set (replicate s.cpus fresh_line) 0 (first_line s.jitter) ∙ length-replicate s.cpus fresh_line
-
 -- ---- a turn of the player
-
--- what a player needs for the event that a worker's course gives
-pub record CanPerform (s : Setup) (v : PlayerValue) (worker : ℕ) (i : Item) : Type 0 where
-  pub item : i ≡ item.Event (event.Switch worker why.Yield)
-  pub step : CanStep v.world (event.Switch worker why.Yield) v.now
-  pub room : 0 < v.outcome.room
 
 -- the course that a player has of a worker is that of its play
 pub course_got : (s : Setup) (v : PlayerValue) (p : Play) (worker : ℕ) (c : Course) → IsPlay s v p → slice_get v.courses worker ≡ Some c → slice_get p.courses worker ≡ Some (course_at s worker c)
@@ -260,30 +147,51 @@ course_got s v p worker c play got =
     let e : 0 + worker ≡ worker = omega arith in
     ap (λ cs. slice_get cs worker) play.courses ∙ numbered_get (course_at s) 0 v.courses worker c got ∙ ap (λ (k : ℕ). Some (course_at s k c)) e
 
--- where a course has a next item, a player has what that needs
-pub can_perform : (s : Setup) (v : PlayerValue) (p : Play) (worker : ℕ) (c : Course) (i : Item) (after : program.Course) → IsOfForm s → worker < s.cpus → IsPlay s v p → slice_get v.courses worker ≡ Some c → next_step (course_at s worker c) ≡ Some (i, after) → CanPerform s v worker i
-can_perform s v p worker c i after form below play got next = record {
-  item = yield.item;
-  step = record {
-    names = search (rules, (subst (λ (n : ℕ). worker < n) (sym (reached_count s p play.reached) ∙ play.world.count) below));
-    begun = omega (arith, kept.time, play.now);
-    bounded = omega (arith, kept.time, play.now);
-    in_time = play.in_time;
-  };
-  room = omega (arith, kept.count, left_falls s.cpus (course_at s worker c) after i next, left_among, play.room, ap (λ (es : List Entry). length es) play.entries);
-}
+-- where a course has a next event that is ready, a player has what its step needs
+pub can_perform : (s : Setup) (v : PlayerValue) (p : Play) (worker : ℕ) (c : Course) (e : Event) (after : program.Course) → IsOfForm s → IsPlay s v p → slice_get v.courses worker ≡ Some c → next_step (course_at s worker c) ≡ Some (item.Event e, after) → is_ready p.world worker e ≡ true → CanStep v.world worker e v.now
+can_perform s v p worker c e after form play got next ready =
+    subst (CanStep v.world worker e) play.now
+    (can_step v.world p.world worker e p.now play.world
+    (possible s p worker (course_at s worker c) after e form (reached_kept s form p play.reached) (course_got s v p worker c play got) next ready))
+
+-- a player finds an event ready where the world does
+pub ready_shown : (v : WorldValue) (w : World) (worker : ℕ) (e : Event) → Shows v w → ready_in v worker e ≡ ready_by worker (option_and_then (holder_of w.members) (sought_by e))
+ready_shown v w worker e shows = ap (ready_by worker) (same (sought_by e))
   where
-    kept : Keeps s p
-    kept = reached_kept s form p play.reached
+    same : (o : Option ℕ) → option_and_then (holder_in v) o ≡ option_and_then (holder_of w.members) o
+    same None = refl
+    same (Some t) = holder_shown v w t shows
 
-    there : slice_get p.courses worker ≡ Some (course_at s worker c)
-    there = course_got s v p worker c play got
+-- whether it does, by the worker that holds the thread
+pub yes_is_own : (worker : ℕ) (o : Option ℕ) → ready_by worker o ≡ Yes → is_no_others worker o ≡ true
+yes_is_own worker None yes_is = refl
+yes_is_own worker (Some holder) yes_is = split (holder == worker) yes_is
+  where
+    split : (b : Bool) → (if b then Yes else InHand holder) ≡ Yes → b ≡ true
+    split true is = refl
+    split false is = cc
 
-    yield : IsYieldOf worker i after
-    yield = rest_next worker (course_at s worker c) after i (reached_rests s form p play.reached worker (course_at s worker c) there) next
+pub own_is_yes : (worker : ℕ) (o : Option ℕ) → is_no_others worker o ≡ true → ready_by worker o ≡ Yes
+own_is_yes worker None own = refl
+own_is_yes worker (Some holder) own = ap (λ (b : Bool). if b then Yes else InHand holder) own
 
-    left_among : all_left s.cpus (performed worker (event.Switch worker why.Yield) after p) + 1 ≤ all_left s.cpus p
-    left_among = left_performed s.cpus p worker (event.Switch worker why.Yield) (course_at s worker c) after there (next ∙ ap (λ (j : Item). Some (j, after)) yield.item)
+-- a player that finds an event ready can perform it
+pub can_attempt : (s : Setup) (v : PlayerValue) (p : Play) (worker : ℕ) (c : Course) (e : Event) (after : program.Course) → IsOfForm s → IsPlay s v p → slice_get v.courses worker ≡ Some c → next_step (course_at s worker c) ≡ Some (item.Event e, after) → ready_in v.world worker e ≡ Yes → CanStep v.world worker e v.now
+can_attempt s v p worker c e after form play got next found =
+    can_perform s v p worker c e after form play got next
+    (yes_is_own worker (option_and_then (holder_of p.world.members) (sought_by e)) (sym (ready_shown v.world p.world worker e play.world) ∙ found))
+
+-- a player has room for the entry of an event
+pub has_room : (s : Setup) (v : PlayerValue) (p : Play) (worker : ℕ) (c : Course) (e : Event) (after : program.Course) → IsOfForm s → IsPlay s v p → slice_get v.courses worker ≡ Some c → next_step (course_at s worker c) ≡ Some (item.Event e, after) → 0 < v.outcome.room
+has_room s v p worker c e after form play got next =
+    omega (arith, (reached_kept s form p play.reached).count, left_among, play.room, ap (λ (es : List Entry). length es) play.entries)
+  where
+    left_among : all_left s.cpus (performed worker e after p) + 1 ≤ all_left s.cpus p
+    left_among = left_performed s.cpus p worker e (course_at s worker c) after (course_got s v p worker c play got) next
+
+-- time stays within its type
+pub advance_fits : (s : Setup) (v : PlayerValue) (p : Play) (k : ℕ) → IsOfForm s → IsPlay s v p → k < 2 ^ 32 → v.now + k < 2 ^ 64
+advance_fits s v p k form play small = omega (arith, play.now, now_bounded s p form (reached_kept s form p play.reached))
 
 -- a player has a course for each worker
 pub courses_count : (s : Setup) (v : PlayerValue) (p : Play) → IsOfForm s → IsPlay s v p → length v.courses ≡ s.cpus
@@ -296,9 +204,23 @@ pub turn_ended : (s : Setup) (v : PlayerValue) (p : Play) (worker : ℕ) (c : Co
 turn_ended s v p worker c play got ended =
     turn_finished p worker (λ course found. subst (λ d. next_step d ≡ None) (same_Some (course_at s worker c) course (sym (course_got s v p worker c play got) ∙ found)) ended)
 
--- the play after a turn in which the worker's item was an event that was performed
-pub turn_performed : (s : Setup) (v new : PlayerValue) (p : Play) (worker : ℕ) (c ahead : Course) → IsPlay s v p → 0 < v.outcome.room → slice_get v.courses worker ≡ Some c → next_step (course_at s worker c) ≡ Some (item.Event (event.Switch worker why.Yield), course_at s worker ahead) → IsPerformed v worker (event.Switch worker why.Yield) ahead new → IsPlay s new (turn p worker)
-turn_performed s v new p worker c ahead play room got next done =
+-- the play after a turn that gave this item
+pub turn_item : (s : Setup) (v : PlayerValue) (p : Play) (worker : ℕ) (c : Course) (i : Item) (after : program.Course) → IsPlay s v p → slice_get v.courses worker ≡ Some c → next_step (course_at s worker c) ≡ Some (i, after) → turn p worker ≡ after_item worker i after p
+turn_item s v p worker c i after play got next =
+    ap (λ (o : Option program.Course). after_step worker (option_and_then next_step o) p) (course_got s v p worker c play got) ∙
+    ap (λ (o : Option (Item × program.Course)). after_step worker o p) next
+
+-- a course set among those of a player
+pub courses_set : (s : Setup) (v : PlayerValue) (p : Play) (worker : ℕ) (c : Course) → IsPlay s v p → slice_set p.courses worker (course_at s worker c) ≡ courses_from s 0 (slice_set v.courses worker c)
+courses_set s v p worker c play =
+    let at : 0 + worker ≡ worker = omega arith in
+    ap (λ (cs : List program.Course). slice_set cs worker (course_at s worker c)) play.courses ∙
+    ap (λ (k : ℕ). slice_set (courses_from s 0 v.courses) worker (course_at s k c)) (sym at) ∙
+    sym (numbered_set (course_at s) 0 v.courses worker c)
+
+-- the play after a turn in which the worker's event was performed
+pub turn_performed : (s : Setup) (v new : PlayerValue) (p : Play) (worker : ℕ) (e : Event) (c ahead : Course) → IsPlay s v p → 0 < v.outcome.room → slice_get v.courses worker ≡ Some c → next_step (course_at s worker c) ≡ Some (item.Event e, course_at s worker ahead) → is_ready p.world worker e ≡ true → IsPerformed v worker e ahead new → IsPlay s new (turn p worker)
+turn_performed s v new p worker e c ahead play room got next ready done =
     subst (IsPlay s new) (sym turned) (record {
       reached = subst (IsReached s) turned (goes_on p worker play.reached);
       world = subst (λ (n : ℕ). Shows new.world (step p.world worker e n).0) (sym play.now) (done.steps p.world play.world).0;
@@ -310,20 +232,16 @@ turn_performed s v new p worker c ahead play room got next done =
         threads = ap (λ (o : OutcomeValue). o.threads) done.outcome ∙ play.bare.threads;
         cpus = ap (λ (o : OutcomeValue). o.cpus) done.outcome ∙ play.bare.cpus;
       };
-      in_time = subst (AllNoEarlier new.world) (sym done.now) done.in_time;
     })
   where
-    e : Event
-    e = event.Switch worker why.Yield
-
     -- the reply is that of the step
     reply : (step p.world worker e p.now).1 ≡ done.reply
     reply = ap (λ (n : ℕ). (step p.world worker e n).1) play.now ∙ sym (done.steps p.world play.world).1
 
     turned : turn p worker ≡ performed worker e (course_at s worker ahead) p
     turned =
-        ap (λ (o : Option program.Course). after_step worker (option_and_then next_step o) p) (course_got s v p worker c play got) ∙
-        ap (λ (o : Option (Item × program.Course)). after_step worker o p) next
+        turn_item s v p worker c (item.Event e) (course_at s worker ahead) play got next ∙
+        ap (λ (b : Bool). if b then performed worker e (course_at s worker ahead) p else p) ready
 
     -- the course that it stands at
     reached_course : record (course_at s worker ahead) { last = Some ((step p.world worker e p.now).1, p.now) } ≡ course_at s worker (told ahead done.reply v.now)
@@ -333,12 +251,8 @@ turn_performed s v new p worker c ahead play room got next done =
 
     courses : slice_set p.courses worker (record (course_at s worker ahead) { last = Some ((step p.world worker e p.now).1, p.now) }) ≡ courses_from s 0 new.courses
     courses =
-        let at : 0 + worker ≡ worker = omega arith in
         ap (slice_set p.courses worker) reached_course ∙
-        ap (λ (cs : List program.Course). slice_set cs worker (course_at s worker (told ahead done.reply v.now))) play.courses ∙
-        ap (λ (k : ℕ). slice_set (courses_from s 0 v.courses) worker (course_at s k (told ahead done.reply v.now))) (sym at) ∙
-        sym (numbered_set (course_at s) 0 v.courses worker (told ahead done.reply v.now)) ∙
-        ap (courses_from s 0) (sym done.courses)
+        courses_set s v p worker (told ahead done.reply v.now) play ∙ ap (courses_from s 0) (sym done.courses)
 
     entries : p.entries ++ entry_of p worker e ∷ [] ≡ new.outcome.entries
     entries =
@@ -347,42 +261,51 @@ turn_performed s v new p worker c ahead play room got next done =
         ap (λ (n : ℕ). v.outcome.entries ++ record { worker = worker; event = e; now = n; reply = done.reply } ∷ []) play.now ∙
         sym (ap (λ (o : OutcomeValue). o.entries) done.outcome)
 
+-- the play after a turn that was lost is the play before it
+pub turn_lost : (s : Setup) (v : PlayerValue) (p : Play) (worker : ℕ) (e : Event) (c ahead : Course) → IsPlay s v p → slice_get v.courses worker ≡ Some c → next_step (course_at s worker c) ≡ Some (item.Event e, course_at s worker ahead) → is_ready p.world worker e ≡ false → IsPlay s v (turn p worker)
+turn_lost s v p worker e c ahead play got next unready =
+    let same : turn p worker ≡ p =
+    turn_item s v p worker c (item.Event e) (course_at s worker ahead) play got next ∙
+    ap (λ (b : Bool). if b then performed worker e (course_at s worker ahead) p else p) unready in
+    subst (IsPlay s v) (sym same) play
+
+-- the play after a turn whose item was an event
+pub turn_attempted : (s : Setup) (v new : PlayerValue) (p : Play) (worker : ℕ) (e : Event) (c ahead : Course) → IsOfForm s → IsPlay s v p → slice_get v.courses worker ≡ Some c → next_step (course_at s worker c) ≡ Some (item.Event e, course_at s worker ahead) → IsAttempted v worker e ahead new → IsPlay s new (turn p worker)
+turn_attempted s v new p worker e c ahead form play got next tried = split (is_ready p.world worker e) refl
+  where
+    holder : Option ℕ
+    holder = option_and_then (holder_of p.world.members) (sought_by e)
+
+    split : (b : Bool) → is_ready p.world worker e ≡ b → IsPlay s new (turn p worker)
+    split true ready =
+        turn_performed s v new p worker e c ahead play (has_room s v p worker c e (course_at s worker ahead) form play got next) got next ready
+        (tried.performed (ready_shown v.world p.world worker e play.world ∙ own_is_yes worker holder ready))
+    split false unready =
+        let same : new ≡ v =
+        tried.lost (λ found. false≢true (sym unready ∙ yes_is_own worker holder (sym (ready_shown v.world p.world worker e play.world) ∙ found))) in
+        subst (λ (u : PlayerValue). IsPlay s u (turn p worker)) (sym same) (turn_lost s v p worker e c ahead play got next unready)
+
+-- the play after a turn that let time go on
+pub turn_advanced : (s : Setup) (v new : PlayerValue) (p : Play) (worker k : ℕ) (c ahead : Course) → IsPlay s v p → slice_get v.courses worker ≡ Some c → next_step (course_at s worker c) ≡ Some (item.Advance k, course_at s worker ahead) → new ≡ advanced v worker k ahead → IsPlay s new (turn p worker)
+turn_advanced s v new p worker k c ahead play got next is =
+    subst (λ (u : PlayerValue). IsPlay s u (turn p worker)) (sym is) (subst (IsPlay s (advanced v worker k ahead)) (sym turned) (record {
+      reached = subst (IsReached s) turned (goes_on p worker play.reached);
+      world = play.world;
+      courses = courses_set s v p worker ahead play;
+      now = ap (λ (n : ℕ). n + k) play.now;
+      entries = play.entries;
+      room = play.room;
+      bare = play.bare;
+    }))
+  where
+    turned : turn p worker ≡ record p { now = p.now + k; courses = slice_set p.courses worker (course_at s worker ahead) }
+    turned = turn_item s v p worker c (item.Advance k) (course_at s worker ahead) play got next
+
 -- the course that a player reads is that of the worker
 pub course_read : (s : Setup) (v : PlayerValue) (p : Play) (worker place : ℕ) (items : List Course) (c : Course) → IsOfForm s → worker < s.cpus → IsPlay s v p → items ≡ v.courses → place ≡ worker → c ≡ get_or items place c → slice_get v.courses worker ≡ Some c
 course_read s v p worker place items c form below play same at read =
     slice_get-get_or v.courses worker c (subst (λ (n : ℕ). worker < n) (sym (courses_count s v p form play)) below) ∙
     ap (λ (d : Course). Some d) (ap (λ (cs : List Course). get_or cs worker c) (sym same) ∙ ap (λ (k : ℕ). get_or items k c) (sym at) ∙ sym read)
-
--- an event that a worker's course gives is its yield
-pub event_is : (s : Setup) (v : PlayerValue) (p : Play) (worker : ℕ) (c ahead : Course) (e : Event) → IsOfForm s → worker < s.cpus → IsPlay s v p → slice_get v.courses worker ≡ Some c → next_step (course_at s worker c) ≡ Some (item.Event e, course_at s worker ahead) → e ≡ event.Switch worker why.Yield
-event_is s v p worker c ahead e form below play got next =
-    let is : item.Event e ≡ item.Event (event.Switch worker why.Yield) = (can_perform s v p worker c (item.Event e) (course_at s worker ahead) form below play got next).item in
-    cc is
-
--- no course lets time go on
-pub never_advances : (s : Setup) (v : PlayerValue) (p : Play) (worker : ℕ) (c ahead : Course) (k : ℕ) → IsOfForm s → worker < s.cpus → IsPlay s v p → slice_get v.courses worker ≡ Some c → next_step (course_at s worker c) ≡ Some (item.Advance k, course_at s worker ahead) → ⊥
-never_advances s v p worker c ahead k form below play got next =
-    let is : item.Advance k ≡ item.Event (event.Switch worker why.Yield) = (can_perform s v p worker c (item.Advance k) (course_at s worker ahead) form below play got next).item in
-    cc is
-
--- a player can perform the event that a worker's course gives
-pub can_step : (s : Setup) (v : PlayerValue) (p : Play) (worker : ℕ) (c ahead : Course) (e : Event) → IsOfForm s → worker < s.cpus → IsPlay s v p → slice_get v.courses worker ≡ Some c → next_step (course_at s worker c) ≡ Some (item.Event e, course_at s worker ahead) → CanStep v.world e v.now
-can_step s v p worker c ahead e form below play got next =
-    subst (λ (f : Event). CanStep v.world f v.now) (sym (event_is s v p worker c ahead e form below play got next))
-    (can_perform s v p worker c (item.Event e) (course_at s worker ahead) form below play got next).step
-
--- it has room to note it
-pub has_room : (s : Setup) (v : PlayerValue) (p : Play) (worker : ℕ) (c ahead : Course) (e : Event) → IsOfForm s → worker < s.cpus → IsPlay s v p → slice_get v.courses worker ≡ Some c → next_step (course_at s worker c) ≡ Some (item.Event e, course_at s worker ahead) → 0 < v.outcome.room
-has_room s v p worker c ahead e form below play got next =
-    (can_perform s v p worker c (item.Event e) (course_at s worker ahead) form below play got next).room
-
--- the play after a turn in which that event was performed
-pub turn_taken : (s : Setup) (v new : PlayerValue) (p : Play) (worker : ℕ) (c ahead : Course) (e : Event) → IsOfForm s → worker < s.cpus → IsPlay s v p → slice_get v.courses worker ≡ Some c → next_step (course_at s worker c) ≡ Some (item.Event e, course_at s worker ahead) → IsPerformed v worker e ahead new → IsPlay s new (turn p worker)
-turn_taken s v new p worker c ahead e form below play got next done =
-    let is : e ≡ event.Switch worker why.Yield = event_is s v p worker c ahead e form below play got next in
-    turn_performed s v new p worker c ahead play (has_room s v p worker c ahead e form below play got next) got
-    (next ∙ ap (λ (f : Event). Some (item.Event f, course_at s worker ahead)) is)
-    (subst (λ (f : Event). IsPerformed v worker f ahead new) is done)
 
 -- a play has as many courses as the setup has CPUs
 pub play_count : (s : Setup) (v : PlayerValue) (p : Play) → IsOfForm s → IsPlay s v p → length p.courses ≡ s.cpus
@@ -391,8 +314,8 @@ play_count s v p form play = (reached_kept s form p play.reached).legal.count
 -- ---- the opening and the end
 
 -- a player at the start
-pub opening_play : (s : Setup) (v : PlayerValue) → Shows v.world (world_at_start s) → AllNoEarlier v.world starting_time → courses_from s 0 v.courses ≡ opening_courses s → v.now ≡ starting_time → v.outcome ≡ record { entries = []; threads = []; cpus = []; now = 0; room = greatest_rounds } → IsPlay s v (opening s)
-opening_play s v shows in_time courses now outcome = record {
+pub opening_play : (s : Setup) (v : PlayerValue) → Shows v.world (world_at_start s) → courses_from s 0 v.courses ≡ opening_courses s → v.now ≡ starting_time → v.outcome ≡ record { entries = []; threads = []; cpus = []; now = 0; room = greatest_rounds } → IsPlay s v (opening s)
+opening_play s v shows courses now outcome = record {
   reached = opens;
   world = shows;
   courses = sym courses;
@@ -400,7 +323,6 @@ opening_play s v shows in_time courses now outcome = record {
   entries = sym (ap (λ (o : OutcomeValue). o.entries) outcome);
   room = omega (arith, ap (λ (o : OutcomeValue). length o.entries) outcome, ap (λ (o : OutcomeValue). o.room) outcome);
   bare = record { threads = ap (λ (o : OutcomeValue). o.threads) outcome; cpus = ap (λ (o : OutcomeValue). o.cpus) outcome };
-  in_time = subst (AllNoEarlier v.world) (sym now) in_time;
 }
 
 -- the outcome of a player that has the play of the setup

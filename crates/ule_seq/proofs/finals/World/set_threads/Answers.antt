@@ -1,21 +1,21 @@
 -- The line of one thread more comes last.
 use Rattle.std.proofs.Common.{◌≡◌, ◌∙◌, sym, subst}
 use Rattle.std.specs.Prelude.{IfSome}
-use Rattle.ule_model.specs.WorldValue.{line_among}
+use Rattle.ule_model.specs.WorldValue.{line_at}
 use Rattle.ule_seq.proofs.FinalLines.{below_more, set_none, set_some}
-use Rattle.ule_seq.proofs.world.World.set_threads.Goals as goal
-use Rattle.ule_seq.proofs.world.World.set_threads.Goals.{in-Some, in_default}
+use Rattle.ule_seq.proofs.finals.World.set_threads.Goals as goal
+use Rattle.ule_seq.proofs.finals.World.set_threads.Goals.{in-Some, in_default}
 
 pub loop-t-preserved : goal.loop-t-preserved
 loop-t-preserved c = record {
   lines = elim c.match-thread_line.branch [
     | in-Some w ↦
-        w.out-is ∙ set_some (line_among c.args.self.now.cpus) c.loop-t.t w.in-Some.line c.args.out.now c.loop-t.out w.set_thread.new.self
+        w.out-is ∙ set_some (line_at c.args.self.now) c.loop-t.t w.in-Some.line c.args.out.now c.loop-t.out w.set_thread.new.self
         c.loop-t.invariant.lines w.set_thread.ensures w.in-Some.ensures.line w.in-Some.ensures.number c.loop-t.invariant.below
     | in_default w ↦
-        w.out-is ∙ set_none (line_among c.args.self.now.cpus) c.loop-t.t c.args.out.now c.loop-t.out
+        w.out-is ∙ set_none (line_at c.args.self.now) c.loop-t.t c.args.out.now c.loop-t.out
         c.loop-t.invariant.lines (sym c.thread_line.ensures.line ∙ w.in_default.is)
   ];
-  below = below_more (line_among c.args.self.now.cpus) c.loop-t.t
+  below = below_more (line_at c.args.self.now) c.loop-t.t
       (subst (λ o. IfSome o (λ l. l.id ≡ c.loop-t.t)) c.thread_line.ensures.line c.thread_line.ensures.number) c.loop-t.invariant.below;
 }

@@ -2,7 +2,7 @@ use Rattle.std.proofs.Common.{◌≡◌, ℕ, ◌++◌, ◌∷◌, [], subst, ar
 use Rattle.std.proofs.lemmas.Grind.{common_steps}
 use Rattle.ule_tdq.specs.Cpu.{StartsAs}
 use Rattle.ule_seq.proofs.Starting.{fresh_push}
-use Rattle.ule_seq.proofs.world.empty_cpus.Goals as goal
+use Rattle.ule_seq.proofs.opening.empty_cpus.Goals as goal
 
 pub loop-c-preserved : goal.loop-c-preserved
 loop-c-preserved c =
