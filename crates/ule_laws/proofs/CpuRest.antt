@@ -136,6 +136,7 @@ moved_other u t place change ms kept apart =
 
 -- ---- a tick
 
+-- a tick leaves the settings
 pub ticked_settings : (c now : ℕ) (s : Side) → (ticked c now s).0.settings ≡ s.settings
 ticked_settings c now s = split (current_of c s.members)
   where
@@ -155,6 +156,7 @@ ticked_members c now s made = split (current_of c s.members) refl
     split (Some m) found =
         stay_recorded (IsOn c) m.thread.id (λ r. (after_tick s.settings now load r).0) s.members (λ r. after_tick_id s.settings now load r) (at_current c m s.members made found)
 
+-- what a number finds is what it was, or the current thread with another record
 pub ticked_threads : (c now : ℕ) (s : Side) → IsWellMade s.members → (t : ℕ) → StaysOn c (thread_of t s.members) (thread_of t (ticked c now s).0.members)
 ticked_threads c now s made t = all_stay_on c t s.members (ticked c now s).0.members (ticked_members c now s made)
 
@@ -167,6 +169,7 @@ ticked_word c now s other =
     split None = refl
     split (Some m) = refl
 
+-- a tick leaves what the value of every other CPU stands for
 pub ticked_elsewhere : (c now : ℕ) (v : CpuValue) (w : World) → c ≢ v.cpu → IsWellMade w.members → StandsFor v (side_of v.cpu w) →
     StandsFor v (side_of v.cpu (with_side c (ticked c now (side_of c w)).0 w))
 ticked_elsewhere c now v w apart made stands =
@@ -181,7 +184,7 @@ choosing_kept : (c now : ℕ) (s : Side) (o : Option Member) → ((running_chose
 choosing_kept c now s None = (refl, refl)
 choosing_kept c now s (Some m) = (refl, refl)
 
--- a drop leaves them
+-- a drop leaves them both
 dropped_kept : (c worker now : ℕ) (s : Side) → ((dropped c worker now s).0.settings ≡ s.settings) × ((dropped c worker now s).0.balance_word ≡ s.balance_word)
 dropped_kept c worker now s = split (current_of c s.members)
   where
@@ -191,6 +194,7 @@ dropped_kept c worker now s = split (current_of c s.members)
         let left : Side = taken worker (before_sleep now) m.thread.id s in
         choosing_kept c now left (choice_of c left.line.ridx left.members)
 
+-- so it leaves the settings
 pub dropped_settings : (c worker now : ℕ) (s : Side) → (dropped c worker now s).0.settings ≡ s.settings
 dropped_settings c worker now s = (dropped_kept c worker now s).0
 
@@ -204,7 +208,7 @@ dropped_moves c worker now m s made runs =
     choosing_moves c now left (together_made c left.members (moved_off_made m.thread.id m (Hand worker) (before_sleep now) s.members made found tt (λ d. refl) (λ r. refl) (λ r nice small. (nice, small)))) in
     moves.members
 
--- the thread that ran is in the worker's hand; every other stays, or moves on the CPU
+-- the thread that ran is in the worker's hand
 pub dropped_own : (c worker now : ℕ) (m : Member) (s : Side) → IsWellMade s.members → current_of c s.members ≡ Some m →
     thread_of m.thread.id (dropped c worker now s).0.members ≡ Some (held_member worker (before_sleep now m.thread))
 dropped_own c worker now m s made runs =
@@ -216,6 +220,7 @@ dropped_own c worker now m s made runs =
     stays_asleep c t left.members next.members (all_stay_on c t left.members next.members (dropped_moves c worker now m s made runs)) (held_member worker (before_sleep now m.thread))
     (moved_own t m (Hand worker) (before_sleep now) s.members found (λ r. refl)) (λ d. refl)
 
+-- every other thread stays, or moves on the CPU
 pub dropped_others : (c worker now : ℕ) (m : Member) (s : Side) → IsWellMade s.members → current_of c s.members ≡ Some m → (t : ℕ) → t ≢ m.thread.id →
     StaysOn c (thread_of t s.members) (thread_of t (dropped c worker now s).0.members)
 dropped_others c worker now m s made runs t other =
@@ -239,6 +244,7 @@ dropped_members c d worker now s apart made = split (current_of c s.members) ref
         (stay_moved_recorded (IsOff d) m.thread.id (Hand worker) (before_sleep now) s.members (λ r. refl) refl at)
         (stay_along (IsOn c) (IsOff d) (off_other c d apart) left.members next.members (dropped_moves c worker now m s made found))
 
+-- a drop leaves what the value of every other CPU stands for
 pub dropped_elsewhere : (c worker now : ℕ) (v : CpuValue) (w : World) → c ≢ v.cpu → IsWellMade w.members → StandsFor v (side_of v.cpu w) →
     StandsFor v (side_of v.cpu (with_side c (dropped c worker now (side_of c w)).0 w))
 dropped_elsewhere c worker now v w apart made stands =
@@ -260,10 +266,11 @@ landed_kept t c worker s = split (thread_of t s.members)
         let rest = queued_rest Ordinary c m.thread.id (placed_side c m.thread.id s) in
         (ap (λ (x : Side). x.settings) rest, ap (λ (x : Side). x.balance_word) rest)
 
+-- so it leaves the settings
 pub landed_settings : (t c worker : ℕ) (s : Side) → (landed t c worker s).0.settings ≡ s.settings
 landed_settings t c worker s = (landed_kept t c worker s).0
 
--- the thread is queued on the CPU; every other is what it was
+-- the thread is queued on the CPU
 pub landed_own : (c worker : ℕ) (m : Member) (s : Side) → thread_of m.thread.id s.members ≡ Some m →
     (k : Kind) × (b : ℕ) × (n : Member) × (thread_of m.thread.id (landed m.thread.id c worker s).0.members ≡ Some n) × (n.place ≡ Queued c k b)
 landed_own c worker m s found = (kind_at p, bucket_of (kind_at p) Ordinary s.line p, now, own, refl)
@@ -296,6 +303,7 @@ landed_own c worker m s found = (kind_at p, bucket_of (kind_at p) Ordinary s.lin
         thread_of-changed_same t (λ x. record x { place = place; order = now.order }) side.members (λ x. refl) ∙
         ap (option_map (λ (x : Member). record x { place = place; order = now.order })) placed
 
+-- every other thread is what it was
 pub landed_others : (t c worker u : ℕ) (s : Side) → u ≢ t → thread_of u (landed t c worker s).0.members ≡ thread_of u s.members
 landed_others t c worker u s other = split (thread_of t s.members) refl
   where
@@ -325,6 +333,7 @@ landed_members t c d worker m s apart made found off =
     first : AllStay (IsOff d) s.members side.members
     first = stay_recorded (IsOff d) u (placed_on c) s.members (λ r. refl) at
 
+-- a landing leaves what the value of every other CPU stands for
 pub landed_elsewhere : (t c worker : ℕ) (m : Member) (v : CpuValue) (w : World) → c ≢ v.cpu → IsWellMade w.members → thread_of t w.members ≡ Some m → ((d : ℕ) → is_on d m.place ≡ false) → StandsFor v (side_of v.cpu w) →
     StandsFor v (side_of v.cpu (with_side c (landed t c worker (side_of c w)).0 w))
 landed_elsewhere t c worker m v w apart made found off stands =
