@@ -1,10 +1,11 @@
 -- What each event of one CPU makes of its value is what it makes of its side of a world.
-use Rattle.std.proofs.Common.{◌≡◌, ◌≢◌, ℕ, ◌+◌, ◌-◌, ◌%◌, ◌<◌, ◌==◌, Bool, true, false, not, ◌&&◌, List, length, slice_set, if◌then◌else◌, Option, Some, None, ⊎_elim, refl, sym, ◌∙◌, ap, subst, arith}
+use Rattle.std.proofs.Common.{◌≡◌, ◌≢◌, ℕ, ◌+◌, ◌-◌, ◌%◌, ◌<◌, ◌==◌, Bool, true, false, not, ◌&&◌, List, ◌++◌, length, slice_set, if◌then◌else◌, Option, Some, None, ⊎_elim, refl, sym, ◌∙◌, ap, subst, arith, set-set}
 use Rattle.std.specs.Prelude.{IfSome, nat_le, option_and_then}
 use Rattle.std.specs.Option.{option_map}
 use Rattle.std.proofs.lemmas.Bool.{cases_eq, ne_eqb, or_left}
 use Rattle.std.proofs.lemmas.Option.{none-some}
 use Rattle.ule_prio.specs.Kind.{kind_at}
+use Rattle.ule_prio.specs.Preemption.{takes_over}
 use Rattle.ule_prio.specs.declared.kind.Kind.{Kind}
 use Rattle.ule_prio.specs.declared.kind.Kind.TheVariants.{Batch}
 use Rattle.ule_runq.specs.Runq.{is_empty_at}
@@ -15,10 +16,10 @@ use Rattle.ule_score.specs.declared.record.Settings.{Settings}
 use Rattle.ule_score.specs.declared.record.ThreadRecord.{ThreadRecord}
 use Rattle.ule_types.specs.declared.event.Reply.{Reply}
 use Rattle.ule_types.specs.declared.event.Reply.TheVariants.{Dropped, Landed, Nothing, Ticked}
-use Rattle.ule_model.specs.CpuValue.{CpuValue, StandsFor, Taken, current_in, thread_in, takes_over_in, value_added, value_clocked, value_taken, value_ticked, value_ticked_with, with_thread}
-use Rattle.ule_model.specs.Insertion.{bucket_of, members_in}
+use Rattle.ule_model.specs.CpuValue.{CpuValue, StandsFor, Taken, current_in, thread_in, takes_over_in, value_added, value_clocked, value_laid, value_taken, value_ticked, value_ticked_with, with_thread}
+use Rattle.ule_model.specs.Insertion.{bucket_of, members_in, queued}
 use Rattle.ule_model.specs.declared.insertion.Insertion.TheVariants.{Ordinary}
-use Rattle.ule_model.specs.Landing.{current_record, landed, placed_on}
+use Rattle.ule_model.specs.Landing.{current_priority, current_record, is_taking_over, landed, landed_with, marked_if, placed_on}
 use Rattle.ule_model.specs.Places.{is_on, runs_on, waits_on}
 use Rattle.ule_model.specs.Shows.{IsWellMade}
 use Rattle.ule_model.specs.Sleep.{before_sleep, dropped}
@@ -27,11 +28,11 @@ use Rattle.ule_model.specs.Tick.{after_tick, balance_after_tick, clocked, is_due
 use Rattle.ule_model.specs.World.{Member, Side, current_of, thread_of, with_record}
 use Rattle.ule_laws.proofs.Buckets.{empty_shown}
 use Rattle.ule_laws.proofs.ChoosingLaws.{recorded_stands}
-use Rattle.ule_laws.proofs.CpuLaws.{AreSwitched}
+use Rattle.ule_laws.proofs.CpuLaws.{AreSwitched, IsJoined, StandsBeside, beside_off, inserted_stands, ordinary_bucket_small}
 use Rattle.ule_laws.proofs.RecordLaws.{after_tick_id, after_tick_within}
 use Rattle.ule_laws.proofs.WellMade.{well_made-with_record}
-use Rattle.ule_members.proofs.Threads.{current_runs, thread_on_within, within_current}
-use Rattle.ule_members.proofs.Within.{Within}
+use Rattle.ule_members.proofs.Threads.{current_runs, thread_of-changed, thread_on_within, within_current}
+use Rattle.ule_members.proofs.Within.{Within, within_thread}
 
 -- ---- the current thread's record
 
@@ -189,6 +190,73 @@ pub record AreLanded (m : Member) (remote : Bool) (v : CpuValue) (meant : Side �
   pub cpu : (value_added m.thread remote v).cpu ≡ v.cpu
   pub index : (value_added m.thread remote v).line.ridx ≡ v.line.ridx
 
+-- a change of the record of a thread on no CPU leaves what a value stands for
+off_recorded : (t : ℕ) (change : ThreadRecord → ThreadRecord) (m : Member) (v : CpuValue) (s : Side) → ((r : ThreadRecord) → (change r).id ≡ r.id) → StandsFor v s → Within t m s.members → is_on v.cpu m.place ≡ false →
+    StandsFor (record v { threads = slice_set v.threads t None }) (record s { members = with_record t change s.members })
+off_recorded t change m v s kept stands w off =
+    subst (λ (o : Option ThreadRecord). StandsFor (record v { threads = slice_set v.threads t (option_map change o) }) (record s { members = with_record t change s.members }))
+    (stands.threads t ∙ ap (option_map (λ (n : Member). n.thread)) (thread_on_within v.cpu t m s.members w ∙ ap (λ d. if d then Some m else None) off))
+    (recorded_stands t change m v s kept stands w)
+
+-- a thread on no CPU comes to this one, and is queued
+placed_stands : (m : Member) (v : CpuValue) (s : Side) → StandsFor v s → IsWellMade s.members → Within m.thread.id m s.members → is_on v.cpu m.place ≡ false →
+    IsJoined v (value_laid (placed_on v.cpu m.thread) v) (queued Ordinary v.cpu m.thread.id (record s { members = with_record m.thread.id (placed_on v.cpu) s.members }))
+placed_stands m v s stands made w off =
+    record { stands = joined.stands; well_made = joined.well_made; cpu = joined.cpu; current = joined.current; line = joined.line }
+  where
+    t : ℕ
+    t = m.thread.id
+
+    n : Member
+    n = record m { thread = placed_on v.cpu m.thread }
+
+    changed_side : Side
+    changed_side = record s { members = with_record t (placed_on v.cpu) s.members }
+
+    within : Within t n changed_side.members
+    within =
+        within_thread t changed_side.members n (well_made-with_record t (placed_on v.cpu) s.members (λ r. refl) (λ r nice small. (nice, small)) made)
+        (thread_of-changed t m s.members w (λ x. record x { thread = placed_on v.cpu x.thread }) refl)
+
+    beside : StandsBeside n (record v { threads = slice_set v.threads t (Some n.thread); load = v.load + 1 }) changed_side (within.before ++ within.after)
+    beside =
+        subst (λ (threads : List (Option ThreadRecord)). StandsBeside n (record v { threads = threads; load = v.load + 1 }) changed_side (within.before ++ within.after))
+        (set-set v.threads t None (Some n.thread))
+        (beside_off n (record v { threads = slice_set v.threads t None }) changed_side within (off_recorded t (placed_on v.cpu) m v s (λ r. refl) stands w off) off)
+
+    joined : IsJoined (record v { threads = slice_set v.threads t (Some n.thread); load = v.load + 1 }) (value_laid n.thread v) (queued Ordinary v.cpu t changed_side)
+    joined =
+        inserted_stands Ordinary n (record v { threads = slice_set v.threads t (Some n.thread); load = v.load + 1 }) changed_side within beside
+        (ordinary_bucket_small (kind_at n.thread.priority) v.line n.thread.priority w.made.priority)
+
+-- what a thread takes over, it takes over on the side
+takes_alike : (worker p : ℕ) (v : CpuValue) (s : Side) → StandsFor v s → IsWellMade s.members → takes_over_in p (not (worker == v.cpu)) v ≡ is_taking_over p v.cpu worker s
+takes_alike worker p v s stands made =
+    ap (λ (o : Option ThreadRecord). takes_over p (current_priority o) (not (worker == v.cpu)) v.settings.preempt) (current_in_is v s stands made)
+    ∙ ap (λ (settings : Settings). takes_over p (current_priority (current_record v.cpu s.members)) (not (worker == v.cpu)) settings.preempt) stands.settings
+
+-- the step of a landing
 pub landed_stands : (worker : ℕ) (m : Member) (v : CpuValue) (s : Side) → StandsFor v s → IsWellMade s.members → thread_of m.thread.id s.members ≡ Some m → ((c : ℕ) → is_on c m.place ≡ false) →
     AreLanded m (not (worker == v.cpu)) v (landed m.thread.id v.cpu worker s)
-landed_stands worker m v s stands made found off = ?
+landed_stands worker m v s stands made found off =
+    subst (λ (o : Option Member). AreLanded m (not (worker == v.cpu)) v (landed_with o v.cpu worker s)) (sym found)
+    (subst (λ (takes : Bool). AreLanded m (not (worker == v.cpu)) v (record next { line = marked_if takes next.line }, Landed (kind_at p) (bucket_of (kind_at p) Ordinary s.line p) takes)) (takes_alike worker p v s stands made)
+    (record {
+      stands = relined_stands (marked_if takes) (value_laid (placed_on v.cpu m.thread) v) next joined.stands;
+      answer = ap (λ (line : CpuLine). Landed (kind_at p) (bucket_of (kind_at p) Ordinary line p) takes) (sym stands.line);
+      well_made = joined.well_made;
+      cpu = joined.cpu;
+      index = ap (λ (line : CpuLine). line.ridx) joined.line;
+    }))
+  where
+    p : ℕ
+    p = m.thread.priority
+
+    takes : Bool
+    takes = takes_over_in p (not (worker == v.cpu)) v
+
+    next : Side
+    next = queued Ordinary v.cpu m.thread.id (record s { members = with_record m.thread.id (placed_on v.cpu) s.members })
+
+    joined : IsJoined v (value_laid (placed_on v.cpu m.thread) v) next
+    joined = placed_stands m v s stands made (within_thread m.thread.id s.members m made found) (off v.cpu)
