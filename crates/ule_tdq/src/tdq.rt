@@ -269,7 +269,7 @@ impl Tdq {
     {
         let r = self.threads.get(t)?;
         let (place, pos) = self.placed(t)?;
-        Some(line_of(&r, place, pos, LockId(self.cpu.0)))
+        Some(line_of(&r, place, pos, Some(LockId(self.cpu.0))))
     }
 
     /// The record of a thread, if it runs or waits here.
