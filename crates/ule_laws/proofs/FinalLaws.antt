@@ -73,15 +73,6 @@ place_nowhere v s t stands made none =
     none_on v.cpu t s.members none m.0 m.1.0 (m.1.1.0 ∙ same) (or_left (runs_on v.cpu m.0.place) (waits_on v.cpu m.0.place) m.1.1.1)))
     (queue_lacks v.real v.cpu Real t s.members stands.real none) (queue_lacks v.batch v.cpu Batch t s.members stands.batch none) (queue_lacks v.idle v.cpu Idle t s.members stands.idle none)
 
--- a place where a thread runs
-pub place_from_runs_on : (c : ℕ) (p : Place) → runs_on c p ≡ true → p ≡ Running c
-place_from_runs_on c (Running d) runs = ap (λ (e : ℕ). Running e) (sym (eqb-true c d runs))
-place_from_runs_on c (Queued d k b) runs = absurd (both_ways false refl runs)
-place_from_runs_on c (Asleep channel) runs = absurd (both_ways false refl runs)
-place_from_runs_on c Unborn runs = absurd (both_ways false refl runs)
-place_from_runs_on c Gone runs = absurd (both_ways false refl runs)
-place_from_runs_on c (Hand w) runs = absurd (both_ways false refl runs)
-
 -- a thread that runs is the current one
 pub place_running : (v : CpuValue) (s : Side) (m : Member) → StandsFor v s → Within m.thread.id m s.members → runs_on v.cpu m.place ≡ true →
     value_place v m.thread.id ≡ Some (m.place, position_of m.place m.order s.members)

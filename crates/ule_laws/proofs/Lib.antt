@@ -10,6 +10,9 @@ pub mod CpuLaws
 pub mod Elsewhere
 pub mod CpuEvents
 pub mod CpuRest
+pub mod Pending
+pub mod ValueLaws
 pub mod WorldLaws
+pub mod StepLaws
 pub mod FinalLaws
 pub mod StartLaws

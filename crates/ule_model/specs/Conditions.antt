@@ -1,8 +1,9 @@
 -- What a step needs, of a world and of the value that shows it.
-use Rattle.std.specs.Prelude.{◌≡◌, ◌≢◌, ℕ, ◌<◌, ◌≤◌, ◌^◌, Bool, true, false, nat_lt, length, slice_get, Some, None, IfSome, IsSome, IsTrue}
+use Rattle.std.specs.Prelude.{◌≡◌, ◌≢◌, ℕ, ◌%◌, ◌<◌, ◌≤◌, ◌^◌, Bool, true, false, nat_lt, length, slice_get, Some, None, IfSome, IsSome, IsTrue}
 use Rattle.std.specs.List.{AllByRecursion}
 use Rattle.std.specs.Option.{option_map}
 use Rattle.ule_score.specs.declared.record.ThreadRecord.{ThreadRecord}
+use Rattle.ule_sleep.specs.Chain.{sleeper_in}
 use Rattle.ule_types.specs.declared.event.Event.{Event}
 use Rattle.ule_types.specs.declared.event.Event.TheVariants.{Tick, Switch, Drop, Bed, Wake, Land}
 use Rattle.ule_model.specs.CpuValue.{CpuValue, thread_in}
@@ -62,12 +63,14 @@ pub record AllNoEarlier (v : WorldValue) (now : ℕ) : Type 0 where
   pub cpus : (c : ℕ) → IfSome (slice_get v.cpus c) (λ part. IsNoEarlier part now)
   pub sleepers : (k t : ℕ) → IfSome (sleeper_at v k t) (λ s. IsBy now s.thread)
 
--- what a value has of the threads that an event needs
+-- what a value has of the threads that an event needs; one in a hand stands nowhere else
 abbrev pub HoldsThreads : WorldValue → ℕ → Event → Type 0
 HoldsThreads v worker (Drop c channel) = held_by v worker ≡ None
-HoldsThreads v worker (Bed t channel) = option_map (λ r. r.id) (held_by v worker) ≡ Some t
+HoldsThreads v worker (Bed t channel) =
+    (option_map (λ r. r.id) (held_by v worker) ≡ Some t) × IfSome (slice_get v.chains (channel % 8)) (λ c. sleeper_in c t ≡ None)
 HoldsThreads v worker (Wake t) = (held_by v worker ≡ None) × IsSome (standing_of v t)
-HoldsThreads v worker (Land t c) = option_map (λ r. r.id) (held_by v worker) ≡ Some t
+HoldsThreads v worker (Land t c) =
+    (option_map (λ r. r.id) (held_by v worker) ≡ Some t) × IfSome (slice_get v.cpus c) (λ part. thread_in part t ≡ None)
 HoldsThreads v worker _ = Unit {0}
 
 -- what a step needs: an event that has a step so far, of a worker and on a CPU that there are, with
