@@ -10,7 +10,6 @@ pub mod CpuLaws
 pub mod Elsewhere
 pub mod CpuEvents
 pub mod CpuRest
-pub mod Pending
 pub mod ValueLaws
 pub mod WorldLaws
 pub mod StepLaws

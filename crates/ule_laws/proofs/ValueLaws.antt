@@ -12,9 +12,8 @@ use Rattle.ule_sleep.specs.declared.chain.Sleeper.{Sleeper}
 use Rattle.ule_model.specs.Places.{runs_on, waits_on, is_on}
 use Rattle.ule_model.specs.World.{Member, World, thread_of}
 use Rattle.ule_model.specs.WorldValue.{WorldValue, IsAt, Shows, asleep_member, held_by, held_member, sleeper_at}
-use Rattle.ule_laws.proofs.CpuRest.{StaysOn}
+use Rattle.ule_laws.proofs.CpuRest.{StaysOn, stays_asleep}
 use Rattle.ule_laws.proofs.Elsewhere.{IsMoved, IsOn, Stays}
-use Rattle.ule_laws.proofs.Pending.{stays_asleep}
 use Rattle.ule_laws.proofs.PlaceLaws.{place_from_runs_on, place_from_waits_on}
 use Rattle.ule_members.proofs.Membership.{has_thread_of}
 
