@@ -6,6 +6,7 @@ use Rattle.std.proofs.lemmas.Bool.{cases_eq, eq-eqb, ne_eqb, and_right, and_left
 use Rattle.ule_prio.specs.declared.kind.Kind.{Kind}
 use Rattle.ule_prio.specs.declared.kind.Kind.TheVariants.{Real, Batch, Idle}
 use Rattle.ule_runq.specs.Runq.{is_empty_at, without}
+use Rattle.ule_score.specs.TimesharePriority.{IsNice}
 use Rattle.ule_score.specs.declared.place.Place.{Place}
 use Rattle.ule_score.specs.declared.place.Place.TheVariants.{Running, Queued}
 use Rattle.ule_score.specs.declared.record.CpuLine.{CpuLine}
@@ -16,10 +17,12 @@ use Rattle.ule_model.specs.CpuValue.{CpuValue, StandsFor, thread_in, with_thread
 use Rattle.ule_model.specs.Places.{rank_of, is_kind, runs_on, waits_on, waits_in, is_on}
 use Rattle.ule_model.specs.Shows.{ShowsQueue, IsWellMade}
 use Rattle.ule_model.specs.Switch.{before_running, after_removal, after_leaving, with_running, running_chosen, choosing_next}
+use Rattle.ule_model.specs.Tick.{load_of}
 use Rattle.ule_model.specs.World.{Member, Side, current_of, thread_of, is_thread, moved_to, with_record}
 use Rattle.ule_laws.proofs.Buckets.{IsOut, shows_without, shows-changed_out, shows-with_record, empty_shown}
 use Rattle.ule_laws.proofs.ChoiceLaws.{Agrees, choices_agree}
 use Rattle.ule_laws.proofs.PlaceLaws.{waits_on_place}
+use Rattle.ule_members.proofs.Loads.{load-changed_kept, load-with_record}
 use Rattle.ule_members.proofs.Threads.{thread_of-changed, thread_on_within, thread_on-changed, thread_on-changed_other, current_of-changed_none}
 use Rattle.ule_laws.proofs.WellMade.{well_made_running, well_made-with_record}
 use Rattle.ule_members.proofs.Within.{Within, within_thread}
@@ -81,6 +84,19 @@ line_taken Batch t m v s stands w small =
     (sym (empty_shown (without t v.batch) v.cpu Batch (moved_to t (Running v.cpu) (pos 0) s.members) s.line.ridx small shows))
 line_taken Idle t m v s stands w small = stands.line
 
+-- taking a thread out of a queue keeps the load that the value counts
+load_kept : (k : Kind) (t : ℕ) (v : CpuValue) → (removed_from k t v).load ≡ v.load
+load_kept Real t v = refl
+load_kept Batch t v = refl
+load_kept Idle t v = refl
+
+-- the load of a CPU after a queued thread is put to run there
+load_taken : (k : Kind) (b t : ℕ) (m : Member) (v : CpuValue) (s : Side) → StandsFor v s → Within t m s.members → m.place ≡ Queued v.cpu k b → (removed_from k t v).load ≡ load_of v.cpu (moved_to t (Running v.cpu) (pos 0) s.members)
+load_taken k b t m v s stands w place =
+    load_kept k t v ∙ stands.load
+    ∙ sym (load-changed_kept v.cpu t m s.members w (λ n. record n { place = Running v.cpu; order = pos 0 })
+    (or_left (v.cpu == v.cpu) false (eq-eqb v.cpu v.cpu refl) ∙ sym (or_right (runs_on v.cpu m.place) (waits_on v.cpu m.place) (waits_on_place v.cpu k b m.place place))))
+
 -- the value without a queued thread, which is current now, stands for the side with it running
 pub taken_stands : (k : Kind) (b t : ℕ) (m : Member) (v : CpuValue) (s : Side) → StandsFor v s → Within t m s.members → m.place ≡ Queued v.cpu k b → v.current ≡ None → s.line.ridx < 64 → StandsFor (record (removed_from k t v) { current = Some t }) (taken v.cpu k t s)
 taken_stands Real b t m v s stands w place none small = record {
@@ -88,6 +104,7 @@ taken_stands Real b t m v s stands w place none small = record {
   line = line_taken Real t m v s stands w small;
   balance_word = stands.balance_word;
   current = current_taken v.cpu t m s.members w (no_current v s stands none);
+  load = load_taken Real b t m v s stands w place;
   slots = stands.slots;
   threads = λ u. stands.threads u ∙ threads_taken v.cpu Real b t u m s.members w place;
   real = shows_taken_same v.real v.cpu Real t m s.members w stands.real;
@@ -99,6 +116,7 @@ taken_stands Batch b t m v s stands w place none small = record {
   line = line_taken Batch t m v s stands w small;
   balance_word = stands.balance_word;
   current = current_taken v.cpu t m s.members w (no_current v s stands none);
+  load = load_taken Batch b t m v s stands w place;
   slots = stands.slots;
   threads = λ u. stands.threads u ∙ threads_taken v.cpu Batch b t u m s.members w place;
   real = shows_taken_other v.real v.cpu Real Batch b t m s.members w place (λ e. cc) stands.real;
@@ -110,6 +128,7 @@ taken_stands Idle b t m v s stands w place none small = record {
   line = line_taken Idle t m v s stands w small;
   balance_word = stands.balance_word;
   current = current_taken v.cpu t m s.members w (no_current v s stands none);
+  load = load_taken Idle b t m v s stands w place;
   slots = stands.slots;
   threads = λ u. stands.threads u ∙ threads_taken v.cpu Idle b t u m s.members w place;
   real = shows_taken_other v.real v.cpu Real Idle b t m s.members w place (λ e. cc) stands.real;
@@ -183,6 +202,7 @@ recorded_stands t change m v s kept stands w = record {
   line = stands.line;
   balance_word = stands.balance_word;
   current = stands.current ∙ current_recorded v.cpu t change s.members kept;
+  load = stands.load ∙ sym (load-with_record v.cpu t change s.members);
   slots = length-set v.threads t (option_map change (thread_in v t)) ∙ stands.slots;
   threads = threads_recorded v.cpu t change m s.members v.threads kept w stands.slots stands.threads;
   real = shows-with_record v.real v.cpu Real s.members t change kept stands.real;
@@ -199,12 +219,12 @@ pub record AreChosen (v : CpuValue) (made : CpuValue × Option ℕ) (meant : Sid
   pub well_made : IsWellMade meant.0.members
   pub cpu : made.0.cpu ≡ v.cpu
 
--- a record that gets the processor keeps its number and its priority
+-- a record that gets the processor keeps its number, its nice value and its priority
 before_running_id : (now : ℕ) (r : ThreadRecord) → (before_running now r).id ≡ r.id
 before_running_id now r = refl
 
-before_running_priority : (now : ℕ) (r : ThreadRecord) → r.priority < 256 → (before_running now r).priority < 256
-before_running_priority now r small = small
+before_running_within : (now : ℕ) (r : ThreadRecord) → IsNice r.nice → r.priority < 256 → IsNice (before_running now r).nice × ((before_running now r).priority < 256)
+before_running_within now r nice small = (nice, small)
 
 -- taking a thread out of a queue keeps the CPU's number
 cpu_kept : (k : Kind) (t : ℕ) (v : CpuValue) → (removed_from k t v).cpu ≡ v.cpu
@@ -228,7 +248,7 @@ running_stands now k b m v s stands made w place none small =
     record {
       stands = subst (λ (p : Place). StandsFor (with_current now k t v) (record s { members = with_record t (before_running now) moved; line = after_leaving p c s.line moved })) (sym place) after;
       answer = refl;
-      well_made = well_made-with_record t (before_running now) moved (before_running_id now) (before_running_priority now) still;
+      well_made = well_made-with_record t (before_running now) moved (before_running_id now) (before_running_within now) still;
       cpu = cpu_kept k t v;
     }
 

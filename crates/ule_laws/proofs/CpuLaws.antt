@@ -1,11 +1,12 @@
 -- Each step of a switch on a CPU's value, and on the side of a world that it stands for.
-use Rattle.std.proofs.Common.{◌≡◌, ◌≢◌, ℕ, ◌+◌, ◌%◌, ◌<◌, ◌==◌, ℤ, Bool, true, false, not, ◌&&◌, List, [], ◌∷◌, ◌++◌, length, slice_set, if◌then◌else◌, Option, Some, None, ⊎_elim, refl, sym, ◌∙◌, ap, subst, arith, length-set, get_or-set_same, get_or-set_other}
+use Rattle.std.proofs.Common.{◌≡◌, ◌≢◌, ℕ, ◌+◌, ◌%◌, ◌<◌, ◌==◌, ℤ, Bool, true, false, cond, not, ◌&&◌, List, [], ◌∷◌, ◌++◌, length, slice_set, if◌then◌else◌, Option, Some, None, ⊎_elim, refl, sym, ◌∙◌, ap, subst, arith, length-set, get_or-set_same, get_or-set_other}
 use Rattle.std.specs.Option.{option_map}
 use Rattle.std.proofs.lemmas.Bool.{cases_eq, eq-eqb, ne_eqb, and_left, and_right, or_parts, or_left, both_ways, false_from_ne_true}
 use Rattle.std.proofs.lemmas.Option.{none-some}
 use Rattle.ule_prio.specs.Kind.{kind_at}
 use Rattle.ule_prio.specs.declared.kind.Kind.{Kind}
 use Rattle.ule_prio.specs.declared.kind.Kind.TheVariants.{Real, Batch, Idle}
+use Rattle.ule_score.specs.TimesharePriority.{IsNice}
 use Rattle.ule_score.specs.declared.place.Place.{Place}
 use Rattle.ule_score.specs.declared.place.Place.TheVariants.{Running, Queued, Asleep, Unborn, Gone, Hand}
 use Rattle.ule_score.specs.declared.record.CpuLine.{CpuLine}
@@ -23,22 +24,25 @@ use Rattle.ule_model.specs.Places.{rank_of, is_kind, runs_on, waits_on, waits_in
 use Rattle.ule_model.specs.Shows.{ShowsQueue, IsWellMade}
 use Rattle.ule_model.specs.Start.{unborn_member, laid_on}
 use Rattle.ule_model.specs.Switch.{one_more, after_running, unmarked, counted, insertion_of, given_way, choosing_next, started_reply, switched_from, switched, is_preemption, is_unasked}
+use Rattle.ule_model.specs.Tick.{load_of}
 use Rattle.ule_model.specs.World.{Member, Side, current_of, thread_of, is_thread, moved_to, with_record}
 use Rattle.ule_laws.proofs.Buckets.{IsOut, orders_in, shows-changed_out, shows-appended, shows_with_tail, shows_with_head}
 use Rattle.ule_laws.proofs.ChoosingLaws.{AreChosen, recorded_stands, choosing_stands}
+use Rattle.ule_members.proofs.Loads.{load-within, load-changed, load-appended_off}
 use Rattle.ule_members.proofs.Threads.{find_skips, find_nowhere, no_other_runs, thread_of_within, thread_of-changed, thread_on_within, thread_on-changed, current_runs, within_current, find-appended, find-appended_new}
 use Rattle.ule_laws.proofs.WellMade.{waits_on_where, well_made-with_record, well_made_last, well_made_first, well_made_appended}
 use Rattle.ule_members.proofs.Within.{Within, changed_within, within_thread, all-append}
 
 -- ---- a thread that joins a queue
 
--- this value is CPU v.cpu's side of a world but for thread m: the value has its record and has it in
--- no place, and the world has it in no queue of the CPU; the others are the rest of the world
+-- this value is CPU v.cpu's side of a world but for thread m: the value has its record, counts it and
+-- has it in no place, and the world has it in no queue of the CPU; the others are the rest of the world
 pub record StandsBeside (m : Member) (v : CpuValue) (s : Side) (others : List Member) : Type 0 where
   pub settings : v.settings ≡ s.settings
   pub line : v.line ≡ s.line
   pub balance_word : v.cpu ≡ 0 → v.balance_word ≡ s.balance_word
   pub current : v.current ≡ option_map (λ n. n.thread.id) (current_of v.cpu others)
+  pub load : v.load ≡ load_of v.cpu others + 1
   pub slots : length v.threads ≡ 256
   pub own : thread_in v m.thread.id ≡ Some m.thread
   pub threads : (u : ℕ) → u ≢ m.thread.id → thread_in v u ≡ option_map (λ n. n.thread) (thread_on v.cpu u others)
@@ -54,6 +58,16 @@ joined_current m v s w h k b o =
     h.current ∙ ap (option_map (λ (n : Member). n.thread.id))
     (sym (ap (current_of v.cpu) (changed_within m.thread.id m s.members w (λ n. record n { place = Queued v.cpu k b; order = o })) ∙
     find_skips (λ n. runs_on v.cpu n.place) w.before (record m { place = Queued v.cpu k b; order = o }) w.after refl))
+
+-- the load after thread m joined a queue
+joined_load : (m : Member) (v : CpuValue) (s : Side) (w : Within m.thread.id m s.members) → StandsBeside m v s (w.before ++ w.after) → (k : Kind) (b : ℕ) (o : ℤ) →
+    v.load ≡ load_of v.cpu (moved_to m.thread.id (Queued v.cpu k b) o s.members)
+joined_load m v s w h k b o =
+    let load : v.load ≡ load_of v.cpu (w.before ++ w.after) + 1 = h.load in
+    let more : 1 + load_of v.cpu (w.before ++ w.after) ≡ load_of v.cpu (moved_to m.thread.id (Queued v.cpu k b) o s.members) =
+    sym (load-changed v.cpu m.thread.id m s.members w (λ n. record n { place = Queued v.cpu k b; order = o }) ∙
+    ap (λ (d : Bool). cond d 1 0 + load_of v.cpu (w.before ++ w.after)) (eq-eqb v.cpu v.cpu refl)) in
+    omega arith
 
 -- the records after thread m joined a queue
 joined_threads : (m : Member) (v : CpuValue) (s : Side) (w : Within m.thread.id m s.members) → StandsBeside m v s (w.before ++ w.after) → (k : Kind) (b : ℕ) (o : ℤ) (u : ℕ) →
@@ -96,6 +110,7 @@ joined_stands Real how b m v s w small h = record {
   line = h.line;
   balance_word = h.balance_word;
   current = joined_current m v s w h Real b (order_of how (orders_in v.cpu Real b s.members));
+  load = joined_load m v s w h Real b (order_of how (orders_in v.cpu Real b s.members));
   slots = h.slots;
   threads = joined_threads m v s w h Real b (order_of how (orders_in v.cpu Real b s.members));
   real = joined_same m v.cpu s.members w how v.real Real b small (h.out Real) h.real;
@@ -107,6 +122,7 @@ joined_stands Batch how b m v s w small h = record {
   line = h.line;
   balance_word = h.balance_word;
   current = joined_current m v s w h Batch b (order_of how (orders_in v.cpu Batch b s.members));
+  load = joined_load m v s w h Batch b (order_of how (orders_in v.cpu Batch b s.members));
   slots = h.slots;
   threads = joined_threads m v s w h Batch b (order_of how (orders_in v.cpu Batch b s.members));
   real = joined_other m v.cpu s.members w v.real Real Batch b (order_of how (orders_in v.cpu Batch b s.members)) (λ e. cc) (h.out Real) h.real;
@@ -118,6 +134,7 @@ joined_stands Idle how b m v s w small h = record {
   line = h.line;
   balance_word = h.balance_word;
   current = joined_current m v s w h Idle b (order_of how (orders_in v.cpu Idle b s.members));
+  load = joined_load m v s w h Idle b (order_of how (orders_in v.cpu Idle b s.members));
   slots = h.slots;
   threads = joined_threads m v s w h Idle b (order_of how (orders_in v.cpu Idle b s.members));
   real = joined_other m v.cpu s.members w v.real Real Idle b (order_of how (orders_in v.cpu Idle b s.members)) (λ e. cc) (h.out Real) h.real;
@@ -222,6 +239,11 @@ beside_threads m v s w stands u apart =
     (ap (thread_on v.cpu u) w.whole ∙
     find_skips (λ n. is_thread u n && is_on v.cpu n.place) w.before m w.after (and_left (is_thread u m) (is_on v.cpu m.place) (ne_eqb m.thread.id u (λ e. apart (sym e)))))
 
+-- the load counts the threads of the others and thread m, where it is on the CPU
+beside_load : (m : Member) (v : CpuValue) (s : Side) (w : Within m.thread.id m s.members) (d : Bool) → StandsFor v s → is_on v.cpu m.place ≡ d → v.load ≡ cond d 1 0 + load_of v.cpu (w.before ++ w.after)
+beside_load m v s w d stands on =
+    stands.load ∙ load-within v.cpu m.thread.id m s.members w ∙ ap (λ (e : Bool). cond e 1 0 + load_of v.cpu (w.before ++ w.after)) on
+
 -- the current thread, once the CPU has none
 pub beside_current : (m : Member) (v : CpuValue) (s : Side) (w : Within m.thread.id m s.members) → StandsFor v s → runs_on v.cpu m.place ≡ true → StandsBeside m (record v { current = None }) s (w.before ++ w.after)
 beside_current m v s w stands runs = record {
@@ -232,6 +254,9 @@ beside_current m v s w stands runs = record {
       ap (option_map (λ (n : Member). n.thread.id))
       (sym (find_nowhere (λ n. runs_on v.cpu n.place) (w.before ++ w.after)
       (all-append (λ n. runs_on v.cpu n.place ≡ false) w.before w.after (no_other_runs v.cpu m w.before w.apart_before runs) (no_other_runs v.cpu m w.after w.apart_after runs))));
+  load =
+      (let load : v.load ≡ 1 + load_of v.cpu (w.before ++ w.after) = beside_load m v s w true stands (or_left (runs_on v.cpu m.place) (waits_on v.cpu m.place) runs) in
+      omega arith);
   slots = stands.slots;
   own =
       stands.threads m.thread.id ∙ ap (option_map (λ (n : Member). n.thread))
@@ -243,8 +268,8 @@ beside_current m v s w stands runs = record {
   idle = stands.idle;
 }
 
--- a thread on no CPU, once this one has its record
-pub beside_off : (m : Member) (v : CpuValue) (s : Side) (w : Within m.thread.id m s.members) → StandsFor v s → is_on v.cpu m.place ≡ false → StandsBeside m (record v { threads = slice_set v.threads m.thread.id (Some m.thread) }) s (w.before ++ w.after)
+-- a thread on no CPU, once this one has its record and counts it
+pub beside_off : (m : Member) (v : CpuValue) (s : Side) (w : Within m.thread.id m s.members) → StandsFor v s → is_on v.cpu m.place ≡ false → StandsBeside m (record v { threads = slice_set v.threads m.thread.id (Some m.thread); load = v.load + 1 }) s (w.before ++ w.after)
 beside_off m v s w stands off = record {
   settings = stands.settings;
   line = stands.line;
@@ -252,6 +277,7 @@ beside_off m v s w stands off = record {
   current =
       stands.current ∙ ap (option_map (λ (n : Member). n.thread.id))
       (ap (current_of v.cpu) w.whole ∙ find_skips (λ n. runs_on v.cpu n.place) w.before m w.after (or_parts (runs_on v.cpu m.place) (waits_on v.cpu m.place) off).0);
+  load = (let load : v.load ≡ 0 + load_of v.cpu (w.before ++ w.after) = beside_load m v s w false stands off in omega arith);
   slots = length-set v.threads m.thread.id (Some m.thread) ∙ stands.slots;
   own = get_or-set_same v.threads m.thread.id (Some m.thread) None (let slots = stands.slots in let small = w.made.number in omega arith);
   threads = λ u apart. get_or-set_other v.threads m.thread.id u (Some m.thread) None apart ∙ beside_threads m v s w stands u apart;
@@ -270,6 +296,7 @@ marks_stand v s stands = record {
   line = ap (λ (line : CpuLine). record line { resched = false; slice_end = false }) stands.line;
   balance_word = stands.balance_word;
   current = stands.current;
+  load = stands.load;
   slots = stands.slots;
   threads = stands.threads;
   real = stands.real;
@@ -288,6 +315,7 @@ count_stands v s stands = record {
   line = ap (λ (line : CpuLine). record line { switches = one_more line.switches }) stands.line;
   balance_word = stands.balance_word;
   current = stands.current;
+  load = stands.load;
   slots = stands.slots;
   threads = stands.threads;
   real = stands.real;
@@ -325,7 +353,7 @@ given_way_stands preempted now m v s stands made found small =
     left = value_left now t v
 
     well : IsWellMade changed_side.members
-    well = well_made-with_record t (after_running now) s.members (λ r. refl) (λ r low. low) made
+    well = well_made-with_record t (after_running now) s.members (λ r. refl) (λ r nice low. (nice, low)) made
 
     within : Within t n changed_side.members
     within = within_thread t changed_side.members n well (thread_of-changed t m s.members at (λ x. record x { thread = after_running now x.thread }) refl)
@@ -346,6 +374,7 @@ appended_stands n v s stands off = record {
   current =
       stands.current ∙ ap (option_map (λ (m : Member). m.thread.id))
       (sym (find-appended (λ m. runs_on v.cpu m.place) s.members n (or_parts (runs_on v.cpu n.place) (waits_on v.cpu n.place) off).0));
+  load = stands.load ∙ sym (load-appended_off v.cpu s.members n off);
   slots = stands.slots;
   threads = λ t.
       stands.threads t ∙ ap (option_map (λ (m : Member). m.thread))
@@ -356,10 +385,10 @@ appended_stands n v s stands off = record {
 }
 
 -- a new thread is queued
-pub laid_stands : (r : ThreadRecord) (v : CpuValue) (s : Side) → StandsFor v s → IsWellMade s.members → r.id < 256 → r.priority < 256 → thread_of r.id s.members ≡ None →
-    IsJoined (record v { threads = slice_set v.threads r.id (Some r) }) (value_laid r v) (laid_on v.cpu r s)
-laid_stands r v s stands made number priority new =
-    inserted_stands Ordinary n (record v { threads = slice_set v.threads r.id (Some r) }) more within
+pub laid_stands : (r : ThreadRecord) (v : CpuValue) (s : Side) → StandsFor v s → IsWellMade s.members → r.id < 256 → r.priority < 256 → IsNice r.nice → thread_of r.id s.members ≡ None →
+    IsJoined (record v { threads = slice_set v.threads r.id (Some r); load = v.load + 1 }) (value_laid r v) (laid_on v.cpu r s)
+laid_stands r v s stands made number priority nice new =
+    inserted_stands Ordinary n (record v { threads = slice_set v.threads r.id (Some r); load = v.load + 1 }) more within
     (beside_off n v more within (appended_stands n v s stands refl) refl)
     (ordinary_bucket_small (kind_at r.priority) v.line r.priority priority)
   where
@@ -370,7 +399,7 @@ laid_stands r v s stands made number priority new =
     more = record s { members = s.members ++ n ∷ [] }
 
     well : IsWellMade more.members
-    well = well_made_appended s.members n made (record { number = number; priority = priority; place = tt }) (λ c. refl) new
+    well = well_made_appended s.members n made (record { number = number; priority = priority; nice = nice; place = tt }) (λ c. refl) new
 
     within : Within r.id n more.members
     within = within_thread r.id more.members n well (find-appended_new (is_thread r.id) s.members n new (eq-eqb r.id r.id refl))

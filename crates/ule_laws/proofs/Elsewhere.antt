@@ -5,6 +5,7 @@ use Rattle.std.specs.Prelude.{IfSome, slice_set, slice_index_or}
 use Rattle.std.specs.List.{AllByRecursion, find}
 use Rattle.std.specs.Option.{option_map}
 use Rattle.std.proofs.lemmas.Bool.{eq-eqb, eqb-true, eqb-false, ne_eqb, both_ways, cond-false, and_right, or_parts, or_left, or_right, false_from_ne_true}
+use Rattle.std.proofs.lemmas.List.Sums.{length-filter}
 use Rattle.ule_prio.specs.declared.kind.Kind.{Kind}
 use Rattle.ule_prio.specs.declared.kind.Kind.TheVariants.{Real, Batch, Idle}
 use Rattle.ule_score.specs.declared.place.Place.{Place}
@@ -23,6 +24,7 @@ use Rattle.ule_model.specs.Places.{runs_on, waits_on, waits_in, is_on}
 use Rattle.ule_model.specs.Shows.{ShowsQueue, IsWellMade, by_order, ids_of}
 use Rattle.ule_model.specs.Start.{unborn_member, laid_on}
 use Rattle.ule_model.specs.Switch.{before_running, after_running, running_chosen, choosing_next, given_way, unmarked, insertion_of, counted, is_preemption, is_unasked, switched_from, switched}
+use Rattle.ule_model.specs.Tick.{load_of}
 use Rattle.ule_model.specs.World.{Member, Side, World, is_thread, thread_of, current_of, moved_to, with_record, fresh_line, side_of, with_side}
 use Rattle.ule_laws.proofs.ChoiceLaws.{least_keeps}
 use Rattle.ule_laws.proofs.CpuLaws.{off_out, appended_stands}
@@ -312,13 +314,19 @@ switched_moves c why now s made = asked (is_unasked why s.line.resched)
 
 -- ---- the other CPUs
 
+-- moves off CPU d leave its load
+pub load_of-stay : (d : ℕ) (ms ns : List Member) → AllStay (IsOff d) ms ns → load_of d ns ≡ load_of d ms
+load_of-stay d ms ns stay =
+    sym (length-filter (λ m. is_on d m.place) ns) ∙ ap (λ (xs : List Member). length xs) (filter_stay (IsOff d) (λ m. is_on d m.place) (λ m off. off) ms ns stay) ∙ length-filter (λ m. is_on d m.place) ms
+
 -- moves off CPU v.cpu leave what its value stands for
-pub off_stands : (v : CpuValue) (s n : Side) → StandsFor v s → AllStay (IsOff v.cpu) s.members n.members → n.settings ≡ s.settings → n.line ≡ s.line → n.balance_word ≡ s.balance_word → StandsFor v n
+pub off_stands : (v : CpuValue) (s n : Side) → StandsFor v s → AllStay (IsOff v.cpu) s.members n.members → n.settings ≡ s.settings → n.line ≡ s.line → (v.cpu ≡ 0 → n.balance_word ≡ s.balance_word) → StandsFor v n
 off_stands v s n stands stay settings line word = record {
   settings = stands.settings ∙ sym settings;
   line = stands.line ∙ sym line;
-  balance_word = λ zero. stands.balance_word zero ∙ sym word;
+  balance_word = λ zero. stands.balance_word zero ∙ sym (word zero);
   current = stands.current ∙ ap (option_map (λ (m : Member). m.thread.id)) (sym (find_stay (IsOff v.cpu) (λ m. runs_on v.cpu m.place) (λ m off. (or_parts (runs_on v.cpu m.place) (waits_on v.cpu m.place) off).0) s.members n.members stay));
+  load = stands.load ∙ sym (load_of-stay v.cpu s.members n.members stay);
   slots = stands.slots;
   threads = λ t. stands.threads t ∙ ap (option_map (λ (m : Member). m.thread)) (sym (find_stay (IsOff v.cpu) (λ m. is_thread t m && is_on v.cpu m.place) (λ m off. and_right (is_thread t m) (is_on v.cpu m.place) off) s.members n.members stay));
   real = shows v.real Real stands.real;
@@ -344,15 +352,19 @@ side_own c s w within settings =
 pub side_other : (c d : ℕ) (s : Side) (w : World) → c ≢ d → (side_of d (with_side c s w)).line ≡ (side_of d w).line
 side_other c d s w apart = get_or-set_other w.lines c d s.line fresh_line (λ e. apart (sym e))
 
+-- moves off CPU v.cpu on the side of another leave what its value stands for
+pub side_elsewhere : (c : ℕ) (s : Side) (v : CpuValue) (w : World) → c ≢ v.cpu → AllStay (IsOff v.cpu) w.members s.members → (v.cpu ≡ 0 → s.balance_word ≡ w.balance_word) → StandsFor v (side_of v.cpu w) →
+    StandsFor v (side_of v.cpu (with_side c s w))
+side_elsewhere c s v w apart stay word stands =
+    off_stands v (side_of v.cpu w) (side_of v.cpu (with_side c s w)) stands stay refl (side_other c v.cpu s w apart) word
+
 -- a switch of one CPU leaves every other
 pub switched_elsewhere : (c : ℕ) (why : Why) (now : ℕ) (v : CpuValue) (w : World) → c ≢ v.cpu → IsWellMade w.members → StandsFor v (side_of v.cpu w) →
     StandsFor v (side_of v.cpu (with_side c (switched c why now (side_of c w)).0 w))
 switched_elsewhere c why now v w apart made stands =
     let moves = switched_moves c why now (side_of c w) made in
     let made_side : Side = (switched c why now (side_of c w)).0 in
-    off_stands v (side_of v.cpu w) (side_of v.cpu (with_side c made_side w)) stands
-    (stay_along (IsOn c) (IsOff v.cpu) (off_other c v.cpu apart) w.members made_side.members moves.members)
-    refl (side_other c v.cpu made_side w apart) moves.balance_word
+    side_elsewhere c made_side v w apart (stay_along (IsOn c) (IsOff v.cpu) (off_other c v.cpu apart) w.members made_side.members moves.members) (λ zero. moves.balance_word) stands
 
 -- the threads with a new thread's number are it alone, which is on no CPU
 pub new_off : (d : ℕ) (r : ThreadRecord) (ms : List Member) → thread_of r.id ms ≡ None → AreAt (IsOff d) r.id (ms ++ unborn_member r ∷ [])
@@ -374,4 +386,4 @@ laid_elsewhere c r v w apart new stands =
     off_stands v (record (side_of v.cpu w) { members = w.members ++ n ∷ [] }) (side_of v.cpu (with_side c made_side w))
     (appended_stands n v (side_of v.cpu w) stands refl)
     (stay_queued (IsOff v.cpu) Ordinary c r.id more (λ k b. ne_eqb v.cpu c (λ e. apart (sym e))) (new_off v.cpu r w.members new))
-    refl (side_other c v.cpu made_side w apart) (ap (λ (x : Side). x.balance_word) (queued_rest Ordinary c r.id more))
+    refl (side_other c v.cpu made_side w apart) (λ zero. ap (λ (x : Side). x.balance_word) (queued_rest Ordinary c r.id more))

@@ -4,6 +4,7 @@ use Rattle.std.specs.List.{AllByRecursion}
 use Rattle.std.proofs.lemmas.Bool.{eqb-true, eqb-false, and_parts, or_parts, both_ways}
 use Rattle.std.proofs.lemmas.List.{append-nil}
 use Rattle.ule_prio.specs.declared.kind.Kind.{Kind}
+use Rattle.ule_score.specs.TimesharePriority.{IsNice}
 use Rattle.ule_score.specs.declared.place.Place.{Place}
 use Rattle.ule_score.specs.declared.place.Place.TheVariants.{Running, Queued, Asleep, Unborn, Gone, Hand}
 use Rattle.ule_score.specs.declared.record.ThreadRecord.{ThreadRecord}
@@ -35,9 +36,9 @@ all_apart-map : (g : Member → Member) → ((m n : Member) → AreApart m n →
 all_apart-map g step [] all = tt
 all_apart-map g step (m ∷ ms) all = (all-map g (AreApart m) (AreApart (g m)) (λ n h. step m n h) ms all.0, all_apart-map g step ms all.1)
 
--- a change of records that keeps numbers, and priorities bytes, keeps a world well made
-pub well_made-with_record : (t : ℕ) (change : ThreadRecord → ThreadRecord) (ms : List Member) → ((r : ThreadRecord) → (change r).id ≡ r.id) → ((r : ThreadRecord) → r.priority < 256 → (change r).priority < 256) → IsWellMade ms → IsWellMade (with_record t change ms)
-well_made-with_record t change ms kept small made = record {
+-- a change of records that keeps numbers, and priorities bytes and nice values such, keeps a world well made
+pub well_made-with_record : (t : ℕ) (change : ThreadRecord → ThreadRecord) (ms : List Member) → ((r : ThreadRecord) → (change r).id ≡ r.id) → ((r : ThreadRecord) → IsNice r.nice → r.priority < 256 → IsNice (change r).nice × ((change r).priority < 256)) → IsWellMade ms → IsWellMade (with_record t change ms)
+well_made-with_record t change ms kept within made = record {
   each = all-map one IsMade IsMade (λ n h. made_still n h (is_thread t n)) ms made.each;
   apart = all_apart-map one (λ m n h. apart_alike one (λ n. id_kept n (is_thread t n)) (λ n. place_kept n (is_thread t n)) (λ n. order_kept n (is_thread t n)) m n h) ms made.apart;
 }
@@ -46,7 +47,7 @@ well_made-with_record t change ms kept small made = record {
     one n = if is_thread t n then record n { thread = change n.thread } else n
 
     made_still : (n : Member) → IsMade n → (d : Bool) → IsMade (if d then record n { thread = change n.thread } else n)
-    made_still n h true = record { number = subst (λ u. u < 256) (sym (kept n.thread)) h.number; priority = small n.thread h.priority; place = h.place }
+    made_still n h true = record { number = subst (λ u. u < 256) (sym (kept n.thread)) h.number; priority = (within n.thread h.nice h.priority).1; nice = (within n.thread h.nice h.priority).0; place = h.place }
     made_still n h false = h
 
     id_kept : (n : Member) (d : Bool) → (if d then record n { thread = change n.thread } else n).thread.id ≡ n.thread.id
@@ -121,7 +122,7 @@ pub well_made_moved : (t : ℕ) (m : Member) (ms : List Member) (w : Within t m 
 well_made_moved t m ms w place order P is all step =
     let each : AllByRecursion P (w.before ++ m ∷ w.after) = subst (AllByRecursion P) w.whole all in
     well_made_within t m ms w (λ n. record n { place = place; order = order })
-    (record { number = w.made.number; priority = w.made.priority; place = is })
+    (record { number = w.made.number; priority = w.made.priority; nice = w.made.nice; place = is })
     (all_both (AreApart m) P (AreApart (record m { place = place; order = order })) w.before (λ n h p. step n h.numbers p) w.apart_before (all_front P w.before (m ∷ w.after) each))
     (all_both (AreApart m) P (AreApart (record m { place = place; order = order })) w.after (λ n h p. step n h.numbers p) w.apart_after (all_back P w.before (m ∷ w.after) each).1)
 

@@ -1,3 +1,4 @@
 pub mod Membership
 pub mod Within
 pub mod Threads
+pub mod Loads

@@ -1,13 +1,18 @@
 -- What look-ups find after one thread of a well-made list is changed, or one is appended.
-use Rattle.std.proofs.Common.{◌≡◌, ◌≢◌, ℕ, Bool, true, false, ◌&&◌, List, [], ◌∷◌, ◌++◌, Some, None, if◌then◌else◌, refl, sym, ◌∙◌, ap, subst}
+use Rattle.std.proofs.Common.{◌≡◌, ◌≢◌, ℕ, ◌==◌, ℤ, Bool, true, false, ◌&&◌, List, [], ◌∷◌, ◌++◌, Option, Some, None, if◌then◌else◌, refl, sym, ◌∙◌, ap, subst}
 use Rattle.std.specs.List.{AllByRecursion, find}
-use Rattle.std.proofs.lemmas.Bool.{eqb-true, eq-eqb, ne_eqb, and_left, and_parts, false_from_ne_true}
+use Rattle.std.specs.Option.{option_map}
+use Rattle.std.proofs.lemmas.Bool.{eqb-true, eq-eqb, ne_eqb, cond-true, cond-false, and_left, and_parts, false_from_ne_true}
 use Rattle.std.proofs.lemmas.List.{append-nil}
 use Rattle.std.proofs.lemmas.Option.{none-some}
+use Rattle.ule_score.specs.declared.place.Place.{Place}
 use Rattle.ule_model.specs.CpuValue.{thread_on}
+use Rattle.ule_model.specs.Insertion.{with_queued, queued, place_of_insertion, order_of_insertion}
+use Rattle.ule_model.specs.declared.insertion.Insertion.{Insertion}
 use Rattle.ule_model.specs.Places.{runs_on, is_on}
 use Rattle.ule_model.specs.Shows.{AreApart, IsWellMade}
-use Rattle.ule_model.specs.World.{Member, is_thread, thread_of, current_of}
+use Rattle.ule_model.specs.World.{Member, Side, is_thread, thread_of, current_of, moved_to}
+use Rattle.ule_members.proofs.Membership.{has_thread_of}
 use Rattle.ule_members.proofs.Within.{Lacks, Within, found_at, within_found, changed, changed_within, all_front, all_back, all_along}
 
 -- ---- look-ups in any list
@@ -79,6 +84,58 @@ number_fails u t m apart is = ne_eqb m.thread.id u (λ e. apart (sym e ∙ is))
 pub thread_of-changed_other : (u t : ℕ) (m : Member) (ms : List Member) (w : Within t m ms) (f : Member → Member) → (f m).thread.id ≡ m.thread.id → u ≢ t → thread_of u (changed t f ms) ≡ thread_of u ms
 thread_of-changed_other u t m ms w f same apart =
     find-changed_kept (is_thread u) t m ms w f (number_fails u t m apart w.number) (number_fails u t (f m) apart (same ∙ w.number))
+
+-- ---- by number, in any list
+
+-- what a number finds is changed where its thread is, whether there is one or none
+pub thread_of-changed_same : (t : ℕ) (f : Member → Member) (ms : List Member) → ((n : Member) → (f n).thread.id ≡ n.thread.id) → thread_of t (changed t f ms) ≡ option_map f (thread_of t ms)
+thread_of-changed_same t f [] kept = refl
+thread_of-changed_same t f (m ∷ ms) kept = split (is_thread t m) refl (thread_of-changed_same t f ms kept)
+  where
+    split : (d : Bool) → is_thread t m ≡ d → thread_of t (changed t f ms) ≡ option_map f (thread_of t ms) → thread_of t ((if d then f m else m) ∷ changed t f ms) ≡ option_map f (if d then Some m else thread_of t ms)
+    split true is rest = cond-true (is_thread t (f m)) (Some (f m)) (thread_of t (changed t f ms)) (ap (λ (u : ℕ). u == t) (kept m) ∙ is)
+    split false is rest = cond-false (is_thread t m) (Some m) (thread_of t (changed t f ms)) is ∙ rest
+
+-- every other number finds what it found
+pub thread_of-changed_apart : (u t : ℕ) (f : Member → Member) (ms : List Member) → ((n : Member) → (f n).thread.id ≡ n.thread.id) → u ≢ t → thread_of u (changed t f ms) ≡ thread_of u ms
+thread_of-changed_apart u t f [] kept apart = refl
+thread_of-changed_apart u t f (m ∷ ms) kept apart = split (is_thread t m) refl (thread_of-changed_apart u t f ms kept apart)
+  where
+    split : (d : Bool) → is_thread t m ≡ d → thread_of u (changed t f ms) ≡ thread_of u ms → thread_of u ((if d then f m else m) ∷ changed t f ms) ≡ thread_of u (m ∷ ms)
+    split true is rest =
+        let other : is_thread u m ≡ false = number_fails u t m apart (eqb-true m.thread.id t is) in
+        cond-false (is_thread u (f m)) (Some (f m)) (thread_of u (changed t f ms)) (ap (λ (i : ℕ). i == u) (kept m) ∙ other) ∙ rest ∙ sym (cond-false (is_thread u m) (Some m) (thread_of u ms) other)
+    split false is rest = ap (λ (o : Option Member). if is_thread u m then Some m else o) rest
+
+-- so it does after a move
+pub thread_of-moved_other : (u t : ℕ) (place : Place) (order : ℤ) (ms : List Member) → u ≢ t → thread_of u (moved_to t place order ms) ≡ thread_of u ms
+thread_of-moved_other u t place order ms apart = thread_of-changed_apart u t (λ n. record n { place = place; order = order }) ms (λ n. refl) apart
+
+-- and after an insertion
+pub thread_of-queued_other : (how : Insertion) (c u t : ℕ) (s : Side) → u ≢ t → thread_of u (queued how c t s).members ≡ thread_of u s.members
+thread_of-queued_other how c u t s apart = split (thread_of t s.members) refl
+  where
+    split : (o : Option Member) → thread_of t s.members ≡ o → thread_of u (with_queued how c o s).members ≡ thread_of u s.members
+    split None found = refl
+    split (Some m) found =
+        thread_of-moved_other u m.thread.id (place_of_insertion how c s.line m.thread.priority) (order_of_insertion how c s.line m.thread.priority s.members) s.members
+        (λ e. apart (e ∙ (has_thread_of t m s.members found).1))
+
+-- two changes of one thread are one change
+pub changed_further : (t : ℕ) (f g : Member → Member) (ms : List Member) → ((n : Member) → (f n).thread.id ≡ n.thread.id) → changed t g (changed t f ms) ≡ changed t (λ n. g (f n)) ms
+changed_further t f g [] kept = refl
+changed_further t f g (m ∷ ms) kept = split (is_thread t m) refl (changed_further t f g ms kept)
+  where
+    both : Member → Member
+    both n = g (f n)
+
+    split : (d : Bool) → is_thread t m ≡ d → changed t g (changed t f ms) ≡ changed t both ms → changed t g ((if d then f m else m) ∷ changed t f ms) ≡ (if d then both m else m) ∷ changed t both ms
+    split true is rest =
+        ap (λ (n : Member). n ∷ changed t g (changed t f ms)) (cond-true (is_thread t (f m)) (both m) (f m) (ap (λ (i : ℕ). i == t) (kept m) ∙ is)) ∙
+        ap (λ (ns : List Member). both m ∷ ns) rest
+    split false is rest =
+        ap (λ (n : Member). n ∷ changed t g (changed t f ms)) (cond-false (is_thread t m) (g m) m is) ∙
+        ap (λ (ns : List Member). m ∷ ns) rest
 
 -- ---- by number, on a CPU
 
