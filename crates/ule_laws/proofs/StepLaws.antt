@@ -4,7 +4,6 @@ use Rattle.std.specs.Option.{option_map}
 use Rattle.ule_score.specs.declared.record.Why.{Why}
 use Rattle.ule_types.specs.declared.event.Event.{Event}
 use Rattle.ule_types.specs.declared.event.Event.TheVariants.{Tick, Switch}
-use Rattle.ule_types.specs.declared.event.Reply.{Reply}
 use Rattle.ule_model.specs.CpuValue.{CpuValue, value_switched, value_ticked}
 use Rattle.ule_model.specs.Shows.{IsWellMade}
 use Rattle.ule_model.specs.Step.{step}
@@ -16,11 +15,7 @@ use Rattle.ule_laws.proofs.CpuEvents.{ticked_stands, ticked_index}
 use Rattle.ule_laws.proofs.CpuLaws.{AreSwitched, switched_stands, switched_index}
 use Rattle.ule_laws.proofs.CpuRest.{stays_on, ticked_elsewhere, ticked_settings, ticked_threads}
 use Rattle.ule_laws.proofs.Elsewhere.{IsSideOn, switched_elsewhere, switched_moves}
-use Rattle.ule_laws.proofs.WorldLaws.{HasCpu, IsEvent, cpu_at, event_stays}
-
--- a step on the scheduler and on a world: what it makes shows what is meant, and the replies are one
-abbrev pub Agree : WorldValue × Reply → World × Reply → Type 0
-Agree made meant = Shows made.0 meant.0 × (made.1 ≡ meant.1)
+use Rattle.ule_laws.proofs.WorldLaws.{Agree, HasCpu, IsEvent, cpu_at, event_stays}
 
 -- ---- a tick
 

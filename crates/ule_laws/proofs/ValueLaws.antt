@@ -87,6 +87,13 @@ at_stays v n c within (Some m) b stays keeps at =
     (λ (moved : IsMoved (IsOn c) m stays.there.0). at_on n c stays.there.0.thread stays.there.0.place within moved.after)
     stays.there.2)
 
+-- a thread that is found as before stays
+pub stays_same : (c : ℕ) (a b : Option Member) → b ≡ a → StaysOn c a b
+stays_same c a b same = record {
+  there = if_some (λ (x : Member). (y : Member) × (b ≡ Some y) × Stays (IsOn c) x y) a (λ x is. (x, same ∙ is, inl refl));
+  absent = λ none. same ∙ none;
+}
+
 -- where every thread stays or moves on a CPU, a scheduler with the same sleepers and hands has the threads
 pub threads_stay : (v n : WorldValue) (c : ℕ) (ms ns : List Member) → ShowsThreads v ms → c < length n.cpus → length n.cpus ≡ length v.cpus →
     ((k t : ℕ) → sleeper_at n k t ≡ sleeper_at v k t) → ((h : ℕ) → held_by n h ≡ held_by v h) → ((t : ℕ) → StaysOn c (thread_of t ms) (thread_of t ns)) → ShowsThreads n ns

@@ -4,6 +4,7 @@ use Rattle.std.specs.Prelude.{IfSome, slice_get, slice_set}
 use Rattle.std.proofs.lemmas.Bool.{cases_eq}
 use Rattle.std.proofs.lemmas.Option.{IfSome_then, slice_get_cases}
 use Rattle.ule_score.specs.declared.record.ThreadRecord.{ThreadRecord}
+use Rattle.ule_types.specs.declared.event.Reply.{Reply}
 use Rattle.ule_model.specs.CpuValue.{CpuValue, StandsFor}
 use Rattle.ule_model.specs.Shows.{IsWellMade}
 use Rattle.ule_model.specs.World.{Member, Side, World, side_of, with_side, thread_of}
@@ -27,6 +28,12 @@ slice_get-set_other (y ∷ ys) zero zero x apart = absurd (apart refl)
 slice_get-set_other (y ∷ ys) zero (suc j) x apart = refl
 slice_get-set_other (y ∷ ys) (suc i) zero x apart = refl
 slice_get-set_other (y ∷ ys) (suc i) (suc j) x apart = slice_get-set_other ys i j x (λ e. apart (ap suc e))
+
+-- ---- a step
+
+-- a step on the scheduler and on a world: what it makes shows what is meant, and the replies are one
+abbrev pub Agree : WorldValue × Reply → World × Reply → Type 0
+Agree made meant = Shows made.0 meant.0 × (made.1 ≡ meant.1)
 
 -- ---- one CPU of the scheduler
 
