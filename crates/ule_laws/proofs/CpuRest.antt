@@ -6,14 +6,10 @@ use Rattle.std.specs.Option.{option_map}
 use Rattle.std.proofs.lemmas.Bool.{and_left, both_ways, ne_eqb, or_left}
 use Rattle.std.proofs.lemmas.Option.{none-some}
 use Rattle.ule_prio.specs.Kind.{kind_at}
-use Rattle.ule_prio.specs.declared.class.Class.{Class}
-use Rattle.ule_prio.specs.declared.class.Class.TheVariants.{Ithd, Rt, Fifo, Ts}
-use Rattle.ule_prio.specs.declared.class.Class.TheVariants as class
 use Rattle.ule_prio.specs.declared.kind.Kind.{Kind}
 use Rattle.ule_score.specs.TimesharePriority.{IsNice}
 use Rattle.ule_score.specs.declared.place.Place.{Place}
 use Rattle.ule_score.specs.declared.place.Place.TheVariants.{Hand, Queued}
-use Rattle.ule_score.specs.declared.record.Settings.{Settings}
 use Rattle.ule_score.specs.declared.record.ThreadRecord.{ThreadRecord}
 use Rattle.ule_model.specs.Choice.{choice_of}
 use Rattle.ule_model.specs.CpuValue.{CpuValue, StandsFor}
@@ -24,10 +20,11 @@ use Rattle.ule_model.specs.Places.{is_on, runs_on, waits_on}
 use Rattle.ule_model.specs.Shows.{AreApart, IsPlace, IsWellMade}
 use Rattle.ule_model.specs.Sleep.{before_sleep, dropped, dropped_with, taken}
 use Rattle.ule_model.specs.Switch.{choosing_next, running_chosen}
-use Rattle.ule_model.specs.Tick.{after_tick, charged_in, clocked, is_due, load_of, rebased_in, ticked, ticked_with, word_after_tick}
+use Rattle.ule_model.specs.Tick.{after_tick, clocked, is_due, load_of, ticked, ticked_with, word_after_tick}
 use Rattle.ule_model.specs.World.{Member, Side, World, current_of, is_thread, moved_to, side_of, thread_of, with_record, with_side}
 use Rattle.ule_model.specs.WorldValue.{held_member}
 use Rattle.ule_laws.proofs.Elsewhere.{AllStay, AreAt, IsMoved, IsOff, IsOn, IsSideOn, Stays, are_at_stay, choosing_moves, off_other, off_stands, queued_rest, side_elsewhere, stay_along, stay_further, stay_moved, stay_queued, stay_recorded, stay_same, stays_number, together_made}
+use Rattle.ule_laws.proofs.RecordLaws.{after_tick_id}
 use Rattle.ule_laws.proofs.WellMade.{apart_off, well_made_off}
 use Rattle.ule_members.proofs.Membership.{has_thread_of, has_within, same_from_number}
 use Rattle.ule_members.proofs.Threads.{changed_further, current_runs, thread_of-changed_apart, thread_of-changed_same, thread_of-queued_other, thread_of_within, within_current}
@@ -41,13 +38,13 @@ pub record StaysOn (c : ℕ) (m n : Option Member) : Type 0 where
   pub absent : m ≡ None → n ≡ None
 
 -- what a number finds among threads that stay or move on CPU c
-pub stays_on : (c t : ℕ) (ms ns : List Member) → AllStay (IsOn c) ms ns → StaysOn c (thread_of t ms) (thread_of t ns)
-stays_on c t [] [] stay = record { there = tt; absent = λ e. e }
-stays_on c t [] (n ∷ ns) stay = absurd stay
-stays_on c t (m ∷ ms) [] stay = absurd stay
-stays_on c t (m ∷ ms) (n ∷ ns) stay =
+pub all_stay_on : (c t : ℕ) (ms ns : List Member) → AllStay (IsOn c) ms ns → StaysOn c (thread_of t ms) (thread_of t ns)
+all_stay_on c t [] [] stay = record { there = tt; absent = λ e. e }
+all_stay_on c t [] (n ∷ ns) stay = absurd stay
+all_stay_on c t (m ∷ ms) [] stay = absurd stay
+all_stay_on c t (m ∷ ms) (n ∷ ns) stay =
     subst (λ (d : Bool). StaysOn c (thread_of t (m ∷ ms)) (if d then Some n else thread_of t ns)) (ap (λ (u : ℕ). u == t) (sym (stays_number (IsOn c) m n stay.0)))
-    (split (is_thread t m) (stays_on c t ms ns stay.1))
+    (split (is_thread t m) (all_stay_on c t ms ns stay.1))
   where
     split : (d : Bool) → StaysOn c (thread_of t ms) (thread_of t ns) → StaysOn c (if d then Some m else thread_of t ms) (if d then Some n else thread_of t ns)
     split true rest = record { there = (n, refl, stay.0); absent = λ e. absurd (none-some m (sym e)) }
@@ -98,15 +95,18 @@ moved_off_alone v s t m place made found off to stands =
 
 -- a move to a place on no CPU, with a change of the record, keeps a world well made
 pub moved_off_made : (t : ℕ) (m : Member) (place : Place) (change : ThreadRecord → ThreadRecord) (ms : List Member) → IsWellMade ms → thread_of t ms ≡ Some m → IsPlace place → ((d : ℕ) → is_on d place ≡ false) →
-    ((r : ThreadRecord) → (change r).id ≡ r.id) → (IsNice m.thread.nice → IsNice (change m.thread).nice) → (IsNice m.thread.nice → m.thread.priority < 256 → (change m.thread).priority < 256) →
+    ((r : ThreadRecord) → (change r).id ≡ r.id) → ((r : ThreadRecord) → IsNice r.nice → r.priority < 256 → IsNice (change r).nice × ((change r).priority < 256)) →
     IsWellMade (moved_to t place (pos 0) (with_record t change ms))
-moved_off_made t m place change ms made found is to kept nice small =
+moved_off_made t m place change ms made found is to kept within =
     subst IsWellMade (sym (changed_further t (λ n. record n { thread = change n.thread }) (λ n. record n { place = place; order = pos 0 }) ms (λ n. kept n.thread)))
-    (well_made_within t m ms w now (record { number = subst (λ (u : ℕ). u < 256) (sym (kept m.thread)) w.made.number; priority = small w.made.nice w.made.priority; place = is; nice = nice w.made.nice })
+    (well_made_within t m ms w now (record { number = subst (λ (u : ℕ). u < 256) (sym (kept m.thread)) w.made.number; priority = bounds.1; place = is; nice = bounds.0 })
     (apart w.before w.apart_before) (apart w.after w.apart_after))
   where
     w : Within t m ms
     w = within_thread t ms m made found
+
+    bounds : IsNice (change m.thread).nice × ((change m.thread).priority < 256)
+    bounds = within m.thread w.made.nice w.made.priority
 
     now : Member → Member
     now n = record n { thread = change n.thread; place = place; order = pos 0 }
@@ -136,22 +136,7 @@ moved_other u t place change ms kept apart =
 
 -- ---- a tick
 
--- a base priority computed anew leaves the number
-pub rebased_number : (k : Class) (settings : Settings) (r : ThreadRecord) → (rebased_in k settings r).id ≡ r.id
-rebased_number Ts settings r = refl
-rebased_number Ithd settings r = refl
-rebased_number Rt settings r = refl
-rebased_number Fifo settings r = refl
-rebased_number class.Idle settings r = refl
-
--- and so does what a tick charges
-pub charged_number : (k : Class) (settings : Settings) (load : ℕ) (r : ThreadRecord) → (charged_in k settings load r).0.id ≡ r.id
-charged_number Ts settings load r = rebased_number r.class settings _
-charged_number Ithd settings load r = refl
-charged_number Rt settings load r = refl
-charged_number Fifo settings load r = refl
-charged_number class.Idle settings load r = refl
-
+-- a tick leaves the settings
 pub ticked_settings : (c now : ℕ) (s : Side) → (ticked c now s).0.settings ≡ s.settings
 ticked_settings c now s = split (current_of c s.members)
   where
@@ -169,10 +154,11 @@ ticked_members c now s made = split (current_of c s.members) refl
     split : (o : Option Member) → current_of c s.members ≡ o → AllStay (IsOn c) s.members (ticked_with o load (is_due c s.line.balance) now (clocked c s)).0.members
     split None found = stay_same (IsOn c) s.members
     split (Some m) found =
-        stay_recorded (IsOn c) m.thread.id (λ r. (after_tick s.settings now load r).0) s.members (λ r. charged_number r.class s.settings load _) (at_current c m s.members made found)
+        stay_recorded (IsOn c) m.thread.id (λ r. (after_tick s.settings now load r).0) s.members (λ r. after_tick_id s.settings now load r) (at_current c m s.members made found)
 
+-- what a number finds is what it was, or the current thread with another record
 pub ticked_threads : (c now : ℕ) (s : Side) → IsWellMade s.members → (t : ℕ) → StaysOn c (thread_of t s.members) (thread_of t (ticked c now s).0.members)
-ticked_threads c now s made t = stays_on c t s.members (ticked c now s).0.members (ticked_members c now s made)
+ticked_threads c now s made t = all_stay_on c t s.members (ticked c now s).0.members (ticked_members c now s made)
 
 -- the balance word is changed by CPU 0 alone
 pub ticked_word : (c now : ℕ) (s : Side) → c ≢ 0 → (ticked c now s).0.balance_word ≡ s.balance_word
@@ -183,6 +169,7 @@ ticked_word c now s other =
     split None = refl
     split (Some m) = refl
 
+-- a tick leaves what the value of every other CPU stands for
 pub ticked_elsewhere : (c now : ℕ) (v : CpuValue) (w : World) → c ≢ v.cpu → IsWellMade w.members → StandsFor v (side_of v.cpu w) →
     StandsFor v (side_of v.cpu (with_side c (ticked c now (side_of c w)).0 w))
 ticked_elsewhere c now v w apart made stands =
@@ -197,7 +184,7 @@ choosing_kept : (c now : ℕ) (s : Side) (o : Option Member) → ((running_chose
 choosing_kept c now s None = (refl, refl)
 choosing_kept c now s (Some m) = (refl, refl)
 
--- a drop leaves them
+-- a drop leaves them both
 dropped_kept : (c worker now : ℕ) (s : Side) → ((dropped c worker now s).0.settings ≡ s.settings) × ((dropped c worker now s).0.balance_word ≡ s.balance_word)
 dropped_kept c worker now s = split (current_of c s.members)
   where
@@ -207,6 +194,7 @@ dropped_kept c worker now s = split (current_of c s.members)
         let left : Side = taken worker (before_sleep now) m.thread.id s in
         choosing_kept c now left (choice_of c left.line.ridx left.members)
 
+-- so it leaves the settings
 pub dropped_settings : (c worker now : ℕ) (s : Side) → (dropped c worker now s).0.settings ≡ s.settings
 dropped_settings c worker now s = (dropped_kept c worker now s).0
 
@@ -217,10 +205,10 @@ dropped_moves c worker now m s made runs =
     let left : Side = taken worker (before_sleep now) m.thread.id s in
     let found : thread_of m.thread.id s.members ≡ Some m = thread_of_within m.thread.id m s.members (within_current c s.members m made runs) in
     let moves : IsSideOn c left (choosing_next c now left).0 =
-    choosing_moves c now left (together_made c left.members (moved_off_made m.thread.id m (Hand worker) (before_sleep now) s.members made found tt (λ d. refl) (λ r. refl) (λ nice. nice) (λ nice small. small))) in
+    choosing_moves c now left (together_made c left.members (moved_off_made m.thread.id m (Hand worker) (before_sleep now) s.members made found tt (λ d. refl) (λ r. refl) (λ r nice small. (nice, small)))) in
     moves.members
 
--- the thread that ran is in the worker's hand; every other stays, or moves on the CPU
+-- the thread that ran is in the worker's hand
 pub dropped_own : (c worker now : ℕ) (m : Member) (s : Side) → IsWellMade s.members → current_of c s.members ≡ Some m →
     thread_of m.thread.id (dropped c worker now s).0.members ≡ Some (held_member worker (before_sleep now m.thread))
 dropped_own c worker now m s made runs =
@@ -229,9 +217,10 @@ dropped_own c worker now m s made runs =
     let next : Side = (choosing_next c now left).0 in
     let found : thread_of t s.members ≡ Some m = thread_of_within t m s.members (within_current c s.members m made runs) in
     ap (λ (o : Option Member). thread_of t (dropped_with o c worker now s).0.members) runs ∙
-    stays_asleep c t left.members next.members (stays_on c t left.members next.members (dropped_moves c worker now m s made runs)) (held_member worker (before_sleep now m.thread))
+    stays_asleep c t left.members next.members (all_stay_on c t left.members next.members (dropped_moves c worker now m s made runs)) (held_member worker (before_sleep now m.thread))
     (moved_own t m (Hand worker) (before_sleep now) s.members found (λ r. refl)) (λ d. refl)
 
+-- every other thread stays, or moves on the CPU
 pub dropped_others : (c worker now : ℕ) (m : Member) (s : Side) → IsWellMade s.members → current_of c s.members ≡ Some m → (t : ℕ) → t ≢ m.thread.id →
     StaysOn c (thread_of t s.members) (thread_of t (dropped c worker now s).0.members)
 dropped_others c worker now m s made runs t other =
@@ -239,7 +228,7 @@ dropped_others c worker now m s made runs t other =
     let next : Side = (choosing_next c now left).0 in
     subst (λ (o : Option Member). StaysOn c (thread_of t s.members) (thread_of t (dropped_with o c worker now s).0.members)) (sym runs)
     (subst (λ (o : Option Member). StaysOn c o (thread_of t next.members)) (moved_other t m.thread.id (Hand worker) (before_sleep now) s.members (λ r. refl) other)
-    (stays_on c t left.members next.members (dropped_moves c worker now m s made runs)))
+    (all_stay_on c t left.members next.members (dropped_moves c worker now m s made runs)))
 
 -- off the other CPUs each thread stays, or moves
 dropped_members : (c d worker now : ℕ) (s : Side) → c ≢ d → IsWellMade s.members → AllStay (IsOff d) s.members (dropped c worker now s).0.members
@@ -255,6 +244,7 @@ dropped_members c d worker now s apart made = split (current_of c s.members) ref
         (stay_moved_recorded (IsOff d) m.thread.id (Hand worker) (before_sleep now) s.members (λ r. refl) refl at)
         (stay_along (IsOn c) (IsOff d) (off_other c d apart) left.members next.members (dropped_moves c worker now m s made found))
 
+-- a drop leaves what the value of every other CPU stands for
 pub dropped_elsewhere : (c worker now : ℕ) (v : CpuValue) (w : World) → c ≢ v.cpu → IsWellMade w.members → StandsFor v (side_of v.cpu w) →
     StandsFor v (side_of v.cpu (with_side c (dropped c worker now (side_of c w)).0 w))
 dropped_elsewhere c worker now v w apart made stands =
@@ -276,10 +266,11 @@ landed_kept t c worker s = split (thread_of t s.members)
         let rest = queued_rest Ordinary c m.thread.id (placed_side c m.thread.id s) in
         (ap (λ (x : Side). x.settings) rest, ap (λ (x : Side). x.balance_word) rest)
 
+-- so it leaves the settings
 pub landed_settings : (t c worker : ℕ) (s : Side) → (landed t c worker s).0.settings ≡ s.settings
 landed_settings t c worker s = (landed_kept t c worker s).0
 
--- the thread is queued on the CPU; every other is what it was
+-- the thread is queued on the CPU
 pub landed_own : (c worker : ℕ) (m : Member) (s : Side) → thread_of m.thread.id s.members ≡ Some m →
     (k : Kind) × (b : ℕ) × (n : Member) × (thread_of m.thread.id (landed m.thread.id c worker s).0.members ≡ Some n) × (n.place ≡ Queued c k b)
 landed_own c worker m s found = (kind_at p, bucket_of (kind_at p) Ordinary s.line p, now, own, refl)
@@ -312,6 +303,7 @@ landed_own c worker m s found = (kind_at p, bucket_of (kind_at p) Ordinary s.lin
         thread_of-changed_same t (λ x. record x { place = place; order = now.order }) side.members (λ x. refl) ∙
         ap (option_map (λ (x : Member). record x { place = place; order = now.order })) placed
 
+-- every other thread is what it was
 pub landed_others : (t c worker u : ℕ) (s : Side) → u ≢ t → thread_of u (landed t c worker s).0.members ≡ thread_of u s.members
 landed_others t c worker u s other = split (thread_of t s.members) refl
   where
@@ -341,6 +333,7 @@ landed_members t c d worker m s apart made found off =
     first : AllStay (IsOff d) s.members side.members
     first = stay_recorded (IsOff d) u (placed_on c) s.members (λ r. refl) at
 
+-- a landing leaves what the value of every other CPU stands for
 pub landed_elsewhere : (t c worker : ℕ) (m : Member) (v : CpuValue) (w : World) → c ≢ v.cpu → IsWellMade w.members → thread_of t w.members ≡ Some m → ((d : ℕ) → is_on d m.place ≡ false) → StandsFor v (side_of v.cpu w) →
     StandsFor v (side_of v.cpu (with_side c (landed t c worker (side_of c w)).0 w))
 landed_elsewhere t c worker m v w apart made found off stands =

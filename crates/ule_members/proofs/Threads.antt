@@ -80,11 +80,6 @@ thread_of-changed t m ms w f same =
 number_fails : (u t : ℕ) (m : Member) → u ≢ t → m.thread.id ≡ t → is_thread u m ≡ false
 number_fails u t m apart is = ne_eqb m.thread.id u (λ e. apart (sym e ∙ is))
 
--- every other thread is found as before
-pub thread_of-changed_other : (u t : ℕ) (m : Member) (ms : List Member) (w : Within t m ms) (f : Member → Member) → (f m).thread.id ≡ m.thread.id → u ≢ t → thread_of u (changed t f ms) ≡ thread_of u ms
-thread_of-changed_other u t m ms w f same apart =
-    find-changed_kept (is_thread u) t m ms w f (number_fails u t m apart w.number) (number_fails u t (f m) apart (same ∙ w.number))
-
 -- ---- by number, in any list
 
 -- what a number finds is changed where its thread is, whether there is one or none
