@@ -1,5 +1,5 @@
 -- The choice of the next thread, on a CPU's value and on the side of a world that it stands for.
-use Rattle.std.proofs.Common.{◌≡◌, ℕ, ◌<◌, ◌==◌, pos, Bool, true, false, ◌&&◌, List, [], ◌∷◌, map, length, slice_index_or, slice_set, if◌then◌else◌, Option, Some, None, ⊎_elim, refl, sym, ◌∙◌, ap, subst, arith, length-set, get_or-set_same, get_or-set_other}
+use Rattle.std.proofs.Common.{◌≡◌, ℕ, ◌+◌, ◌%◌, ◌<◌, ◌==◌, pos, Bool, true, false, not, ◌&&◌, List, [], ◌∷◌, map, length, slice_index_or, slice_set, if◌then◌else◌, Option, Some, None, ⊎_elim, refl, sym, ◌∙◌, ap, subst, arith, length-set, get_or-set_same, get_or-set_other}
 use Rattle.std.specs.List.{find}
 use Rattle.std.specs.Option.{option_map}
 use Rattle.std.proofs.lemmas.Bool.{cases_eq, eq-eqb, ne_eqb, and_right, and_left, or_left, or_right}
@@ -267,3 +267,21 @@ choosing_stands now v s stands made none small =
     look (Some first) (Some m) agrees =
         subst (λ (t : ℕ). AreChosen v (with_current now first.0 t v, Some t) (with_running v.cpu now m s, Some m.thread.id)) agrees.number
         (running_stands now first.0 agrees.bucket m v s stands made (within_thread m.thread.id s.members m made (ap (λ (u : ℕ). thread_of u s.members) agrees.number ∙ agrees.found)) agrees.place none there)
+
+-- taking a thread out of a queue leaves the calendar's removal index that of a bucket
+removed_index : (k : Kind) (t : ℕ) (v : CpuValue) → v.line.ridx < 64 → (removed_from k t v).line.ridx < 64
+removed_index Real t v small = small
+removed_index Batch t v small = step (not (v.line.idx == v.line.ridx) && is_empty_at (without t v.batch) v.line.ridx)
+  where
+    step : (d : Bool) → (if d then (v.line.ridx + 1) % 64 else v.line.ridx) < 64
+    step true = omega arith
+    step false = small
+removed_index Idle t v small = small
+
+-- and so does choosing
+pub chosen_index : (now : ℕ) (v : CpuValue) → v.line.ridx < 64 → (chosen_next now v).0.line.ridx < 64
+chosen_index now v small = look (first_in v)
+  where
+    look : (first : Option (Kind × ℕ)) → (current_chosen now first v).0.line.ridx < 64
+    look None = small
+    look (Some first) = removed_index first.0 first.1 v small

@@ -1,12 +1,13 @@
 -- What each event of one CPU makes of its value is what it makes of its side of a world.
-use Rattle.std.proofs.Common.{◌≡◌, ◌≢◌, ℕ, ◌+◌, ◌-◌, ◌%◌, ◌<◌, ◌==◌, Bool, true, false, not, ◌&&◌, List, length, slice_set, if◌then◌else◌, Option, Some, None, ⊎_elim, refl, sym, ◌∙◌, ap, subst, arith}
+use Rattle.std.proofs.Common.{◌≡◌, ◌≢◌, ℕ, ◌+◌, ◌-◌, ◌%◌, ◌<◌, ◌==◌, Bool, true, false, not, cond, ◌&&◌, pos, List, ◌++◌, length, slice_index_or, slice_set, if◌then◌else◌, Option, Some, None, ⊎_elim, refl, sym, ◌∙◌, ap, subst, arith, length-set, get_or-set_same, get_or-set_other, set-set}
 use Rattle.std.specs.Prelude.{IfSome, nat_le, option_and_then}
 use Rattle.std.specs.Option.{option_map}
-use Rattle.std.proofs.lemmas.Bool.{cases_eq, ne_eqb, or_left}
+use Rattle.std.proofs.lemmas.Bool.{cases_eq, ne_eqb, or_left, or_parts}
 use Rattle.std.proofs.lemmas.Option.{none-some}
 use Rattle.ule_prio.specs.Kind.{kind_at}
+use Rattle.ule_prio.specs.Preemption.{takes_over}
 use Rattle.ule_prio.specs.declared.kind.Kind.{Kind}
-use Rattle.ule_prio.specs.declared.kind.Kind.TheVariants.{Batch}
+use Rattle.ule_prio.specs.declared.kind.Kind.TheVariants.{Real, Batch, Idle}
 use Rattle.ule_runq.specs.Runq.{is_empty_at}
 use Rattle.ule_score.specs.declared.place.Place.{Place}
 use Rattle.ule_score.specs.declared.place.Place.TheVariants.{Queued, Hand}
@@ -15,23 +16,25 @@ use Rattle.ule_score.specs.declared.record.Settings.{Settings}
 use Rattle.ule_score.specs.declared.record.ThreadRecord.{ThreadRecord}
 use Rattle.ule_types.specs.declared.event.Reply.{Reply}
 use Rattle.ule_types.specs.declared.event.Reply.TheVariants.{Dropped, Landed, Nothing, Ticked}
-use Rattle.ule_model.specs.CpuValue.{CpuValue, StandsFor, Taken, current_in, thread_in, takes_over_in, value_added, value_clocked, value_taken, value_ticked, value_ticked_with, with_thread}
-use Rattle.ule_model.specs.Insertion.{bucket_of, members_in}
+use Rattle.ule_model.specs.CpuValue.{CpuValue, StandsFor, Taken, chosen_next, current_in, thread_in, thread_on, takes_over_in, value_added, value_clocked, value_laid, value_taken, value_taken_from, value_taken_with, value_ticked, value_ticked_with, with_thread, without_current}
+use Rattle.ule_model.specs.Insertion.{bucket_of, members_in, queued}
 use Rattle.ule_model.specs.declared.insertion.Insertion.TheVariants.{Ordinary}
-use Rattle.ule_model.specs.Landing.{current_record, landed, placed_on}
+use Rattle.ule_model.specs.Landing.{current_priority, current_record, is_taking_over, landed, landed_with, marked_if, placed_on}
 use Rattle.ule_model.specs.Places.{is_on, runs_on, waits_on}
 use Rattle.ule_model.specs.Shows.{IsWellMade}
-use Rattle.ule_model.specs.Sleep.{before_sleep, dropped}
+use Rattle.ule_model.specs.Sleep.{before_sleep, dropped, dropped_with, taken}
 use Rattle.ule_model.specs.Start.{balance_count, stepped_word}
+use Rattle.ule_model.specs.Switch.{choosing_next, one_more}
 use Rattle.ule_model.specs.Tick.{after_tick, balance_after_tick, clocked, is_due, line_after_tick, load_of, marked_at_end, ticked, ticked_with, word_after_tick}
-use Rattle.ule_model.specs.World.{Member, Side, current_of, thread_of, with_record}
-use Rattle.ule_laws.proofs.Buckets.{empty_shown}
-use Rattle.ule_laws.proofs.ChoosingLaws.{recorded_stands}
-use Rattle.ule_laws.proofs.CpuLaws.{AreSwitched}
+use Rattle.ule_model.specs.World.{Member, Side, current_of, moved_to, thread_of, with_record}
+use Rattle.ule_laws.proofs.Buckets.{empty_shown, shows-changed_out}
+use Rattle.ule_laws.proofs.ChoosingLaws.{AreChosen, choosing_stands, chosen_index, recorded_stands}
+use Rattle.ule_laws.proofs.CpuLaws.{AreSwitched, IsJoined, StandsBeside, beside_off, inserted_stands, off_out, ordinary_bucket_small, running_out}
 use Rattle.ule_laws.proofs.RecordLaws.{after_tick_id, after_tick_within}
-use Rattle.ule_laws.proofs.WellMade.{well_made-with_record}
-use Rattle.ule_members.proofs.Threads.{current_runs, thread_on_within, within_current}
-use Rattle.ule_members.proofs.Within.{Within}
+use Rattle.ule_laws.proofs.WellMade.{well_made-with_record, well_made_off}
+use Rattle.ule_members.proofs.Loads.{load-changed, load-within}
+use Rattle.ule_members.proofs.Threads.{current_of-changed, current_runs, thread_of-changed, thread_on-changed, thread_on-changed_other, thread_on_within, within_current}
+use Rattle.ule_members.proofs.Within.{Within, within_thread}
 
 -- ---- the current thread's record
 
@@ -171,13 +174,125 @@ pub record AreDropped (now : ℕ) (m : Member) (v : CpuValue) (made : CpuValue �
   pub cpu : made.0.cpu ≡ v.cpu
   pub index : made.0.line.ridx < 64
 
+-- the current thread leaves the CPU, on the value and on the side
+left_stands : (m : Member) (place : Place) (v : CpuValue) (s : Side) → StandsFor v s → Within m.thread.id m s.members → runs_on v.cpu m.place ≡ true → is_on v.cpu place ≡ false →
+    StandsFor (record v { threads = slice_set v.threads m.thread.id None; current = None; load = v.load - 1 }) (record s { members = moved_to m.thread.id place (pos 0) s.members })
+left_stands m place v s stands w runs off = record {
+  settings = stands.settings;
+  line = stands.line;
+  balance_word = stands.balance_word;
+  current =
+      sym (ap (option_map (λ (n : Member). n.thread.id))
+      (current_of-changed v.cpu t m s.members w (λ n. record n { place = place; order = pos 0 }) runs ∙
+      ap (λ d. if d then Some (record m { place = place; order = pos 0 }) else None) (or_parts (runs_on v.cpu place) (waits_on v.cpu place) off).0));
+  load = load;
+  slots = length-set v.threads t None ∙ stands.slots;
+  threads = λ u. ⊎_elim (same u) (other u) (cases_eq u t);
+  real = shows-changed_out v.real v.cpu Real t m s.members w (λ n. record n { place = place; order = pos 0 }) (running_out v.cpu v.cpu Real m.place runs) (off_out v.cpu Real place off) stands.real;
+  batch = shows-changed_out v.batch v.cpu Batch t m s.members w (λ n. record n { place = place; order = pos 0 }) (running_out v.cpu v.cpu Batch m.place runs) (off_out v.cpu Batch place off) stands.batch;
+  idle = shows-changed_out v.idle v.cpu Idle t m s.members w (λ n. record n { place = place; order = pos 0 }) (running_out v.cpu v.cpu Idle m.place runs) (off_out v.cpu Idle place off) stands.idle;
+}
+  where
+    t : ℕ
+    t = m.thread.id
+
+    load : v.load - 1 ≡ load_of v.cpu (moved_to t place (pos 0) s.members)
+    load =
+        let before : v.load ≡ 1 + load_of v.cpu (w.before ++ w.after) =
+        stands.load ∙ load-within v.cpu t m s.members w ∙ ap (λ (d : Bool). cond d 1 0 + load_of v.cpu (w.before ++ w.after)) (or_left (runs_on v.cpu m.place) (waits_on v.cpu m.place) runs) in
+        let after : load_of v.cpu (moved_to t place (pos 0) s.members) ≡ 0 + load_of v.cpu (w.before ++ w.after) =
+        load-changed v.cpu t m s.members w (λ n. record n { place = place; order = pos 0 }) ∙ ap (λ (d : Bool). cond d 1 0 + load_of v.cpu (w.before ++ w.after)) off in
+        omega arith
+
+    same : (u : ℕ) → u ≡ t → slice_index_or (slice_set v.threads t None) u None ≡ option_map (λ n. n.thread) (thread_on v.cpu u (moved_to t place (pos 0) s.members))
+    same u is =
+        subst (λ (i : ℕ). slice_index_or (slice_set v.threads t None) i None ≡ option_map (λ n. n.thread) (thread_on v.cpu i (moved_to t place (pos 0) s.members))) (sym is)
+        (get_or-set_same v.threads t None None (let slots = stands.slots in let small = w.made.number in omega arith) ∙
+        ap (option_map (λ (n : Member). n.thread))
+        (sym (thread_on-changed v.cpu t m s.members w (λ n. record n { place = place; order = pos 0 }) refl ∙
+        ap (λ d. if d then Some (record m { place = place; order = pos 0 }) else None) off)))
+
+    other : (u : ℕ) → (u ≡ t → ⊥) → slice_index_or (slice_set v.threads t None) u None ≡ option_map (λ n. n.thread) (thread_on v.cpu u (moved_to t place (pos 0) s.members))
+    other u apart =
+        get_or-set_other v.threads t u None None apart ∙ stands.threads u ∙
+        ap (option_map (λ (n : Member). n.thread)) (sym (thread_on-changed_other v.cpu u t m s.members w (λ n. record n { place = place; order = pos 0 }) refl apart))
+
+-- the current thread goes to a worker's hand, its record changed
+pub taken_stands : (worker now : ℕ) (m : Member) (v : CpuValue) (s : Side) → StandsFor v s → IsWellMade s.members → current_of v.cpu s.members ≡ Some m →
+    StandsFor (without_current m.thread.id v) (taken worker (before_sleep now) m.thread.id s) × IsWellMade (taken worker (before_sleep now) m.thread.id s).members
+taken_stands worker now m v s stands made found = (
+  relined_stands (λ line. record line { resched = false; slice_end = false; switches = one_more line.switches })
+  (record v { threads = slice_set v.threads t None; current = None; load = v.load - 1 }) (record s { members = moved_to t (Hand worker) (pos 0) changed_side.members })
+  (subst (λ (threads : List (Option ThreadRecord)). StandsFor (record v { threads = threads; current = None; load = v.load - 1 }) (record s { members = moved_to t (Hand worker) (pos 0) changed_side.members }))
+  (set-set v.threads t (option_map (before_sleep now) (thread_in v t)) None)
+  (left_stands n (Hand worker) (with_thread t (before_sleep now) v) changed_side (recorded_stands t (before_sleep now) m v s (λ r. refl) stands at) within runs refl)),
+  well_made_off t n changed_side.members within (Hand worker) (pos 0) tt (λ c. refl),
+)
+  where
+    t : ℕ
+    t = m.thread.id
+
+    n : Member
+    n = record m { thread = before_sleep now m.thread }
+
+    at : Within t m s.members
+    at = within_current v.cpu s.members m made found
+
+    runs : runs_on v.cpu m.place ≡ true
+    runs = current_runs v.cpu s.members m found
+
+    changed_side : Side
+    changed_side = record s { members = with_record t (before_sleep now) s.members }
+
+    within : Within t n changed_side.members
+    within =
+        within_thread t changed_side.members n (well_made-with_record t (before_sleep now) s.members (λ r. refl) (λ r nice small. (nice, small)) made)
+        (thread_of-changed t m s.members at (λ x. record x { thread = before_sleep now x.thread }) refl)
+
+-- the number of the current thread in the value
+current_number : (m : Member) (v : CpuValue) (s : Side) → StandsFor v s → current_of v.cpu s.members ≡ Some m → v.current ≡ Some m.thread.id
+current_number m v s stands found = stands.current ∙ ap (option_map (λ (n : Member). n.thread.id)) found
+
+-- the step of a drop where thread m ran
 pub dropped_stands : (worker now : ℕ) (m : Member) (v : CpuValue) (s : Side) → StandsFor v s → IsWellMade s.members → v.line.ridx < 64 → current_of v.cpu s.members ≡ Some m →
     AreDropped now m v (value_taken (before_sleep now) now v) (dropped v.cpu worker now s)
-dropped_stands worker now m v s stands made small runs = ?
+dropped_stands worker now m v s stands made small runs =
+    subst (λ (o : Option Member). AreDropped now m v (value_taken (before_sleep now) now v) (dropped_with o v.cpu worker now s)) (sym runs)
+    (subst (λ (o : Option ℕ). AreDropped now m v (value_taken_from o (before_sleep now) now v) (dropped_with (Some m) v.cpu worker now s)) (sym (current_number m v s stands runs))
+    (subst (λ (o : Option ThreadRecord). AreDropped now m v (value_taken_with o (before_sleep now) now t v) (dropped_with (Some m) v.cpu worker now s)) (sym record_is)
+    (record {
+      into = (chosen_next now left).1;
+      stands = next.stands;
+      out = refl;
+      answer = ap (λ (o : Option ℕ). Dropped t o) (sym next.answer);
+      well_made = next.well_made;
+      cpu = next.cpu;
+      index = chosen_index now left small;
+    })))
+  where
+    t : ℕ
+    t = m.thread.id
 
+    left : CpuValue
+    left = without_current t v
+
+    record_is : thread_in v t ≡ Some m.thread
+    record_is =
+        ap (λ (o : Option ℕ). option_and_then (thread_in v) o) (sym (current_number m v s stands runs)) ∙ current_in_is v s stands made ∙ ap (option_map (λ (n : Member). n.thread)) runs
+
+    next : AreChosen left (chosen_next now left) (choosing_next v.cpu now (taken worker (before_sleep now) t s))
+    next =
+        let gone = taken_stands worker now m v s stands made runs in
+        choosing_stands now left (taken worker (before_sleep now) t s) gone.0 gone.1 refl small
+
+-- and where no thread ran
 pub dropped_nothing : (worker now : ℕ) (v : CpuValue) (s : Side) → StandsFor v s → current_of v.cpu s.members ≡ None →
     ((value_taken (before_sleep now) now v).1 ≡ None) × (dropped v.cpu worker now s ≡ (s, Nothing))
-dropped_nothing worker now v s stands none = ?
+dropped_nothing worker now v s stands none =
+    let none_in : v.current ≡ None = stands.current ∙ ap (option_map (λ (n : Member). n.thread.id)) none in (
+      ap (λ (o : Option ℕ). (value_taken_from o (before_sleep now) now v).1) none_in,
+      ap (λ (o : Option Member). dropped_with o v.cpu worker now s) none,
+    )
 
 -- ---- a landing
 
@@ -189,6 +304,73 @@ pub record AreLanded (m : Member) (remote : Bool) (v : CpuValue) (meant : Side �
   pub cpu : (value_added m.thread remote v).cpu ≡ v.cpu
   pub index : (value_added m.thread remote v).line.ridx ≡ v.line.ridx
 
+-- a change of the record of a thread on no CPU leaves what a value stands for
+off_recorded : (t : ℕ) (change : ThreadRecord → ThreadRecord) (m : Member) (v : CpuValue) (s : Side) → ((r : ThreadRecord) → (change r).id ≡ r.id) → StandsFor v s → Within t m s.members → is_on v.cpu m.place ≡ false →
+    StandsFor (record v { threads = slice_set v.threads t None }) (record s { members = with_record t change s.members })
+off_recorded t change m v s kept stands w off =
+    subst (λ (o : Option ThreadRecord). StandsFor (record v { threads = slice_set v.threads t (option_map change o) }) (record s { members = with_record t change s.members }))
+    (stands.threads t ∙ ap (option_map (λ (n : Member). n.thread)) (thread_on_within v.cpu t m s.members w ∙ ap (λ d. if d then Some m else None) off))
+    (recorded_stands t change m v s kept stands w)
+
+-- a thread on no CPU comes to this one, and is queued
+placed_stands : (m : Member) (v : CpuValue) (s : Side) → StandsFor v s → IsWellMade s.members → Within m.thread.id m s.members → is_on v.cpu m.place ≡ false →
+    IsJoined v (value_laid (placed_on v.cpu m.thread) v) (queued Ordinary v.cpu m.thread.id (record s { members = with_record m.thread.id (placed_on v.cpu) s.members }))
+placed_stands m v s stands made w off =
+    record { stands = joined.stands; well_made = joined.well_made; cpu = joined.cpu; current = joined.current; line = joined.line }
+  where
+    t : ℕ
+    t = m.thread.id
+
+    n : Member
+    n = record m { thread = placed_on v.cpu m.thread }
+
+    changed_side : Side
+    changed_side = record s { members = with_record t (placed_on v.cpu) s.members }
+
+    within : Within t n changed_side.members
+    within =
+        within_thread t changed_side.members n (well_made-with_record t (placed_on v.cpu) s.members (λ r. refl) (λ r nice small. (nice, small)) made)
+        (thread_of-changed t m s.members w (λ x. record x { thread = placed_on v.cpu x.thread }) refl)
+
+    beside : StandsBeside n (record v { threads = slice_set v.threads t (Some n.thread); load = v.load + 1 }) changed_side (within.before ++ within.after)
+    beside =
+        subst (λ (threads : List (Option ThreadRecord)). StandsBeside n (record v { threads = threads; load = v.load + 1 }) changed_side (within.before ++ within.after))
+        (set-set v.threads t None (Some n.thread))
+        (beside_off n (record v { threads = slice_set v.threads t None }) changed_side within (off_recorded t (placed_on v.cpu) m v s (λ r. refl) stands w off) off)
+
+    joined : IsJoined (record v { threads = slice_set v.threads t (Some n.thread); load = v.load + 1 }) (value_laid n.thread v) (queued Ordinary v.cpu t changed_side)
+    joined =
+        inserted_stands Ordinary n (record v { threads = slice_set v.threads t (Some n.thread); load = v.load + 1 }) changed_side within beside
+        (ordinary_bucket_small (kind_at n.thread.priority) v.line n.thread.priority w.made.priority)
+
+-- what a thread takes over, it takes over on the side
+takes_alike : (worker p : ℕ) (v : CpuValue) (s : Side) → StandsFor v s → IsWellMade s.members → takes_over_in p (not (worker == v.cpu)) v ≡ is_taking_over p v.cpu worker s
+takes_alike worker p v s stands made =
+    ap (λ (o : Option ThreadRecord). takes_over p (current_priority o) (not (worker == v.cpu)) v.settings.preempt) (current_in_is v s stands made)
+    ∙ ap (λ (settings : Settings). takes_over p (current_priority (current_record v.cpu s.members)) (not (worker == v.cpu)) settings.preempt) stands.settings
+
+-- the step of a landing
 pub landed_stands : (worker : ℕ) (m : Member) (v : CpuValue) (s : Side) → StandsFor v s → IsWellMade s.members → thread_of m.thread.id s.members ≡ Some m → ((c : ℕ) → is_on c m.place ≡ false) →
     AreLanded m (not (worker == v.cpu)) v (landed m.thread.id v.cpu worker s)
-landed_stands worker m v s stands made found off = ?
+landed_stands worker m v s stands made found off =
+    subst (λ (o : Option Member). AreLanded m (not (worker == v.cpu)) v (landed_with o v.cpu worker s)) (sym found)
+    (subst (λ (takes : Bool). AreLanded m (not (worker == v.cpu)) v (record next { line = marked_if takes next.line }, Landed (kind_at p) (bucket_of (kind_at p) Ordinary s.line p) takes)) (takes_alike worker p v s stands made)
+    (record {
+      stands = relined_stands (marked_if takes) (value_laid (placed_on v.cpu m.thread) v) next joined.stands;
+      answer = ap (λ (line : CpuLine). Landed (kind_at p) (bucket_of (kind_at p) Ordinary line p) takes) (sym stands.line);
+      well_made = joined.well_made;
+      cpu = joined.cpu;
+      index = ap (λ (line : CpuLine). line.ridx) joined.line;
+    }))
+  where
+    p : ℕ
+    p = m.thread.priority
+
+    takes : Bool
+    takes = takes_over_in p (not (worker == v.cpu)) v
+
+    next : Side
+    next = queued Ordinary v.cpu m.thread.id (record s { members = with_record m.thread.id (placed_on v.cpu) s.members })
+
+    joined : IsJoined v (value_laid (placed_on v.cpu m.thread) v) next
+    joined = placed_stands m v s stands made (within_thread m.thread.id s.members m made found) (off v.cpu)

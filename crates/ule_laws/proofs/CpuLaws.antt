@@ -27,7 +27,7 @@ use Rattle.ule_model.specs.Switch.{one_more, after_running, unmarked, counted, i
 use Rattle.ule_model.specs.Tick.{load_of}
 use Rattle.ule_model.specs.World.{Member, Side, current_of, thread_of, is_thread, moved_to, with_record}
 use Rattle.ule_laws.proofs.Buckets.{IsOut, orders_in, shows-changed_out, shows-appended, shows_with_tail, shows_with_head}
-use Rattle.ule_laws.proofs.ChoosingLaws.{AreChosen, recorded_stands, choosing_stands}
+use Rattle.ule_laws.proofs.ChoosingLaws.{AreChosen, chosen_index, recorded_stands, choosing_stands}
 use Rattle.ule_members.proofs.Loads.{load-within, load-changed, load-appended_off}
 use Rattle.ule_members.proofs.Threads.{find_skips, find_nowhere, no_other_runs, thread_of_within, thread_of-changed, thread_on_within, thread_on-changed, current_runs, within_current, find-appended, find-appended_new}
 use Rattle.ule_laws.proofs.WellMade.{waits_on_where, well_made-with_record, well_made_last, well_made_first, well_made_appended}
@@ -220,7 +220,7 @@ inserted_stands how m v s w h small =
 -- ---- threads that the CPU has in no place
 
 -- a place where a thread runs is in no bucket
-running_out : (c d : ℕ) (k : Kind) (p : Place) → runs_on c p ≡ true → IsOut d k p
+pub running_out : (c d : ℕ) (k : Kind) (p : Place) → runs_on c p ≡ true → IsOut d k p
 running_out c d k (Running e) runs b = refl
 running_out c d k (Queued e j f) runs b = absurd (both_ways false refl runs)
 running_out c d k (Asleep channel) runs b = refl
@@ -461,29 +461,16 @@ switched_stands why now v s stands made small =
 pub switched_index : (why : Why) (now : ℕ) (v : CpuValue) → v.line.ridx < 64 → (value_switched why now v).0.line.ridx < 64
 switched_index why now v small = split (is_unasked why v.line.resched)
   where
-    removed : (k : Kind) (t : ℕ) (u : CpuValue) → u.line.ridx < 64 → (removed_from k t u).line.ridx < 64
-    removed Real t u at = at
-    removed Batch t u at = step (not (u.line.idx == u.line.ridx) && is_empty_at (without t u.batch) u.line.ridx)
-      where
-        step : (d : Bool) → (if d then (u.line.ridx + 1) % 64 else u.line.ridx) < 64
-        step true = omega arith
-        step false = at
-    removed Idle t u at = at
-
-    chosen : (u : CpuValue) (first : Option (Kind × ℕ)) → u.line.ridx < 64 → (current_chosen now first u).0.line.ridx < 64
-    chosen u None at = at
-    chosen u (Some first) at = removed first.0 first.1 u at
-
     joined : (how : Insertion) (t : ℕ) (o : Option ThreadRecord) (u : CpuValue) → u.line.ridx < 64 → (inserted_thread how t o u).line.ridx < 64
     joined how t None u at = at
     joined how t (Some r) u at = subst (λ (line : CpuLine). line.ridx < 64) (sym (inserted_line (kind_at r.priority) how (bucket_of (kind_at r.priority) how u.line r.priority) t u)) at
 
     from : (o : Option ℕ) (preempted : Bool) → (value_switched_from o preempted now (without_marks v)).0.line.ridx < 64
-    from None preempted = chosen (without_marks v) (first_in (without_marks v)) small
+    from None preempted = chosen_index now (without_marks v) small
     from (Some t) preempted =
         let left : CpuValue = value_left now t (without_marks v) in
         let gave : CpuValue = with_given_way preempted now t (without_marks v) in
-        chosen gave (first_in gave) (joined (insertion_of preempted) t (thread_in left t) left small)
+        chosen_index now gave (joined (insertion_of preempted) t (thread_in left t) left small)
 
     split : (d : Bool) → (if d then (v, Unmarked) else value_switched_from v.current (is_preemption why v.line.slice_end) now (without_marks v)).0.line.ridx < 64
     split true = small
