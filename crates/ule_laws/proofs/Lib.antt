@@ -13,6 +13,7 @@ pub mod CpuEvents
 pub mod CpuRest
 pub mod ValueLaws
 pub mod WorldLaws
+pub mod LookUps
 pub mod SleepLaws
 pub mod StepLaws
 pub mod FinalLaws

@@ -13,7 +13,7 @@ use Rattle.ule_model.specs.World.{Side, World, side_of}
 use Rattle.ule_model.specs.WorldValue.{WorldValue, IsPart, Shows, Steps, on_cpu, value_step}
 use Rattle.ule_laws.proofs.CpuEvents.{ticked_stands, ticked_index}
 use Rattle.ule_laws.proofs.CpuLaws.{AreSwitched, switched_stands, switched_index}
-use Rattle.ule_laws.proofs.CpuRest.{stays_on, ticked_elsewhere, ticked_settings, ticked_threads}
+use Rattle.ule_laws.proofs.CpuRest.{all_stay_on, ticked_elsewhere, ticked_settings, ticked_threads}
 use Rattle.ule_laws.proofs.Elsewhere.{IsSideOn, switched_elsewhere, switched_moves}
 use Rattle.ule_laws.proofs.WorldLaws.{Agree, HasCpu, IsEvent, cpu_at, event_stays}
 
@@ -68,4 +68,4 @@ switch_shows v worker c why now within w shows =
     let event = switch_event w c why now at.value shows.made at.part in
     let new : Side = (switched c why now (side_of c w)).0 in
     subst (λ (o : Option CpuValue). Agree (on_cpu c (option_map (value_switched why now) o) v) (step w worker (Switch c why) now)) (sym at.found)
-    (event_stays v w c (value_switched why now at.value).0 new shows within event.1 (λ t. stays_on c t w.members new.members (switched_moves c why now (side_of c w) shows.made).members), event.0.answer)
+    (event_stays v w c (value_switched why now at.value).0 new shows within event.1 (λ t. all_stay_on c t w.members new.members (switched_moves c why now (side_of c w) shows.made).members), event.0.answer)

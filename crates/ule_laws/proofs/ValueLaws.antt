@@ -174,7 +174,7 @@ hand_filled v ms worker t r shows within empty number nowhere = record {
 }
 
 -- one place in a hand is one hand
-one_hand : (h worker : ℕ) → Hand h ≡ Hand worker → h ≡ worker
+pub one_hand : (h worker : ℕ) → Hand h ≡ Hand worker → h ≡ worker
 one_hand h worker same = cc
 
 -- the hand of a worker is emptied of its thread
