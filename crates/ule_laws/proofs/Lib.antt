@@ -14,7 +14,7 @@ pub mod CpuRest
 pub mod ValueLaws
 pub mod WorldLaws
 pub mod LookUps
+pub mod FinalLaws
 pub mod SleepLaws
 pub mod StepLaws
-pub mod FinalLaws
 pub mod StartLaws
