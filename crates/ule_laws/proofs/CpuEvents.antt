@@ -1,16 +1,15 @@
 -- What each event of one CPU makes of its value is what it makes of its side of a world.
-use Rattle.std.proofs.Common.{◌≡◌, ◌≢◌, ℕ, ◌+◌, ◌-◌, ◌%◌, ◌<◌, ◌==◌, Bool, true, false, not, cond, ◌&&◌, pos, List, ◌++◌, length, slice_index_or, slice_set, if◌then◌else◌, Option, Some, None, ⊎_elim, refl, sym, ◌∙◌, ap, subst, arith, length-set, get_or-set_same, get_or-set_other, set-set}
-use Rattle.std.specs.Prelude.{IfSome, nat_le, option_and_then}
+use Rattle.std.proofs.Common.{◌≡◌, ℕ, ◌+◌, ◌-◌, ◌%◌, ◌<◌, ◌==◌, Bool, true, false, not, cond, ◌&&◌, pos, List, ◌++◌, length, slice_index_or, slice_set, if◌then◌else◌, Option, Some, None, ⊎_elim, refl, sym, ◌∙◌, ap, subst, arith, length-set, get_or-set_same, get_or-set_other, set-set}
+use Rattle.std.specs.Prelude.{nat_le, option_and_then}
 use Rattle.std.specs.Option.{option_map}
 use Rattle.std.proofs.lemmas.Bool.{cases_eq, ne_eqb, or_left, or_parts}
-use Rattle.std.proofs.lemmas.Option.{none-some}
 use Rattle.ule_prio.specs.Kind.{kind_at}
 use Rattle.ule_prio.specs.Preemption.{takes_over}
 use Rattle.ule_prio.specs.declared.kind.Kind.{Kind}
 use Rattle.ule_prio.specs.declared.kind.Kind.TheVariants.{Real, Batch, Idle}
 use Rattle.ule_runq.specs.Runq.{is_empty_at}
 use Rattle.ule_score.specs.declared.place.Place.{Place}
-use Rattle.ule_score.specs.declared.place.Place.TheVariants.{Queued, Hand}
+use Rattle.ule_score.specs.declared.place.Place.TheVariants.{Hand}
 use Rattle.ule_score.specs.declared.record.CpuLine.{CpuLine}
 use Rattle.ule_score.specs.declared.record.Settings.{Settings}
 use Rattle.ule_score.specs.declared.record.ThreadRecord.{ThreadRecord}
@@ -21,7 +20,7 @@ use Rattle.ule_model.specs.Insertion.{bucket_of, members_in, queued}
 use Rattle.ule_model.specs.declared.insertion.Insertion.TheVariants.{Ordinary}
 use Rattle.ule_model.specs.Landing.{current_priority, current_record, is_taking_over, landed, landed_with, marked_if, placed_on}
 use Rattle.ule_model.specs.Places.{is_on, runs_on, waits_on}
-use Rattle.ule_model.specs.Shows.{IsWellMade}
+use Rattle.ule_model.specs.Shows.{ShowsQueue, IsWellMade}
 use Rattle.ule_model.specs.Sleep.{before_sleep, dropped, dropped_with, taken}
 use Rattle.ule_model.specs.Start.{balance_count, stepped_word}
 use Rattle.ule_model.specs.Switch.{choosing_next, one_more}
@@ -29,10 +28,10 @@ use Rattle.ule_model.specs.Tick.{after_tick, balance_after_tick, clocked, is_due
 use Rattle.ule_model.specs.World.{Member, Side, current_of, moved_to, thread_of, with_record}
 use Rattle.ule_laws.proofs.Buckets.{empty_shown, shows-changed_out}
 use Rattle.ule_laws.proofs.ChoosingLaws.{AreChosen, choosing_stands, chosen_index, recorded_stands}
-use Rattle.ule_laws.proofs.CpuLaws.{AreSwitched, IsJoined, StandsBeside, beside_off, inserted_stands, off_out, ordinary_bucket_small, running_out}
+use Rattle.ule_laws.proofs.CpuLaws.{AreSwitched, IsJoined, StandsBeside, beside_load, beside_off, inserted_stands, off_out, ordinary_bucket_small, with_line_stands, running_out}
 use Rattle.ule_laws.proofs.RecordLaws.{after_tick_id, after_tick_within}
 use Rattle.ule_laws.proofs.WellMade.{well_made-with_record, well_made_off}
-use Rattle.ule_members.proofs.Loads.{load-changed, load-within}
+use Rattle.ule_members.proofs.Loads.{load-changed}
 use Rattle.ule_members.proofs.Threads.{current_of-changed, current_runs, thread_of-changed, thread_on-changed, thread_on-changed_other, thread_on_within, within_current}
 use Rattle.ule_members.proofs.Within.{Within, within_thread}
 
@@ -89,29 +88,16 @@ clocked_stands v s stands small = record {
   idle = stands.idle;
 }
 
--- the numbers changed alike
-relined_stands : (change : CpuLine → CpuLine) (v : CpuValue) (s : Side) → StandsFor v s → StandsFor (record v { line = change v.line }) (record s { line = change s.line })
-relined_stands change v s stands = record {
-  settings = stands.settings;
-  line = ap change stands.line;
-  balance_word = stands.balance_word;
-  current = stands.current;
-  load = stands.load;
-  slots = stands.slots;
-  threads = stands.threads;
-  real = stands.real;
-  batch = stands.batch;
-  idle = stands.idle;
-}
-
 -- the side whose current thread m was charged a tick by these settings, and the reply
 abbrev side_ticked : Settings → ℕ → Bool → ℕ → Member → Side → Side × Reply
 side_ticked settings load due now m s =
-    let ended = (after_tick settings now load m.thread).1 in
-    (record s {
-      members = with_record m.thread.id (λ r. (after_tick settings now load r).0) s.members;
-      line = marked_at_end ended s.line;
-    }, Ticked (Some m.thread.id) due ended)
+    let ended = (after_tick settings now load m.thread).1 in (
+      record s {
+        members = with_record m.thread.id (λ r. (after_tick settings now load r).0) s.members;
+        line = marked_at_end ended s.line;
+      },
+      Ticked (Some m.thread.id) due ended,
+    )
 
 -- the current thread charged, on the value and on the side
 charged_stands : (due : Bool) (now : ℕ) (m : Member) (v : CpuValue) (s : Side) → StandsFor v s → IsWellMade s.members → Within m.thread.id m s.members →
@@ -120,7 +106,7 @@ charged_stands due now m v s stands made w =
     let change : ThreadRecord → ThreadRecord = λ r. (after_tick v.settings now v.load r).0 in
     record {
       stands =
-          relined_stands (marked_at_end (after_tick v.settings now v.load m.thread).1) (with_thread m.thread.id change v) (record s { members = with_record m.thread.id change s.members })
+          with_line_stands (marked_at_end (after_tick v.settings now v.load m.thread).1) (with_thread m.thread.id change v) (record s { members = with_record m.thread.id change s.members })
           (recorded_stands m.thread.id change m v s (after_tick_id v.settings now v.load) stands w);
       answer = refl;
       well_made = well_made-with_record m.thread.id change s.members (after_tick_id v.settings now v.load) (after_tick_within v.settings now v.load) made;
@@ -174,6 +160,42 @@ pub record AreDropped (now : ℕ) (m : Member) (v : CpuValue) (made : CpuValue �
   pub cpu : made.0.cpu ≡ v.cpu
   pub index : made.0.line.ridx < 64
 
+-- the load after the current thread left the CPU
+left_load : (m : Member) (place : Place) (v : CpuValue) (s : Side) → StandsFor v s → Within m.thread.id m s.members → runs_on v.cpu m.place ≡ true → is_on v.cpu place ≡ false →
+    v.load - 1 ≡ load_of v.cpu (moved_to m.thread.id place (pos 0) s.members)
+left_load m place v s stands w runs off =
+    let before : v.load ≡ 1 + load_of v.cpu (w.before ++ w.after) = beside_load m v s w true stands (or_left (runs_on v.cpu m.place) (waits_on v.cpu m.place) runs) in
+    let after : load_of v.cpu (moved_to m.thread.id place (pos 0) s.members) ≡ 0 + load_of v.cpu (w.before ++ w.after) =
+    load-changed v.cpu m.thread.id m s.members w (λ n. record n { place = place; order = pos 0 }) ∙ ap (λ (d : Bool). cond d 1 0 + load_of v.cpu (w.before ++ w.after)) off in
+    omega arith
+
+-- the records after it
+left_threads : (m : Member) (place : Place) (v : CpuValue) (s : Side) → StandsFor v s → Within m.thread.id m s.members → is_on v.cpu place ≡ false → (u : ℕ) →
+    slice_index_or (slice_set v.threads m.thread.id None) u None ≡ option_map (λ n. n.thread) (thread_on v.cpu u (moved_to m.thread.id place (pos 0) s.members))
+left_threads m place v s stands w off u = ⊎_elim same other (cases_eq u t)
+  where
+    t : ℕ
+    t = m.thread.id
+
+    same : u ≡ t → slice_index_or (slice_set v.threads t None) u None ≡ option_map (λ n. n.thread) (thread_on v.cpu u (moved_to t place (pos 0) s.members))
+    same is =
+        subst (λ (i : ℕ). slice_index_or (slice_set v.threads t None) i None ≡ option_map (λ n. n.thread) (thread_on v.cpu i (moved_to t place (pos 0) s.members))) (sym is)
+        (get_or-set_same v.threads t None None (let slots = stands.slots in let small = w.made.number in omega arith) ∙
+        ap (option_map (λ (n : Member). n.thread))
+        (sym (thread_on-changed v.cpu t m s.members w (λ n. record n { place = place; order = pos 0 }) refl ∙
+        ap (λ d. if d then Some (record m { place = place; order = pos 0 }) else None) off)))
+
+    other : (u ≡ t → ⊥) → slice_index_or (slice_set v.threads t None) u None ≡ option_map (λ n. n.thread) (thread_on v.cpu u (moved_to t place (pos 0) s.members))
+    other apart =
+        get_or-set_other v.threads t u None None apart ∙ stands.threads u ∙
+        ap (option_map (λ (n : Member). n.thread)) (sym (thread_on-changed_other v.cpu u t m s.members w (λ n. record n { place = place; order = pos 0 }) refl apart))
+
+-- a queue after it
+left_shows : (lists : List (List ℕ)) (c : ℕ) (k : Kind) (m : Member) (place : Place) (ms : List Member) → Within m.thread.id m ms → runs_on c m.place ≡ true → is_on c place ≡ false → ShowsQueue lists c k ms →
+    ShowsQueue lists c k (moved_to m.thread.id place (pos 0) ms)
+left_shows lists c k m place ms w runs off shows =
+    shows-changed_out lists c k m.thread.id m ms w (λ n. record n { place = place; order = pos 0 }) (running_out c c k m.place runs) (off_out c k place off) shows
+
 -- the current thread leaves the CPU, on the value and on the side
 left_stands : (m : Member) (place : Place) (v : CpuValue) (s : Side) → StandsFor v s → Within m.thread.id m s.members → runs_on v.cpu m.place ≡ true → is_on v.cpu place ≡ false →
     StandsFor (record v { threads = slice_set v.threads m.thread.id None; current = None; load = v.load - 1 }) (record s { members = moved_to m.thread.id place (pos 0) s.members })
@@ -183,49 +205,25 @@ left_stands m place v s stands w runs off = record {
   balance_word = stands.balance_word;
   current =
       sym (ap (option_map (λ (n : Member). n.thread.id))
-      (current_of-changed v.cpu t m s.members w (λ n. record n { place = place; order = pos 0 }) runs ∙
+      (current_of-changed v.cpu m.thread.id m s.members w (λ n. record n { place = place; order = pos 0 }) runs ∙
       ap (λ d. if d then Some (record m { place = place; order = pos 0 }) else None) (or_parts (runs_on v.cpu place) (waits_on v.cpu place) off).0));
-  load = load;
-  slots = length-set v.threads t None ∙ stands.slots;
-  threads = λ u. ⊎_elim (same u) (other u) (cases_eq u t);
-  real = shows-changed_out v.real v.cpu Real t m s.members w (λ n. record n { place = place; order = pos 0 }) (running_out v.cpu v.cpu Real m.place runs) (off_out v.cpu Real place off) stands.real;
-  batch = shows-changed_out v.batch v.cpu Batch t m s.members w (λ n. record n { place = place; order = pos 0 }) (running_out v.cpu v.cpu Batch m.place runs) (off_out v.cpu Batch place off) stands.batch;
-  idle = shows-changed_out v.idle v.cpu Idle t m s.members w (λ n. record n { place = place; order = pos 0 }) (running_out v.cpu v.cpu Idle m.place runs) (off_out v.cpu Idle place off) stands.idle;
+  load = left_load m place v s stands w runs off;
+  slots = length-set v.threads m.thread.id None ∙ stands.slots;
+  threads = left_threads m place v s stands w off;
+  real = left_shows v.real v.cpu Real m place s.members w runs off stands.real;
+  batch = left_shows v.batch v.cpu Batch m place s.members w runs off stands.batch;
+  idle = left_shows v.idle v.cpu Idle m place s.members w runs off stands.idle;
 }
-  where
-    t : ℕ
-    t = m.thread.id
-
-    load : v.load - 1 ≡ load_of v.cpu (moved_to t place (pos 0) s.members)
-    load =
-        let before : v.load ≡ 1 + load_of v.cpu (w.before ++ w.after) =
-        stands.load ∙ load-within v.cpu t m s.members w ∙ ap (λ (d : Bool). cond d 1 0 + load_of v.cpu (w.before ++ w.after)) (or_left (runs_on v.cpu m.place) (waits_on v.cpu m.place) runs) in
-        let after : load_of v.cpu (moved_to t place (pos 0) s.members) ≡ 0 + load_of v.cpu (w.before ++ w.after) =
-        load-changed v.cpu t m s.members w (λ n. record n { place = place; order = pos 0 }) ∙ ap (λ (d : Bool). cond d 1 0 + load_of v.cpu (w.before ++ w.after)) off in
-        omega arith
-
-    same : (u : ℕ) → u ≡ t → slice_index_or (slice_set v.threads t None) u None ≡ option_map (λ n. n.thread) (thread_on v.cpu u (moved_to t place (pos 0) s.members))
-    same u is =
-        subst (λ (i : ℕ). slice_index_or (slice_set v.threads t None) i None ≡ option_map (λ n. n.thread) (thread_on v.cpu i (moved_to t place (pos 0) s.members))) (sym is)
-        (get_or-set_same v.threads t None None (let slots = stands.slots in let small = w.made.number in omega arith) ∙
-        ap (option_map (λ (n : Member). n.thread))
-        (sym (thread_on-changed v.cpu t m s.members w (λ n. record n { place = place; order = pos 0 }) refl ∙
-        ap (λ d. if d then Some (record m { place = place; order = pos 0 }) else None) off)))
-
-    other : (u : ℕ) → (u ≡ t → ⊥) → slice_index_or (slice_set v.threads t None) u None ≡ option_map (λ n. n.thread) (thread_on v.cpu u (moved_to t place (pos 0) s.members))
-    other u apart =
-        get_or-set_other v.threads t u None None apart ∙ stands.threads u ∙
-        ap (option_map (λ (n : Member). n.thread)) (sym (thread_on-changed_other v.cpu u t m s.members w (λ n. record n { place = place; order = pos 0 }) refl apart))
 
 -- the current thread goes to a worker's hand, its record changed
 pub taken_stands : (worker now : ℕ) (m : Member) (v : CpuValue) (s : Side) → StandsFor v s → IsWellMade s.members → current_of v.cpu s.members ≡ Some m →
     StandsFor (without_current m.thread.id v) (taken worker (before_sleep now) m.thread.id s) × IsWellMade (taken worker (before_sleep now) m.thread.id s).members
 taken_stands worker now m v s stands made found = (
-  relined_stands (λ line. record line { resched = false; slice_end = false; switches = one_more line.switches })
-  (record v { threads = slice_set v.threads t None; current = None; load = v.load - 1 }) (record s { members = moved_to t (Hand worker) (pos 0) changed_side.members })
-  (subst (λ (threads : List (Option ThreadRecord)). StandsFor (record v { threads = threads; current = None; load = v.load - 1 }) (record s { members = moved_to t (Hand worker) (pos 0) changed_side.members }))
-  (set-set v.threads t (option_map (before_sleep now) (thread_in v t)) None)
-  (left_stands n (Hand worker) (with_thread t (before_sleep now) v) changed_side (recorded_stands t (before_sleep now) m v s (λ r. refl) stands at) within runs refl)),
+  with_line_stands (λ line. record line { resched = false; slice_end = false; switches = one_more line.switches })
+      (record v { threads = slice_set v.threads t None; current = None; load = v.load - 1 }) (record s { members = moved_to t (Hand worker) (pos 0) changed_side.members })
+      (subst (λ (threads : List (Option ThreadRecord)). StandsFor (record v { threads = threads; current = None; load = v.load - 1 }) (record s { members = moved_to t (Hand worker) (pos 0) changed_side.members }))
+      (set-set v.threads t (option_map (before_sleep now) (thread_in v t)) None)
+      (left_stands n (Hand worker) (with_thread t (before_sleep now) v) changed_side (recorded_stands t (before_sleep now) m v s (λ r. refl) stands at) within runs refl)),
   well_made_off t n changed_side.members within (Hand worker) (pos 0) tt (λ c. refl),
 )
   where
@@ -356,7 +354,7 @@ landed_stands worker m v s stands made found off =
     subst (λ (o : Option Member). AreLanded m (not (worker == v.cpu)) v (landed_with o v.cpu worker s)) (sym found)
     (subst (λ (takes : Bool). AreLanded m (not (worker == v.cpu)) v (record next { line = marked_if takes next.line }, Landed (kind_at p) (bucket_of (kind_at p) Ordinary s.line p) takes)) (takes_alike worker p v s stands made)
     (record {
-      stands = relined_stands (marked_if takes) (value_laid (placed_on v.cpu m.thread) v) next joined.stands;
+      stands = with_line_stands (marked_if takes) (value_laid (placed_on v.cpu m.thread) v) next joined.stands;
       answer = ap (λ (line : CpuLine). Landed (kind_at p) (bucket_of (kind_at p) Ordinary line p) takes) (sym stands.line);
       well_made = joined.well_made;
       cpu = joined.cpu;

@@ -14,9 +14,8 @@ use Rattle.ule_score.specs.declared.record.ThreadRecord.{ThreadRecord}
 use Rattle.ule_score.specs.declared.record.Why.{Why}
 use Rattle.ule_types.specs.declared.event.Reply.{Reply}
 use Rattle.ule_types.specs.declared.event.Reply.TheVariants.{Unmarked, Switched}
-use Rattle.ule_runq.specs.Runq.{is_empty_at, without}
 use Rattle.ule_model.specs.CalendarIndexes.{reach_of, calendar_bucket}
-use Rattle.ule_model.specs.CpuValue.{CpuValue, StandsFor, thread_in, with_thread, with_inserted, inserted_in, inserted, inserted_thread, removed_from, first_in, current_chosen, with_given_way, without_marks, value_laid, thread_on, chosen_next, value_switched_from, value_switched}
+use Rattle.ule_model.specs.CpuValue.{CpuValue, StandsFor, thread_in, with_thread, with_inserted, inserted_in, inserted, inserted_thread, with_given_way, without_marks, value_laid, thread_on, chosen_next, value_switched_from, value_switched}
 use Rattle.ule_model.specs.Insertion.{bucket_of, order_of, place_of_insertion, order_of_insertion, with_queued, queued}
 use Rattle.ule_model.specs.declared.insertion.Insertion.{Insertion}
 use Rattle.ule_model.specs.declared.insertion.Insertion.TheVariants.{Ordinary, Borrowing, Preempted}
@@ -240,7 +239,7 @@ beside_threads m v s w stands u apart =
     find_skips (λ n. is_thread u n && is_on v.cpu n.place) w.before m w.after (and_left (is_thread u m) (is_on v.cpu m.place) (ne_eqb m.thread.id u (λ e. apart (sym e)))))
 
 -- the load counts the threads of the others and thread m, where it is on the CPU
-beside_load : (m : Member) (v : CpuValue) (s : Side) (w : Within m.thread.id m s.members) (d : Bool) → StandsFor v s → is_on v.cpu m.place ≡ d → v.load ≡ cond d 1 0 + load_of v.cpu (w.before ++ w.after)
+pub beside_load : (m : Member) (v : CpuValue) (s : Side) (w : Within m.thread.id m s.members) (d : Bool) → StandsFor v s → is_on v.cpu m.place ≡ d → v.load ≡ cond d 1 0 + load_of v.cpu (w.before ++ w.after)
 beside_load m v s w d stands on =
     stands.load ∙ load-within v.cpu m.thread.id m s.members w ∙ ap (λ (e : Bool). cond e 1 0 + load_of v.cpu (w.before ++ w.after)) on
 
@@ -289,11 +288,11 @@ beside_off m v s w stands off = record {
 
 -- ---- the parts of a switch
 
--- the marks taken away
-pub marks_stand : (v : CpuValue) (s : Side) → StandsFor v s → StandsFor (without_marks v) (unmarked s)
-marks_stand v s stands = record {
+-- the numbers changed alike
+pub with_line_stands : (change : CpuLine → CpuLine) (v : CpuValue) (s : Side) → StandsFor v s → StandsFor (record v { line = change v.line }) (record s { line = change s.line })
+with_line_stands change v s stands = record {
   settings = stands.settings;
-  line = ap (λ (line : CpuLine). record line { resched = false; slice_end = false }) stands.line;
+  line = ap change stands.line;
   balance_word = stands.balance_word;
   current = stands.current;
   load = stands.load;
@@ -303,6 +302,10 @@ marks_stand v s stands = record {
   batch = stands.batch;
   idle = stands.idle;
 }
+
+-- the marks taken away
+pub marks_stand : (v : CpuValue) (s : Side) → StandsFor v s → StandsFor (without_marks v) (unmarked s)
+marks_stand v s stands = with_line_stands (λ line. record line { resched = false; slice_end = false }) v s stands
 
 -- the CPU with one switch more
 abbrev pub value_counted : CpuValue → CpuValue
@@ -310,18 +313,7 @@ value_counted v = record v { line = record v.line { switches = one_more v.line.s
 
 -- one switch more
 pub count_stands : (v : CpuValue) (s : Side) → StandsFor v s → StandsFor (value_counted v) (counted s)
-count_stands v s stands = record {
-  settings = stands.settings;
-  line = ap (λ (line : CpuLine). record line { switches = one_more line.switches }) stands.line;
-  balance_word = stands.balance_word;
-  current = stands.current;
-  load = stands.load;
-  slots = stands.slots;
-  threads = stands.threads;
-  real = stands.real;
-  batch = stands.batch;
-  idle = stands.idle;
-}
+count_stands v s stands = with_line_stands (λ line. record line { switches = one_more line.switches }) v s stands
 
 -- the CPU whose current thread t gave way and isn't queued yet
 abbrev pub value_left : ℕ → ℕ → CpuValue → CpuValue
