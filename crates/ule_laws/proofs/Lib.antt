@@ -16,5 +16,6 @@ pub mod WorldLaws
 pub mod LookUps
 pub mod FinalLaws
 pub mod SleepLaws
+pub mod CpuSteps
 pub mod StepLaws
 pub mod StartLaws
