@@ -19,3 +19,4 @@ pub mod SleepLaws
 pub mod CpuSteps
 pub mod StepLaws
 pub mod StartLaws
+pub mod ConditionLaws
