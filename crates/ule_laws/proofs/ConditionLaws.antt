@@ -1,5 +1,5 @@
 -- What a step needs of a world its scheduler has.
-use Rattle.std.proofs.Common.{◌≡◌, ◌≢◌, ℕ, ◌%◌, ◌<◌, ◌≤◌, ◌==◌, Bool, true, false, length, Option, Some, None, refl, sym, ◌∙◌, ap, subst}
+use Rattle.std.proofs.Common.{◌≡◌, ◌≢◌, ℕ, ◌%◌, ◌<◌, ◌≤◌, ◌==◌, true, false, length, Option, Some, None, refl, sym, ◌∙◌, ap, subst}
 use Rattle.std.specs.Prelude.{IfSome, IsSome, IsTrue, is_some, option_and_then, slice_get}
 use Rattle.std.specs.List.{AllByRecursion}
 use Rattle.std.specs.Option.{option_map}
@@ -11,11 +11,11 @@ use Rattle.ule_score.specs.declared.record.ThreadRecord.{ThreadRecord}
 use Rattle.ule_sleep.specs.Chain.{ChainValue, sleeper_in}
 use Rattle.ule_sleep.specs.declared.chain.Sleeper.{Sleeper}
 use Rattle.ule_types.specs.declared.event.Event.{Event}
-use Rattle.ule_types.specs.declared.event.Event.TheVariants.{Tick, Switch, Drop, Bed, Wake, Land}
+use Rattle.ule_types.specs.declared.event.Event.TheVariants.{Drop, Bed, Wake, Land}
 use Rattle.ule_model.specs.Conditions.{AllNoEarlier, CanStep, HasEmptyHand, HasThreads, HoldsThreads, IsBy, IsNoEarlier, IsPossible, names_cpu}
 use Rattle.ule_model.specs.CpuValue.{CpuValue, thread_in, thread_on}
 use Rattle.ule_model.specs.Places.{hand_of, is_on}
-use Rattle.ule_model.specs.Step.{holder_of, is_no_others, is_ready}
+use Rattle.ule_model.specs.Step.{holder_of, is_no_others}
 use Rattle.ule_model.specs.World.{Member, World, thread_of}
 use Rattle.ule_model.specs.WorldValue.{WorldValue, IsAt, IsPart, Shows, asleep_member, first_found, held_by, held_member, holder_in, place_among, sleeper_among, sleeper_at, standing_of, value_place}
 use Rattle.ule_members.proofs.Membership.{all_has, has_thread_of, has_within}

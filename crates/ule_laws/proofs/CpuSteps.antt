@@ -29,7 +29,7 @@ use Rattle.ule_members.proofs.Threads.{current_runs, thread_of_within, within_cu
 use Rattle.ule_laws.proofs.CpuEvents.{AreDropped, AreLanded, dropped_nothing, dropped_stands, landed_stands, ticked_index, ticked_stands}
 use Rattle.ule_laws.proofs.CpuLaws.{AreSwitched, switched_stands, switched_index}
 use Rattle.ule_laws.proofs.CpuRest.{all_stay_on, dropped_elsewhere, dropped_others, dropped_own, dropped_settings, landed_elsewhere, landed_others, landed_own, landed_settings, ticked_elsewhere, ticked_settings, ticked_threads}
-use Rattle.ule_laws.proofs.Elsewhere.{IsSideOn, switched_elsewhere, switched_moves}
+use Rattle.ule_laws.proofs.Elsewhere.{switched_elsewhere, switched_moves}
 use Rattle.ule_laws.proofs.ValueLaws.{MovesOne, ShowsThreads, asleep_shown, hand_emptied, hand_filled, held_shown, one_place, stays_same, threads_move, threads_shown}
 use Rattle.ule_laws.proofs.WorldLaws.{Agree, HasCpu, IsEvent, changed_at, cpu_at, event_shows, event_stays}
 
@@ -134,11 +134,13 @@ drop_running v w c worker now m u shows within there empty part runs =
     let hands : List (Option ThreadRecord) = slice_set v.hands worker (Some (before_sleep now m.thread)) in
     let made : CpuValue = (value_taken (before_sleep now) now u).0 in
     let meant : Side = (dropped c worker now (side_of c w)).0 in
-    subst (λ (o : Option Taken). Agree (value_dropped_with worker c made o v) (on_side c (dropped c worker now) w)) (sym event.0.out)
-    (event_shows v w c made hands meant shows within event.1 (length-set v.hands worker _)
-    (threads_move v (changed_at c made hands v) c m.thread.id (held_member worker (before_sleep now m.thread)) w.members meant.members (threads_shown v w shows) (subst (λ (i : ℕ). c < i) (sym (length-set v.cpus c made)) within)
-    (drop_moves v w c worker now m made shows (subst (λ (i : ℕ). worker < i) (sym shows.hand_count) there) empty runs)
-    (dropped_own c worker now m (side_of c w) shows.made runs) (dropped_others c worker now m (side_of c w) shows.made runs)), sym event.0.answer)
+    subst (λ (o : Option Taken). Agree (value_dropped_with worker c made o v) (on_side c (dropped c worker now) w)) (sym event.0.out) (
+      event_shows v w c made hands meant shows within event.1 (length-set v.hands worker _)
+          (threads_move v (changed_at c made hands v) c m.thread.id (held_member worker (before_sleep now m.thread)) w.members meant.members (threads_shown v w shows) (subst (λ (i : ℕ). c < i) (sym (length-set v.cpus c made)) within)
+          (drop_moves v w c worker now m made shows (subst (λ (i : ℕ). worker < i) (sym shows.hand_count) there) empty runs)
+          (dropped_own c worker now m (side_of c w) shows.made runs) (dropped_others c worker now m (side_of c w) shows.made runs)),
+      sym event.0.answer,
+    )
 
 -- where none ran
 drop_idle : (v : WorldValue) (w : World) (c worker now : ℕ) (u : CpuValue) → Shows v w → IsPart w c u → current_of c w.members ≡ None →
@@ -212,9 +214,9 @@ land_held v w c worker r u shows within there held part =
     let made : CpuValue = value_added r (not (worker == c)) u in
     let meant : Side = (landed r.id c worker (side_of c w)).0 in (
       event_shows v w c made hands meant shows within event.1 (length-set v.hands worker None)
-      (threads_move v (changed_at c made hands v) c r.id own.2 w.members meant.members (threads_shown v w shows) (subst (λ (i : ℕ). c < i) (sym (length-set v.cpus c made)) within)
-      (land_moves v w c worker r made own.0 own.1 own.2 shows within (subst (λ (i : ℕ). worker < i) (sym shows.hand_count) there) held own.4) own.3
-      (λ t other. stays_same c (thread_of t w.members) (thread_of t meant.members) (landed_others r.id c worker t (side_of c w) other))),
+          (threads_move v (changed_at c made hands v) c r.id own.2 w.members meant.members (threads_shown v w shows) (subst (λ (i : ℕ). c < i) (sym (length-set v.cpus c made)) within)
+          (land_moves v w c worker r made own.0 own.1 own.2 shows within (subst (λ (i : ℕ). worker < i) (sym shows.hand_count) there) held own.4) own.3
+          (λ t other. stays_same c (thread_of t w.members) (thread_of t meant.members) (landed_others r.id c worker t (side_of c w) other))),
       sym event.0.answer,
     )
 

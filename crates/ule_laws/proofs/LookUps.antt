@@ -2,14 +2,12 @@
 use Rattle.std.proofs.Common.{◌≡◌, ◌≢◌, ℕ, zero, suc, ◌+◌, ◌%◌, ◌<◌, ◌==◌, Bool, true, false, ◌&&◌, List, [], ◌∷◌, length, Option, Some, None, ◌⊎◌, inl, inr, ⊎_elim, if◌then◌else◌, refl, sym, ◌∙◌, ap, subst, arith}
 use Rattle.std.specs.Prelude.{IfSome, option_and_then, slice_get, slice_index_or}
 use Rattle.std.specs.Option.{option_map}
-use Rattle.std.proofs.lemmas.Bool.{and_left, cases_eq, cond-false, cond-true, eq-eqb, ne_eqb}
+use Rattle.std.proofs.lemmas.Bool.{and_left, cond-false, eq-eqb, ne_eqb}
 use Rattle.std.proofs.lemmas.Option.{IfSome_then, none-some, same_Some}
-use Rattle.ule_score.specs.declared.place.Place.{Place}
 use Rattle.ule_score.specs.declared.place.Place.TheVariants.{Asleep, Hand}
 use Rattle.ule_score.specs.declared.record.ThreadRecord.{ThreadRecord}
 use Rattle.ule_sleep.specs.Chain.{ChainValue, sleeper_in}
 use Rattle.ule_sleep.specs.declared.chain.Sleeper.{Sleeper}
-use Rattle.ule_types.specs.declared.outcome.ThreadLine.{ThreadLine}
 use Rattle.ule_model.specs.CpuValue.{CpuValue, thread_on}
 use Rattle.ule_model.specs.Finals.{line_of}
 use Rattle.ule_model.specs.Places.{is_on}
@@ -17,9 +15,9 @@ use Rattle.ule_model.specs.World.{Member, World, is_thread, thread_of}
 use Rattle.ule_model.specs.WorldValue.{WorldValue, IsAt, IsPart, Shows, asleep_member, first_found, held_by, held_member, holder_among, line_in_hands, sleeper_among, sleeper_at}
 use Rattle.ule_members.proofs.Membership.{has_thread_of}
 use Rattle.ule_members.proofs.Threads.{find_nowhere, none_passes, thread_on_within}
-use Rattle.ule_members.proofs.Within.{Within, all_along, within_thread}
+use Rattle.ule_members.proofs.Within.{all_along, within_thread}
 use Rattle.ule_laws.proofs.Elsewhere.{IsOn}
-use Rattle.ule_laws.proofs.ValueLaws.{ShowsThreads, asleep_shown, at_some, held_shown, if_some, one_hand, one_place, threads_shown}
+use Rattle.ule_laws.proofs.ValueLaws.{asleep_shown, at_some, held_shown, one_hand, one_place, threads_shown}
 use Rattle.ule_laws.proofs.WorldLaws.{HasCpu, cpu_at}
 
 -- ---- on the CPUs

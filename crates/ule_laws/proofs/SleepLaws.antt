@@ -286,10 +286,12 @@ wake_asleep : (v : WorldValue) (w : World) (worker now t : ℕ) (x : Sleeper) �
     Agree (value_woken worker now (Some x) t v) (woken_world (Some (asleep_member x)) worker now w.settings w)
 wake_asleep v w worker now t x shows within keeps empty found =
     let chain : HasChain v (x.channel % 8) = chain_at v x.channel shows.chain_count keeps in
-    subst (λ (settings : Settings). Agree (value_woken worker now (Some x) t v) (woken_world (Some (asleep_member x)) worker now settings w)) shows.settings
-    (subst (λ (u : ℕ). Shows (value_woken worker now (Some x) t v).0 (record w { members = moved_to u (Hand worker) (pos 0) (with_record u (after_sleep v.settings now) w.members) })) (sym (has_thread_of t (asleep_member x) w.members found).1)
-    (subst (λ (o : Option ChainValue). Shows (with_hand worker (Some (after_sleep v.settings now x.thread)) (with_chain (x.channel % 8) (without_sleeper t) o v)) (record w { members = moved_to t (Hand worker) (pos 0) (with_record t (after_sleep v.settings now) w.members) })) (sym chain.found)
-    (woken_shows v w worker now t x shows within keeps empty found chain)), refl)
+    subst (λ (settings : Settings). Agree (value_woken worker now (Some x) t v) (woken_world (Some (asleep_member x)) worker now settings w)) shows.settings (
+      subst (λ (u : ℕ). Shows (value_woken worker now (Some x) t v).0 (record w { members = moved_to u (Hand worker) (pos 0) (with_record u (after_sleep v.settings now) w.members) })) (sym (has_thread_of t (asleep_member x) w.members found).1)
+          (subst (λ (o : Option ChainValue). Shows (with_hand worker (Some (after_sleep v.settings now x.thread)) (with_chain (x.channel % 8) (without_sleeper t) o v)) (record w { members = moved_to t (Hand worker) (pos 0) (with_record t (after_sleep v.settings now) w.members) })) (sym chain.found)
+          (woken_shows v w worker now t x shows within keeps empty found chain)),
+      refl,
+    )
 
 -- where the thread stands on a CPU it stays
 wake_on : (v : WorldValue) (w : World) (t : ℕ) (m : Member) (c : ℕ) → Shows v w → thread_of t w.members ≡ Some m → c < length v.cpus → IsOn c m.place → not_asleep_reply (place_among v.cpus t) ≡ NotAsleep m.place

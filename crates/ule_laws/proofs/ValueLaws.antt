@@ -1,15 +1,14 @@
 -- The threads that a scheduler has asleep and in hands are those of the world that it shows, and
 -- stay so when one thread moves.
-use Rattle.std.proofs.Common.{◌≡◌, ◌≢◌, ℕ, ◌<◌, true, List, length, Option, Some, None, ◌⊎◌, inl, inr, ⊎_elim, refl, sym, ◌∙◌, ap, subst, arith, length-set, get_or-set_same, get_or-set_other}
+use Rattle.std.proofs.Common.{◌≡◌, ◌≢◌, ℕ, ◌<◌, true, List, length, Option, Some, None, ◌⊎◌, inl, inr, ⊎_elim, refl, sym, ◌∙◌, ap, subst, length-set, get_or-set_same, get_or-set_other}
 use Rattle.std.specs.Prelude.{IfSome, slice_set, slice_index_or}
 use Rattle.std.proofs.lemmas.Bool.{cases_eq, or_cases}
-use Rattle.std.proofs.lemmas.Option.{IfSome_then, same_Some, none-some}
-use Rattle.ule_prio.specs.declared.kind.Kind.{Kind}
+use Rattle.std.proofs.lemmas.Option.{same_Some, none-some}
 use Rattle.ule_score.specs.declared.place.Place.{Place}
 use Rattle.ule_score.specs.declared.place.Place.TheVariants.{Running, Queued, Asleep, Unborn, Gone, Hand}
 use Rattle.ule_score.specs.declared.record.ThreadRecord.{ThreadRecord}
 use Rattle.ule_sleep.specs.declared.chain.Sleeper.{Sleeper}
-use Rattle.ule_model.specs.Places.{runs_on, waits_on, is_on}
+use Rattle.ule_model.specs.Places.{runs_on, waits_on}
 use Rattle.ule_model.specs.World.{Member, World, thread_of}
 use Rattle.ule_model.specs.WorldValue.{WorldValue, IsAt, Shows, asleep_member, held_by, held_member, sleeper_at}
 use Rattle.ule_laws.proofs.CpuRest.{StaysOn, stays_asleep}

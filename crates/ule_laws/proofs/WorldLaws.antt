@@ -7,7 +7,7 @@ use Rattle.ule_score.specs.declared.record.ThreadRecord.{ThreadRecord}
 use Rattle.ule_types.specs.declared.event.Reply.{Reply}
 use Rattle.ule_model.specs.CpuValue.{CpuValue, StandsFor}
 use Rattle.ule_model.specs.Shows.{IsWellMade}
-use Rattle.ule_model.specs.World.{Member, Side, World, side_of, with_side, thread_of}
+use Rattle.ule_model.specs.World.{Side, World, side_of, with_side, thread_of}
 use Rattle.ule_model.specs.WorldValue.{WorldValue, IsPart, Shows}
 use Rattle.ule_laws.proofs.CpuRest.{StaysOn}
 use Rattle.ule_laws.proofs.Elsewhere.{side_own}
