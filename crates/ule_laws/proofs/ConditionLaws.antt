@@ -67,6 +67,7 @@ record IsHeld (v : WorldValue) (w : World) (worker t : ℕ) : Type 0 where
   held : held_by v worker ≡ Some member.thread
   number : member.thread.id ≡ t
 
+-- the thread whose holder a worker is in the world is in its hand
 holder_holds : (v : WorldValue) (w : World) (worker t : ℕ) → Shows v w → holder_of w.members t ≡ Some worker → IsHeld v w worker t
 holder_holds v w worker t shows holds = split (thread_of t w.members) refl holds
   where

@@ -169,11 +169,12 @@ line_stands v s t stands made =
 
 -- ---- the lines of all threads
 
--- where a CPU that there is has a thread, or all of them have none, is where the world has it
+-- the place of a thread on some CPUs is what the first of them that has it tells
 pub place_among_is : (vs : List CpuValue) (t : ℕ) → place_among vs t ≡ among (λ v. option_map (λ at. at.0) (value_place v t)) vs
 place_among_is [] t = refl
 place_among_is (v ∷ vs) t = ap (first_found (option_map (λ (at : Place × ℕ). at.0) (value_place v t))) (place_among_is vs t)
 
+-- each CPU tells the world's place of a thread that is on it
 pub places_told : (w : World) (t : ℕ) → IsWellMade w.members → EachTells w t (λ v. option_map (λ at. at.0) (value_place v t)) (λ m. m.place)
 places_told w t made c u part =
     subst (λ (d : ℕ). option_map (λ (at : Place × ℕ). at.0) (value_place u t) ≡ option_map (λ (m : Member). m.place) (thread_on d t w.members)) part.cpu
@@ -183,11 +184,12 @@ places_told w t made c u part =
     twice None = refl
     twice (Some m) = refl
 
--- the same of its line
+-- the line of a thread on some CPUs is what the first of them that has it tells
 pub line_among_is : (vs : List CpuValue) (t : ℕ) → line_among vs t ≡ among (λ v. value_line v t) vs
 line_among_is [] t = refl
 line_among_is (v ∷ vs) t = ap (first_found (value_line v t)) (line_among_is vs t)
 
+-- each CPU tells the world's line of a thread that is on it
 pub lines_told : (w : World) (t : ℕ) → IsWellMade w.members → EachTells w t (λ v. value_line v t) (thread_line w.members)
 lines_told w t made c u part =
     subst (λ (d : ℕ). value_line u t ≡ option_map (thread_line w.members) (thread_on d t w.members)) part.cpu (line_stands u (side_of c w) t part.stands made)

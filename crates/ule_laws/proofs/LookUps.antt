@@ -162,11 +162,12 @@ in_hands_one {X = X} g w (x ∷ xs) t (suc h) r held number one =
         apart : zero ≢ suc h
         apart e = cc
 
--- the line and the holder of a thread in a hand are told so
+-- the line of a thread in a hand is told so
 pub line_in_hands_is : (w : ℕ) (hs : List (Option ThreadRecord)) (t : ℕ) → line_in_hands w hs t ≡ in_hands (λ h r. line_of r (Hand h) 0) w hs t
 line_in_hands_is w [] t = refl
 line_in_hands_is w (h ∷ hs) t = ap (first_found (option_and_then (λ (r : ThreadRecord). if r.id == t then Some (line_of r (Hand w) 0) else None) h)) (line_in_hands_is (suc w) hs t)
 
+-- and so is its holder
 pub holder_among_is : (w : ℕ) (hs : List (Option ThreadRecord)) (t : ℕ) → holder_among w hs t ≡ in_hands (λ h r. h) w hs t
 holder_among_is w [] t = refl
 holder_among_is w (h ∷ hs) t = ap (first_found (option_and_then (λ (r : ThreadRecord). if r.id == t then Some w else None) h)) (holder_among_is (suc w) hs t)
