@@ -1,36 +1,38 @@
 -- The lines that a scheduler tells at the end are those of the world that it shows.
-use Rattle.std.proofs.Common.{◌≡◌, ◌≢◌, ℕ, zero, suc, Bool, true, false, ◌&&◌, List, [], ◌∷◌, length, Option, Some, None, ◌⊎◌, inl, inr, ⊎_elim, if◌then◌else◌, refl, sym, ◌∙◌, ap, subst}
-use Rattle.std.specs.Prelude.{IfSome, slice_get, option_and_then}
+use Rattle.std.proofs.Common.{◌≡◌, ◌≢◌, ℕ, ◌<◌, ◌==◌, Bool, true, false, ◌&&◌, List, [], ◌∷◌, length, Option, Some, None, ⊎_elim, if◌then◌else◌, refl, sym, ◌∙◌, ap, subst}
+use Rattle.std.specs.Prelude.{IfSome, option_and_then}
 use Rattle.std.specs.List.{cons_option, filter_map, range_with_len}
 use Rattle.std.specs.Option.{option_map}
-use Rattle.std.proofs.lemmas.Bool.{and_left, and_from, both_ways, eq-eqb, eqb-true, ne_eqb, or_cases, or_left, or_right}
-use Rattle.std.proofs.lemmas.Option.{IfSome_then, same_Some, none-some}
+use Rattle.std.proofs.lemmas.Bool.{and_from, both_ways, eq-eqb, ne_eqb, or_cases, or_left, or_right}
+use Rattle.std.proofs.lemmas.Option.{same_Some, none-some}
 use Rattle.ule_prio.specs.declared.kind.Kind.{Kind}
 use Rattle.ule_prio.specs.declared.kind.Kind.TheVariants.{Real, Batch, Idle}
 use Rattle.ule_runq.specs.Runq.{place_in}
 use Rattle.ule_score.specs.declared.place.Place.{Place}
 use Rattle.ule_score.specs.declared.place.Place.TheVariants.{Running, Queued, Asleep, Unborn, Gone, Hand}
 use Rattle.ule_score.specs.declared.record.ThreadRecord.{ThreadRecord}
+use Rattle.ule_sleep.specs.declared.chain.Sleeper.{Sleeper}
 use Rattle.ule_types.specs.declared.outcome.ThreadLine.{ThreadLine}
 use Rattle.ule_model.specs.CpuValue.{CpuValue, StandsFor, thread_on}
 use Rattle.ule_model.specs.Finals.{position_of, line_of, thread_line, thread_lines}
 use Rattle.ule_model.specs.Places.{rank_of, runs_on, waits_on, is_on}
 use Rattle.ule_model.specs.Shows.{ShowsQueue, IsWellMade}
 use Rattle.ule_model.specs.World.{Member, Side, World, is_thread, thread_of, current_of, side_of}
-use Rattle.ule_model.specs.WorldValue.{WorldValue, IsPart, IsOnOne, Shows, queued_place, first_place, current_place, value_place, value_line, first_line, line_among, value_lines}
-use Rattle.ule_laws.proofs.Elsewhere.{IsOn}
+use Rattle.ule_model.specs.WorldValue.{WorldValue, IsAt, Shows, asleep_member, current_place, first_found, held_member, line_among, line_at, line_in_hands, place_among, queued_place, sleeper_among, sleeper_line, value_line, value_lines, value_place}
 use Rattle.ule_members.proofs.Membership.{Has, all_has, has_within, same_from_number}
-use Rattle.ule_laws.proofs.PlaceLaws.{place_from_waits_on, waits_on_place}
+use Rattle.ule_members.proofs.Threads.{find_only, none_passes, no_other_runs, within_thread_on, thread_on_stands, current_runs, within_current}
+use Rattle.ule_members.proofs.Within.{Within}
+use Rattle.ule_laws.proofs.Elsewhere.{IsOn}
+use Rattle.ule_laws.proofs.LookUps.{EachTells, among, line_in_hands_is, none_asleep, none_held, one_asleep, one_held, thread_on_none, thread_on_off, told_off, told_on}
+use Rattle.ule_laws.proofs.PlaceLaws.{place_from_runs_on, place_from_waits_on, waits_on_place}
 use Rattle.ule_laws.proofs.Positions.{place_in_shown, place_in_lacks}
-use Rattle.ule_members.proofs.Threads.{find_only, find_nowhere, none_passes, no_other_runs, thread_on_within, within_thread_on, thread_on_stands, current_runs, within_current}
-use Rattle.ule_members.proofs.Within.{Within, all_along, within_thread}
-use Rattle.ule_laws.proofs.WorldLaws.{IsAt, cpu_at}
+use Rattle.ule_laws.proofs.ValueLaws.{one_place}
 
 -- ---- the place of a thread
 
 -- what a CPU's parts say of a thread's place: as current thread, and in each queue
 abbrev pub places : ℕ → Option (Place × ℕ) → Option (ℕ × ℕ) → Option (ℕ × ℕ) → Option (ℕ × ℕ) → Option (Place × ℕ)
-places c now real batch idle = first_place now (first_place (queued_place c Real real) (first_place (queued_place c Batch batch) (queued_place c Idle idle)))
+places c now real batch idle = first_found now (first_found (queued_place c Real real) (first_found (queued_place c Batch batch) (queued_place c Idle idle)))
 
 -- with one of them given
 pub places_by : (c : ℕ) (a x : Option (Place × ℕ)) (r y b z i u : Option (ℕ × ℕ)) → a ≡ x → r ≡ y → b ≡ z → i ≡ u → places c a r b i ≡ places c x y z u
@@ -73,25 +75,16 @@ place_nowhere v s t stands made none =
     none_on v.cpu t s.members none m.0 m.1.0 (m.1.1.0 ∙ same) (or_left (runs_on v.cpu m.0.place) (waits_on v.cpu m.0.place) m.1.1.1)))
     (queue_lacks v.real v.cpu Real t s.members stands.real none) (queue_lacks v.batch v.cpu Batch t s.members stands.batch none) (queue_lacks v.idle v.cpu Idle t s.members stands.idle none)
 
--- a place where a thread runs
-pub place_from_runs_on : (c : ℕ) (p : Place) → runs_on c p ≡ true → p ≡ Running c
-place_from_runs_on c (Running d) runs = ap (λ (e : ℕ). Running e) (sym (eqb-true c d runs))
-place_from_runs_on c (Queued d k b) runs = absurd (both_ways false refl runs)
-place_from_runs_on c (Asleep channel) runs = absurd (both_ways false refl runs)
-place_from_runs_on c Unborn runs = absurd (both_ways false refl runs)
-place_from_runs_on c Gone runs = absurd (both_ways false refl runs)
-place_from_runs_on c (Hand w) runs = absurd (both_ways false refl runs)
-
 -- a thread that runs is the current one
 pub place_running : (v : CpuValue) (s : Side) (m : Member) → StandsFor v s → Within m.thread.id m s.members → runs_on v.cpu m.place ≡ true →
     value_place v m.thread.id ≡ Some (m.place, position_of m.place m.order s.members)
 place_running v s m stands w runs =
-    ap (λ (o : Option ℕ). first_place (current_place v.cpu o m.thread.id) queues) (stands.current ∙ ap (option_map (λ (n : Member). n.thread.id)) current) ∙
-    ap (λ (d : Bool). first_place (if d then Some (Running v.cpu, 0) else None) queues) (eq-eqb m.thread.id m.thread.id refl) ∙
+    ap (λ (o : Option ℕ). first_found (current_place v.cpu o m.thread.id) queues) (stands.current ∙ ap (option_map (λ (n : Member). n.thread.id)) current) ∙
+    ap (λ (d : Bool). first_found (if d then Some (Running v.cpu, 0) else None) queues) (eq-eqb m.thread.id m.thread.id refl) ∙
     ap (λ (p : Place). Some (p, position_of p m.order s.members)) (sym (place_from_runs_on v.cpu m.place runs))
   where
     queues : Option (Place × ℕ)
-    queues = first_place (queued_place v.cpu Real (place_in v.real m.thread.id)) (first_place (queued_place v.cpu Batch (place_in v.batch m.thread.id)) (queued_place v.cpu Idle (place_in v.idle m.thread.id)))
+    queues = first_found (queued_place v.cpu Real (place_in v.real m.thread.id)) (first_found (queued_place v.cpu Batch (place_in v.batch m.thread.id)) (queued_place v.cpu Idle (place_in v.idle m.thread.id)))
 
     current : current_of v.cpu s.members ≡ Some m
     current =
@@ -176,56 +169,88 @@ line_stands v s t stands made =
 
 -- ---- the lines of all threads
 
--- no CPU tells a line of a thread that none has
-pub among_none : (vs : List CpuValue) (t : ℕ) → ((i : ℕ) → IfSome (slice_get vs i) (λ u. value_line u t ≡ None)) → line_among vs t ≡ None
-among_none [] t each = refl
-among_none (x ∷ xs) t each = ap (λ (o : Option ThreadLine). first_line o (line_among xs t)) (each 0) ∙ among_none xs t (λ i. each (suc i))
+-- the place of a thread on some CPUs is what the first of them that has it tells
+pub place_among_is : (vs : List CpuValue) (t : ℕ) → place_among vs t ≡ among (λ v. option_map (λ at. at.0) (value_place v t)) vs
+place_among_is [] t = refl
+place_among_is (v ∷ vs) t = ap (first_found (option_map (λ (at : Place × ℕ). at.0) (value_place v t))) (place_among_is vs t)
 
--- where one CPU tells a line of it and no other tells another, that is the line
-pub among_one : (vs : List CpuValue) (t : ℕ) (line : ThreadLine) → ((i : ℕ) → IfSome (slice_get vs i) (λ u. (value_line u t ≡ None) ⊎ (value_line u t ≡ Some line))) → (c : ℕ) (u : CpuValue) → slice_get vs c ≡ Some u → value_line u t ≡ Some line → line_among vs t ≡ Some line
-among_one [] t line each c u found told = absurd (none-some u found)
-among_one (x ∷ xs) t line each zero u found told = ap (λ (o : Option ThreadLine). first_line o (line_among xs t)) (ap (λ (y : CpuValue). value_line y t) (same_Some x u found) ∙ told)
-among_one (x ∷ xs) t line each (suc c) u found told =
-    ⊎_elim
-    (λ (none : value_line x t ≡ None). ap (λ (o : Option ThreadLine). first_line o (line_among xs t)) none ∙ among_one xs t line (λ i. each (suc i)) c u found told)
-    (λ (here : value_line x t ≡ Some line). ap (λ (o : Option ThreadLine). first_line o (line_among xs t)) here)
-    (each 0)
+-- each CPU tells the world's place of a thread that is on it
+pub places_told : (w : World) (t : ℕ) → IsWellMade w.members → EachTells w t (λ v. option_map (λ at. at.0) (value_place v t)) (λ m. m.place)
+places_told w t made c u part =
+    subst (λ (d : ℕ). option_map (λ (at : Place × ℕ). at.0) (value_place u t) ≡ option_map (λ (m : Member). m.place) (thread_on d t w.members)) part.cpu
+    (ap (option_map (λ (at : Place × ℕ). at.0)) (place_stands u (side_of c w) t part.stands made) ∙ twice (thread_on u.cpu t w.members))
+  where
+    twice : (o : Option Member) → option_map (λ (at : Place × ℕ). at.0) (option_map (λ m. (m.place, position_of m.place m.order w.members)) o) ≡ option_map (λ m. m.place) o
+    twice None = refl
+    twice (Some m) = refl
 
--- a thread that isn't in the world is on no CPU
-pub thread_on_none : (c t : ℕ) (ms : List Member) → thread_of t ms ≡ None → thread_on c t ms ≡ None
-thread_on_none c t ms none =
-    find_nowhere (λ n. is_thread t n && is_on c n.place) ms
-    (all_along (λ n. is_thread t n ≡ false) (λ n. (is_thread t n && is_on c n.place) ≡ false) ms (λ n fails. and_left (is_thread t n) (is_on c n.place) fails) (none_passes (is_thread t) ms none))
+-- the line of a thread on some CPUs is what the first of them that has it tells
+pub line_among_is : (vs : List CpuValue) (t : ℕ) → line_among vs t ≡ among (λ v. value_line v t) vs
+line_among_is [] t = refl
+line_among_is (v ∷ vs) t = ap (first_found (value_line v t)) (line_among_is vs t)
 
--- the line of a thread is told by the CPU that it is on
-pub line_shown : (v : WorldValue) (w : World) (t : ℕ) → Shows v w → line_among v.cpus t ≡ option_map (thread_line w.members) (thread_of t w.members)
+-- each CPU tells the world's line of a thread that is on it
+pub lines_told : (w : World) (t : ℕ) → IsWellMade w.members → EachTells w t (λ v. value_line v t) (thread_line w.members)
+lines_told w t made c u part =
+    subst (λ (d : ℕ). value_line u t ≡ option_map (thread_line w.members) (thread_on d t w.members)) part.cpu (line_stands u (side_of c w) t part.stands made)
+
+-- with the parts of a line given
+line_by : (v : WorldValue) (t : ℕ) (a : Option ThreadLine) (s : Option Sleeper) (h : Option ThreadLine) → line_among v.cpus t ≡ a → sleeper_among v.chains t ≡ s → line_in_hands 0 v.hands t ≡ h → line_at v t ≡ first_found a (first_found (option_map sleeper_line s) h)
+line_by v t a s h on asleep held =
+    ap (λ (o : Option ThreadLine). first_found o (first_found (option_map sleeper_line (sleeper_among v.chains t)) (line_in_hands 0 v.hands t))) on ∙
+    ap (λ (o : Option Sleeper). first_found a (first_found (option_map sleeper_line o) (line_in_hands 0 v.hands t))) asleep ∙ ap (λ (o : Option ThreadLine). first_found a (first_found (option_map sleeper_line s) o)) held
+
+-- the line of a thread on a CPU
+line_on : (v : WorldValue) (w : World) (t : ℕ) (m : Member) (c : ℕ) → Shows v w → thread_of t w.members ≡ Some m → c < length v.cpus → IsOn c m.place → line_at v t ≡ Some (thread_line w.members m)
+line_on v w t m c shows found within on =
+    line_by v t (Some (thread_line w.members m)) (sleeper_among v.chains t) (line_in_hands 0 v.hands t)
+    (line_among_is v.cpus t ∙ told_on (λ u. value_line u t) (thread_line w.members) v w t m c shows (lines_told w t shows.made) found within on) refl refl
+
+-- no CPU tells the line of a thread on none
+no_line : (v : WorldValue) (w : World) (t : ℕ) → Shows v w → ((c : ℕ) → thread_on c t w.members ≡ None) → line_among v.cpus t ≡ None
+no_line v w t shows off = line_among_is v.cpus t ∙ told_off (λ u. value_line u t) (thread_line w.members) v w t shows (lines_told w t shows.made) off
+
+-- the line of a thread asleep
+line_asleep : (v : WorldValue) (w : World) (t : ℕ) (m : Member) (channel : ℕ) → Shows v w → thread_of t w.members ≡ Some m → m.place ≡ Asleep channel → line_at v t ≡ Some (thread_line w.members m)
+line_asleep v w t m channel shows found place =
+    let one : (x : Sleeper) × (sleeper_among v.chains t ≡ Some x) × (m ≡ asleep_member x) = one_asleep v w t m channel shows found place in
+    line_by v t None (Some one.0) (line_in_hands 0 v.hands t) (no_line v w t shows (λ c. thread_on_off c t m w v shows found (ap (is_on c) place))) one.1 refl ∙
+    ap (λ (n : Member). Some (thread_line w.members n)) (sym one.2)
+
+-- the line of a thread in a hand
+line_held : (v : WorldValue) (w : World) (t : ℕ) (m : Member) (h : ℕ) → Shows v w → thread_of t w.members ≡ Some m → m.place ≡ Hand h → line_at v t ≡ Some (thread_line w.members m)
+line_held v w t m h shows found place =
+    line_by v t None None (Some (line_of m.thread (Hand h) 0)) (no_line v w t shows (λ c. thread_on_off c t m w v shows found (ap (is_on c) place)))
+    (none_asleep v w t shows (λ x asleep. two_places x (sym place ∙ one_place t w.members m (asleep_member x) found asleep)))
+    (line_in_hands_is 0 v.hands t ∙ one_held (λ i r. line_of r (Hand i) 0) v w t m h shows found place) ∙
+    ap (λ (p : Place). Some (line_of m.thread p (position_of p m.order w.members))) (sym place)
+  where
+    two_places : (x : Sleeper) → Hand h ≢ Asleep x.channel
+    two_places x e = cc
+
+-- the line of a thread that isn't in the world
+line_nowhere : (v : WorldValue) (w : World) (t : ℕ) → Shows v w → thread_of t w.members ≡ None → line_at v t ≡ None
+line_nowhere v w t shows none =
+    line_by v t None None None (no_line v w t shows (λ c. thread_on_none c t w.members none))
+    (none_asleep v w t shows (λ x asleep. none-some (asleep_member x) (sym none ∙ asleep)))
+    (line_in_hands_is 0 v.hands t ∙ none_held (λ i r. line_of r (Hand i) 0) v w t shows (λ h r held. none-some (held_member h r) (sym none ∙ held)))
+
+-- the line of a thread at a place
+line_placed : (v : WorldValue) (w : World) (t : ℕ) (m : Member) (p : Place) → Shows v w → thread_of t w.members ≡ Some m → m.place ≡ p → IsAt v m.thread p → line_at v t ≡ Some (thread_line w.members m)
+line_placed v w t m (Running c) shows found place at = line_on v w t m c shows found at (ap (is_on c) place ∙ or_left (c == c) false (eq-eqb c c refl))
+line_placed v w t m (Queued c k b) shows found place at = line_on v w t m c shows found at (ap (is_on c) place ∙ eq-eqb c c refl)
+line_placed v w t m (Asleep channel) shows found place at = line_asleep v w t m channel shows found place
+line_placed v w t m Unborn shows found place at = absurd at
+line_placed v w t m Gone shows found place at = absurd at
+line_placed v w t m (Hand h) shows found place at = line_held v w t m h shows found place
+
+-- the line of each thread number is the world's
+pub line_shown : (v : WorldValue) (w : World) (t : ℕ) → Shows v w → line_at v t ≡ option_map (thread_line w.members) (thread_of t w.members)
 line_shown v w t shows = split (thread_of t w.members) refl (shows.places t)
   where
-    -- what CPU i tells of it
-    told : (i : ℕ) (u : CpuValue) → IsPart w i u → value_line u t ≡ option_map (thread_line w.members) (thread_on i t w.members)
-    told i u part = subst (λ (d : ℕ). value_line u t ≡ option_map (thread_line w.members) (thread_on d t w.members)) part.cpu (line_stands u (side_of i w) t part.stands shows.made)
-
-    tells : (m : Member) → Within t m w.members → (i : ℕ) (u : CpuValue) → IsPart w i u → value_line u t ≡ option_map (thread_line w.members) (if is_on i m.place then Some m else None)
-    tells m at i u part = told i u part ∙ ap (option_map (thread_line w.members)) (thread_on_within i t m w.members at)
-
-    none_or_it : (m : Member) (i : ℕ) (d : Bool) → (option_map (thread_line w.members) (if d then Some m else None) ≡ None) ⊎ (option_map (thread_line w.members) (if d then Some m else None) ≡ Some (thread_line w.members m))
-    none_or_it m i true = inr refl
-    none_or_it m i false = inl refl
-
-    split : (o : Option Member) → thread_of t w.members ≡ o → IfSome o (IsOnOne (length v.cpus)) → line_among v.cpus t ≡ option_map (thread_line w.members) o
-    split None found on =
-        among_none v.cpus t (λ i. IfSome_then (slice_get v.cpus i) {P = IsPart w i} {Q = λ u. value_line u t ≡ None} (shows.parts i)
-        (λ u part. told i u part ∙ ap (option_map (thread_line w.members)) (thread_on_none i t w.members found)))
-    split (Some m) found on =
-        let at : Within t m w.members = within_thread t w.members m shows.made found in
-        let c : IsAt v w on.cpu = cpu_at v w on.cpu shows on.within in
-        among_one v.cpus t (thread_line w.members m)
-        (λ i. IfSome_then (slice_get v.cpus i) {P = IsPart w i} {Q = λ u. (value_line u t ≡ None) ⊎ (value_line u t ≡ Some (thread_line w.members m))} (shows.parts i)
-        (λ u part. ⊎_elim
-        (λ (none : option_map (thread_line w.members) (if is_on i m.place then Some m else None) ≡ None). inl (tells m at i u part ∙ none))
-        (λ (it : option_map (thread_line w.members) (if is_on i m.place then Some m else None) ≡ Some (thread_line w.members m)). inr (tells m at i u part ∙ it))
-        (none_or_it m i (is_on i m.place))))
-        on.cpu c.value c.found (tells m at on.cpu c.value c.part ∙ ap (λ (d : Bool). option_map (thread_line w.members) (if d then Some m else None)) on.on)
+    split : (o : Option Member) → thread_of t w.members ≡ o → IfSome o (λ m. IsAt v m.thread m.place) → line_at v t ≡ option_map (thread_line w.members) o
+    split None found at = line_nowhere v w t shows found
+    split (Some m) found at = line_placed v w t m m.place shows found refl at
 
 -- two functions that agree give one list
 pub filter_map_same : {X Y : Type 0} (f g : X → Option Y) → ((x : X) → f x ≡ g x) → (xs : List X) → filter_map f xs ≡ filter_map g xs
@@ -235,4 +260,4 @@ filter_map_same {X} {Y} f g same (x ∷ xs) = ap (λ (o : Option Y). cons_option
 -- the lines of all threads are the world's
 pub lines_shown : (v : WorldValue) (w : World) → Shows v w → value_lines v ≡ thread_lines w.members
 lines_shown v w shows =
-    filter_map_same (line_among v.cpus) (λ t. option_map (thread_line w.members) (thread_of t w.members)) (λ t. line_shown v w t shows) (range_with_len 0 256)
+    filter_map_same (line_at v) (λ t. option_map (thread_line w.members) (thread_of t w.members)) (λ t. line_shown v w t shows) (range_with_len 0 256)

@@ -11,6 +11,12 @@ pub mod Elsewhere
 pub mod RecordLaws
 pub mod CpuEvents
 pub mod CpuRest
+pub mod ValueLaws
 pub mod WorldLaws
+pub mod LookUps
 pub mod FinalLaws
+pub mod SleepLaws
+pub mod CpuSteps
+pub mod StepLaws
 pub mod StartLaws
+pub mod ConditionLaws

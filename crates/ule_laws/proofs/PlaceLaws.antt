@@ -1,12 +1,12 @@
 -- What the tests of a place say of it.
-use Rattle.std.proofs.Common.{◌≡◌, ℕ, true, ◌&&◌, ◌==◌, refl, sym, ◌∙◌, ap}
-use Rattle.std.proofs.lemmas.Bool.{and_parts, eqb-true, eq-eqb}
+use Rattle.std.proofs.Common.{◌≡◌, ℕ, true, false, ◌&&◌, ◌==◌, refl, sym, ◌∙◌, ap}
+use Rattle.std.proofs.lemmas.Bool.{and_parts, both_ways, eqb-true, eq-eqb}
 use Rattle.ule_prio.specs.declared.kind.Kind.{Kind}
 use Rattle.ule_prio.specs.declared.kind.Kind.TheVariants.{Real, Batch, Idle}
 use Rattle.ule_score.specs.declared.place.Place.{Place}
 use Rattle.ule_score.specs.declared.place.Place.TheVariants.{Running, Queued, Asleep, Unborn, Gone, Hand}
 use Rattle.ule_laws.proofs.Buckets.{waits_in_itself}
-use Rattle.ule_model.specs.Places.{rank_of, is_kind, waits_in, waits_on}
+use Rattle.ule_model.specs.Places.{rank_of, is_kind, runs_on, waits_in, waits_on}
 
 -- two kinds of one rank are one
 pub kind_from_rank : (k j : Kind) → rank_of k ≡ rank_of j → k ≡ j
@@ -49,3 +49,12 @@ place_from_waits_on c (Hand w) waits = absurd (cc)
 
 pub waits_on_place : (c : ℕ) (k : Kind) (b : ℕ) (p : Place) → p ≡ Queued c k b → waits_on c p ≡ true
 waits_on_place c k b p is = ap (waits_on c) is ∙ eq-eqb c c refl
+
+-- a place where a thread runs
+pub place_from_runs_on : (c : ℕ) (p : Place) → runs_on c p ≡ true → p ≡ Running c
+place_from_runs_on c (Running d) runs = ap (λ (e : ℕ). Running e) (sym (eqb-true c d runs))
+place_from_runs_on c (Queued d k b) runs = absurd (both_ways false refl runs)
+place_from_runs_on c (Asleep channel) runs = absurd (both_ways false refl runs)
+place_from_runs_on c Unborn runs = absurd (both_ways false refl runs)
+place_from_runs_on c Gone runs = absurd (both_ways false refl runs)
+place_from_runs_on c (Hand w) runs = absurd (both_ways false refl runs)

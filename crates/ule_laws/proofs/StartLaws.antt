@@ -1,49 +1,38 @@
 -- The start: the scheduler without threads shows the empty world, and each thread that is laid keeps
 -- that it shows the world.
-use Rattle.std.proofs.Common.{◌≡◌, ◌≢◌, ℕ, zero, suc, ◌+◌, ◌%◌, ◌^◌, ◌<◌, ◌==◌, ℤ, Bool, true, false, not, List, [], ◌∷◌, ◌++◌, map, fold, take, length, replicate, Option, Some, None, ⊎_elim, if◌then◌else◌, refl, sym, ◌∙◌, ap, subst, arith, length-set, get_or-set_same, get_or-set_other}
-use Rattle.std.specs.Prelude.{IfSome, slice_get, slice_set, slice_index_or}
-use Rattle.std.proofs.lemmas.Bool.{cases_eq, eq-eqb, eqb-true, eqb-false, ne_eqb, cond-false, and_parts, and_from, not-true, or_parts, or_from}
+use Rattle.std.proofs.Common.{◌≡◌, ◌≢◌, ℕ, zero, suc, ◌+◌, ◌%◌, ◌^◌, ◌<◌, ◌==◌, Bool, true, false, not, List, [], ◌∷◌, ◌++◌, map, fold, take, length, replicate, Option, Some, None, inl, ⊎_elim, if◌then◌else◌, refl, sym, ◌∙◌, ap, subst, arith, length-set, get_or-set_same, get_or-set_other}
+use Rattle.std.specs.Prelude.{IfSome, option_and_then, slice_get, slice_set, slice_index_or}
+use Rattle.std.proofs.lemmas.Bool.{cases_eq, eq-eqb, eqb-false, ne_eqb, and_parts, and_from, not-true, or_parts, or_from}
 use Rattle.std.proofs.lemmas.List.{length-replicate, get_or-replicate}
 use Rattle.std.proofs.lemmas.Option.{slice_get_within, same_Some, none-some}
 use Rattle.ule_prio.specs.declared.kind.Kind.{Kind}
 use Rattle.ule_prio.specs.declared.kind.Kind.TheVariants.{Real, Batch, Idle}
-use Rattle.ule_score.specs.declared.place.Place.{Place}
+use Rattle.ule_score.specs.TimesharePriority.{IsNice}
 use Rattle.ule_score.specs.declared.record.CpuLine.{CpuLine}
 use Rattle.ule_score.specs.declared.record.Settings.{Settings}
 use Rattle.ule_score.specs.declared.record.ThreadRecord.{ThreadRecord}
+use Rattle.ule_sleep.specs.Chain.{ChainValue, IsEmptyChain, sleeper_in}
+use Rattle.ule_sleep.specs.declared.chain.Sleeper.{Sleeper}
 use Rattle.ule_types.specs.Commands.{is_among}
 use Rattle.ule_types.specs.Rules.{is_distinct, declared_ids}
 use Rattle.ule_types.specs.declared.setup.Setup.{Setup}
 use Rattle.ule_types.specs.declared.setup.ThreadSpec.{ThreadSpec}
-use Rattle.ule_model.specs.CpuValue.{CpuValue, thread_in, value_laid}
-use Rattle.ule_model.specs.Insertion.{with_queued, queued, place_of_insertion, order_of_insertion}
-use Rattle.ule_model.specs.declared.insertion.Insertion.{Insertion}
+use Rattle.ule_model.specs.CpuStart.{StartsAs}
+use Rattle.ule_model.specs.CpuValue.{CpuValue, value_laid}
+use Rattle.ule_model.specs.Insertion.{with_queued, place_of_insertion, order_of_insertion}
 use Rattle.ule_model.specs.declared.insertion.Insertion.TheVariants.{Ordinary}
-use Rattle.ule_model.specs.Shows.{ShowsQueue, by_order}
-use Rattle.ule_model.specs.Start.{base_of, record_of, unborn_member, laid_on, laid, first_balance_word, balance_count, first_line, empty_world}
-use Rattle.ule_model.specs.World.{Member, Side, World, is_thread, thread_of, moved_to, fresh_line, side_of, with_side}
-use Rattle.ule_model.specs.WorldValue.{WorldValue, IsPart, IsOnOne, Shows}
+use Rattle.ule_model.specs.Shows.{IsWellMade, ShowsQueue, by_order}
+use Rattle.ule_model.specs.Start.{base_of, nice_of, record_of, unborn_member, laid_on, laid, first_balance_word, balance_count, first_line, empty_world}
+use Rattle.ule_model.specs.World.{Member, Side, World, is_thread, thread_of, fresh_line, side_of, with_side}
+use Rattle.ule_model.specs.WorldValue.{WorldValue, IsPart, Shows, asleep_member, held_by, held_member}
+use Rattle.ule_members.proofs.Threads.{find-appended, find-appended_new, none_passes, thread_of-queued_other}
+use Rattle.ule_members.proofs.Within.{changed_between}
 use Rattle.ule_laws.proofs.CpuLaws.{IsJoined, laid_stands}
 use Rattle.ule_laws.proofs.Elsewhere.{queued_rest, laid_elsewhere}
-use Rattle.ule_members.proofs.Membership.{has_thread_of}
-use Rattle.ule_members.proofs.Threads.{find-appended, find-appended_new, none_passes}
-use Rattle.ule_members.proofs.Within.{changed_between}
-use Rattle.ule_laws.proofs.WorldLaws.{IsEvent, event_shows}
+use Rattle.ule_laws.proofs.ValueLaws.{MovesOne, asleep_shown, held_shown, stays_same, threads_move, threads_shown}
+use Rattle.ule_laws.proofs.WorldLaws.{IsEvent, changed_at, event_shows}
 
 -- ---- before any thread is laid
-
--- CPU c of a setup without threads; CPU 0 has drawn its balance count
-pub record IsEmptyCpu (s : Setup) (c : ℕ) (v : CpuValue) : Type 0 where
-  pub cpu : v.cpu ≡ c
-  pub settings : v.settings ≡ s.settings
-  pub slots : length v.threads ≡ 256
-  pub threads : (t : ℕ) → thread_in v t ≡ None
-  pub current : v.current ≡ None
-  pub real : v.real ≡ replicate 64 []
-  pub batch : v.batch ≡ replicate 64 []
-  pub idle : v.idle ≡ replicate 64 []
-  pub line : v.line ≡ record fresh_line { balance = if c == 0 then balance_count (first_balance_word s.jitter) else 0 }
-  pub balance_word : v.balance_word ≡ (if c == 0 then first_balance_word s.jitter else (s.jitter + 16) % 2 ^ 32)
 
 -- 64 empty lists are the queue of a CPU of a world without threads
 pub empty_queue : (lists : List (List ℕ)) (c : ℕ) (k : Kind) → lists ≡ replicate 64 [] → ShowsQueue lists c k []
@@ -67,15 +56,20 @@ empty_line s c within =
     ap (λ (d : Bool). record fresh_line { balance = if d then balance_count (first_balance_word s.jitter) else 0 }) (sym (ne_eqb c 0 other)))
     (cases_eq c 0)
 
--- such a CPU is that of the empty world
-pub empty_part : (s : Setup) (c : ℕ) (u : CpuValue) → c < s.cpus → IsEmptyCpu s c u → IsPart (empty_world s) c u
+-- where the balance word of a setup starts
+abbrev pub starting_word : Setup → ℕ
+starting_word s = (s.jitter + 16) % 2 ^ 32
+
+-- a CPU without threads is that of the empty world
+pub empty_part : (s : Setup) (c : ℕ) (u : CpuValue) → c < s.cpus → StartsAs u c s.settings (starting_word s) → IsPart (empty_world s) c u
 empty_part s c u within empty = record {
   cpu = empty.cpu;
   stands = record {
     settings = empty.settings;
     line = empty.line ∙ sym (empty_line s c within);
-    balance_word = λ none. empty.balance_word ∙ ap (λ (d : Bool). if d then first_balance_word s.jitter else (s.jitter + 16) % 2 ^ 32) (eq-eqb c 0 (sym empty.cpu ∙ none));
+    balance_word = λ none. empty.balance_word ∙ ap (λ (d : Bool). if d then first_balance_word s.jitter else starting_word s) (eq-eqb c 0 (sym empty.cpu ∙ none));
     current = empty.current;
+    load = empty.load;
     slots = empty.slots;
     threads = empty.threads;
     real = empty_queue u.real u.cpu Real empty.real;
@@ -85,45 +79,34 @@ empty_part s c u within empty = record {
   index = subst (λ (line : CpuLine). line.ridx < 64) (sym empty.line) (omega arith);
 }
 
+-- chains without sleepers have none
+no_sleepers : (cs : List ChainValue) → ((k : ℕ) → IfSome (slice_get cs k) (λ c. IsEmptyChain c k)) → (k t : ℕ) → option_and_then (λ c. sleeper_in c t) (slice_get cs k) ≡ None
+no_sleepers cs each k t = split (slice_get cs k) (each k)
+  where
+    split : (o : Option ChainValue) → IfSome o (λ c. IsEmptyChain c k) → option_and_then (λ c. sleeper_in c t) o ≡ None
+    split None empty = refl
+    split (Some c) empty = empty.none t
+
 -- the scheduler without threads is the value of the empty world
-pub empty_shows : (s : Setup) (v : WorldValue) → v.settings ≡ s.settings → length v.cpus ≡ s.cpus → ((c : ℕ) → IfSome (slice_get v.cpus c) (IsEmptyCpu s c)) → Shows v (empty_world s)
-empty_shows s v settings count each = record {
+pub empty_shows : (s : Setup) (v : WorldValue) → v.settings ≡ s.settings → length v.cpus ≡ s.cpus → ((c : ℕ) → IfSome (slice_get v.cpus c) (λ u. StartsAs u c s.settings (starting_word s))) →
+    length v.chains ≡ 8 → ((k : ℕ) → IfSome (slice_get v.chains k) (λ c. IsEmptyChain c k)) → length v.hands ≡ length v.cpus → ((h : ℕ) → held_by v h ≡ None) → Shows v (empty_world s)
+empty_shows s v settings count each chain_count chains hand_count hands = record {
   settings = settings;
   made = record { each = tt; apart = tt };
   count = length-set (replicate s.cpus fresh_line) 0 (first_line s.jitter) ∙ length-replicate s.cpus fresh_line ∙ sym count;
+  chain_count = chain_count;
+  hand_count = hand_count;
   parts = λ c. split c (slice_get v.cpus c) refl (each c);
+  sleepers = λ k t. subst (λ (o : Option Sleeper). IfSome o (λ x. thread_of t [] ≡ Some (asleep_member x))) (sym (no_sleepers v.chains chains k t)) tt;
+  hands = λ h. subst (λ (o : Option ThreadRecord). IfSome o (λ r. thread_of r.id [] ≡ Some (held_member h r))) (sym (hands h)) tt;
   places = λ t. tt;
 }
   where
-    split : (c : ℕ) (o : Option CpuValue) → slice_get v.cpus c ≡ o → IfSome o (IsEmptyCpu s c) → IfSome o (IsPart (empty_world s) c)
+    split : (c : ℕ) (o : Option CpuValue) → slice_get v.cpus c ≡ o → IfSome o (λ u. StartsAs u c s.settings (starting_word s)) → IfSome o (IsPart (empty_world s) c)
     split c None found empty = tt
     split c (Some u) found empty = empty_part s c u (let within = slice_get_within v.cpus c u found in omega arith) empty
 
 -- ---- the threads after one is laid
-
--- a move of one thread leaves what every other number finds
-pub thread_of-moved_other : (u t : ℕ) (place : Place) (order : ℤ) (ms : List Member) → u ≢ t → thread_of u (moved_to t place order ms) ≡ thread_of u ms
-thread_of-moved_other u t place order [] apart = refl
-thread_of-moved_other u t place order (m ∷ ms) apart = split (is_thread t m) refl (thread_of-moved_other u t place order ms apart)
-  where
-    now : Member
-    now = record m { place = place; order = order }
-
-    split : (d : Bool) → is_thread t m ≡ d → thread_of u (moved_to t place order ms) ≡ thread_of u ms → thread_of u ((if d then now else m) ∷ moved_to t place order ms) ≡ thread_of u (m ∷ ms)
-    split true is rest =
-        let fails : is_thread u m ≡ false = ne_eqb m.thread.id u (λ e. apart (sym e ∙ eqb-true m.thread.id t is)) in
-        cond-false (is_thread u now) (Some now) (thread_of u (moved_to t place order ms)) fails ∙ rest ∙ sym (cond-false (is_thread u m) (Some m) (thread_of u ms) fails)
-    split false is rest = ap (λ (o : Option Member). if is_thread u m then Some m else o) rest
-
--- and so does an insertion
-pub thread_of-queued_other : (how : Insertion) (c u t : ℕ) (s : Side) → u ≢ t → thread_of u (queued how c t s).members ≡ thread_of u s.members
-thread_of-queued_other how c u t s apart = split (thread_of t s.members) refl
-  where
-    split : (o : Option Member) → thread_of t s.members ≡ o → thread_of u (with_queued how c o s).members ≡ thread_of u s.members
-    split None found = refl
-    split (Some m) found =
-        thread_of-moved_other u m.thread.id (place_of_insertion how c s.line m.thread.priority) (order_of_insertion how c s.line m.thread.priority s.members) s.members
-        (λ e. apart (e ∙ (has_thread_of t m s.members found).1))
 
 -- every other thread is found as before
 pub laid_other : (u c : ℕ) (r : ThreadRecord) (s : Side) → u ≢ r.id → thread_of u (laid_on c r s).members ≡ thread_of u s.members
@@ -148,23 +131,30 @@ laid_new c r s new =
     more : Side
     more = record s { members = s.members ++ unborn_member r ∷ [] }
 
--- each thread is on one of the CPUs still
-pub laid_places : (count c : ℕ) (r : ThreadRecord) (s : Side) → c < count → thread_of r.id s.members ≡ None → ((t : ℕ) → IfSome (thread_of t s.members) (IsOnOne count)) → (t : ℕ) → IfSome (thread_of t (laid_on c r s).members) (IsOnOne count)
-laid_places count c r s within new old t =
-    ⊎_elim
-    (λ (same : t ≡ r.id).
-    subst (λ (o : Option Member). IfSome o (IsOnOne count)) (sym (ap (λ (u : ℕ). thread_of u (laid_on c r s).members) same ∙ laid_new c r s new)) (record { cpu = c; within = within; on = eq-eqb c c refl }))
-    (λ (other : t ≡ r.id → ⊥). subst (λ (o : Option Member). IfSome o (IsOnOne count)) (sym (laid_other t c r s other)) (old t))
-    (cases_eq t r.id)
-
 -- ---- a thread is laid
 
+-- the scheduler has it on the CPU alone
+laid_moves : (v : WorldValue) (w : World) (c : ℕ) (r : ThreadRecord) (u : CpuValue) → Shows v w → c < length v.cpus → thread_of r.id w.members ≡ None →
+    MovesOne v (changed_at c u v.hands v) r.id (laid_member c r (side_of c w))
+laid_moves v w c r u shows within new = record {
+  count = length-set v.cpus c u;
+  hands = record {
+    count = refl;
+    others = λ h x other is. is;
+    each = λ h x is. inl (is, λ same. none-some (held_member h x) (sym new ∙ ap (λ (i : ℕ). thread_of i w.members) (sym same) ∙ held_shown v w.members (threads_shown v w shows) h x is));
+  };
+  sleepers = λ k t other. refl;
+  sleeper = λ k x is. absurd (none-some (asleep_member x) (sym new ∙ asleep_shown v w.members (threads_shown v w shows) k r.id x is));
+  at = subst (λ (i : ℕ). c < i) (sym (length-set v.cpus c u)) within;
+}
+
 -- on its CPU and in the world
-pub laid_event : (v : WorldValue) (w : World) (c : ℕ) (r : ThreadRecord) (u : CpuValue) → Shows v w → c < length v.cpus → IsPart w c u → thread_of r.id w.members ≡ None → r.id < 256 → r.priority < 256 →
-    IsEvent v w c (value_laid r u) (laid_on c r (side_of c w))
-laid_event v w c r u shows within part new number priority =
-    let joined : IsJoined (record u { threads = slice_set u.threads r.id (Some r) }) (value_laid r u) (laid_on c r (side_of c w)) =
-    subst (λ (d : ℕ). IsJoined (record u { threads = slice_set u.threads r.id (Some r) }) (value_laid r u) (laid_on d r (side_of c w))) part.cpu (laid_stands r u (side_of c w) part.stands shows.made number priority new) in
+pub laid_event : (w : World) (c : ℕ) (r : ThreadRecord) (u : CpuValue) → IsWellMade w.members → IsPart w c u → thread_of r.id w.members ≡ None → r.id < 256 → r.priority < 256 → IsNice r.nice →
+    IsEvent w c (value_laid r u) (laid_on c r (side_of c w))
+laid_event w c r u made part new number priority nice =
+    let before : CpuValue = record u { threads = slice_set u.threads r.id (Some r); load = u.load + 1 } in
+    let joined : IsJoined before (value_laid r u) (laid_on c r (side_of c w)) =
+    subst (λ (d : ℕ). IsJoined before (value_laid r u) (laid_on d r (side_of c w))) part.cpu (laid_stands r u (side_of c w) part.stands made number priority nice new) in
     record {
       settings = ap (λ (x : Side). x.settings) (queued_rest Ordinary c r.id (record (side_of c w) { members = w.members ++ unborn_member r ∷ [] }));
       made = joined.well_made;
@@ -172,19 +162,30 @@ laid_event v w c r u shows within part new number priority =
       stands = joined.stands;
       index = subst (λ (line : CpuLine). line.ridx < 64) (sym joined.line) part.index;
       others = λ x apart stands. laid_elsewhere c r x w apart new stands;
-      places = laid_places (length v.cpus) c r (side_of c w) within new shows.places;
     }
 
 -- the scheduler with a declared thread laid on its CPU is the value of the world with it
-pub laid_shows : (v : WorldValue) (w : World) (spec : ThreadSpec) (u : CpuValue) → Shows v w → slice_get v.cpus spec.cpu ≡ Some u → thread_of spec.id w.members ≡ None → spec.id < 256 → base_of v.settings spec.form < 256 →
+pub laid_shows : (v : WorldValue) (w : World) (spec : ThreadSpec) (u : CpuValue) → Shows v w → slice_get v.cpus spec.cpu ≡ Some u → thread_of spec.id w.members ≡ None → spec.id < 256 → base_of v.settings spec.form < 256 → IsNice (nice_of spec.form) →
     Shows (record v { cpus = slice_set v.cpus spec.cpu (value_laid (record_of v.settings spec) u) }) (laid w spec)
-laid_shows v w spec u shows found new number priority =
-    subst (λ (settings : Settings). Shows (record v { cpus = slice_set v.cpus c (value_laid (record_of v.settings spec) u) }) (with_side c (laid_on c (record_of settings spec) (side_of c w)) w)) shows.settings
-    (event_shows v w c (value_laid (record_of v.settings spec) u) (laid_on c (record_of v.settings spec) (side_of c w)) shows within
-    (laid_event v w c (record_of v.settings spec) u shows within (subst (λ (o : Option CpuValue). IfSome o (IsPart w c)) found (shows.parts c)) new number priority))
+laid_shows v w spec u shows found new number priority nice =
+    subst (λ (settings : Settings). Shows (record v { cpus = slice_set v.cpus c made }) (with_side c (laid_on c (record_of settings spec) (side_of c w)) w)) shows.settings
+    (event_shows v w c made v.hands meant shows within
+    (laid_event w c r u shows.made (subst (λ (o : Option CpuValue). IfSome o (IsPart w c)) found (shows.parts c)) new number priority nice) refl
+    (threads_move v (changed_at c made v.hands v) c r.id (laid_member c r (side_of c w)) w.members meant.members (threads_shown v w shows) (subst (λ (i : ℕ). c < i) (sym (length-set v.cpus c made)) within)
+    (laid_moves v w c r made shows within new) (laid_new c r (side_of c w) new)
+    (λ t other. stays_same c (thread_of t w.members) (thread_of t meant.members) (laid_other t c r (side_of c w) other))))
   where
     c : ℕ
     c = spec.cpu
+
+    r : ThreadRecord
+    r = record_of v.settings spec
+
+    made : CpuValue
+    made = value_laid r u
+
+    meant : Side
+    meant = laid_on c r (side_of c w)
 
     within : c < length v.cpus
     within = slice_get_within v.cpus c u found
