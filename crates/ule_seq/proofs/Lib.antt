@@ -1,3 +1,6 @@
+pub mod Lists
+pub mod HandLaws
+pub mod ChainLaws
 pub mod FinalLines
-pub mod PlayLaws
 pub mod Starting
+pub mod PlayLaws

@@ -1,6 +1,7 @@
 -- The sleep chains.
-use Rattle.std.specs.Prelude.{◌≡◌, ℕ, List, length, slice_get, slice_set, Option, Some, None, IfSome}
+use Rattle.std.specs.Prelude.{◌≡◌, ℕ, List, length, slice_get, slice_set, Option, Some, None, IfSome, option_and_then}
 use Rattle.ule_sleep.specs.Chain.{ChainValue, IsEmptyChain, sleeper_in}
+use Rattle.ule_sleep.specs.declared.chain.Sleeper.{Sleeper}
 
 -- what the chains keep: there are eight, each at the place of its number
 pub record KeepsChains (chains : List ChainValue) : Type 0 where
@@ -11,6 +12,10 @@ pub record KeepsChains (chains : List ChainValue) : Type 0 where
 pub record AreEmptyChains (count : ℕ) (chains : List ChainValue) : Type 0 where
   pub count_is : length chains ≡ count
   pub none : (k : ℕ) → IfSome (slice_get chains k) (λ c. IsEmptyChain c k)
+
+-- the sleeper of thread t on chain k
+abbrev pub sleeper_on : List ChainValue → ℕ → ℕ → Option Sleeper
+sleeper_on chains k t = option_and_then (λ c. sleeper_in c t) (slice_get chains k)
 
 -- thread t doesn't sleep on chain k
 abbrev pub IsAwakeOn : List ChainValue → ℕ → ℕ → Type 0

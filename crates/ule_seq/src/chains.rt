@@ -1,9 +1,9 @@
-ghost use Rattle.std.specs.Prelude.{◌≡◌, ℕ, ◌+◌, ◌%◌, Some, None, slice_get, slice_set, IfOk, IfSome};
+ghost use Rattle.std.specs.Prelude.{◌≡◌, ◌%◌, Some, IfOk, IfSome, IsSome};
 ghost use Rattle.std.specs.Option.{option_map};
 ghost use Rattle.ule_model.specs.WorldValue.{sleeper_among, sleeper_line};
 ghost use Rattle.ule_score.specs.Bounds.{KeepsBounds};
-ghost use Rattle.ule_seq.specs.Chains.{AreEmptyChains, IsAwakeOn, changed_at};
-ghost use Rattle.ule_sleep.specs.Chain.{with_sleeper, without_sleeper};
+ghost use Rattle.ule_seq.specs.Chains.{AreEmptyChains, IsAwakeOn, changed_at, sleeper_on};
+ghost use Rattle.ule_sleep.specs.Chain.{thread_of_sleeper, with_sleeper, without_sleeper};
 
 use std::alloc::Global;
 use std::marker::Model;
@@ -55,7 +55,8 @@ impl Chains {
 
     /// The channel that a thread sleeps on, if it sleeps.
     pub fn channel_of(&self, t: ThreadId) -> Option<u16>
-        ensures { result ≡ option_map (λ s. s.channel) (sleeper_among self.now t) }
+        ensures channel { result ≡ option_map (λ s. s.channel) (sleeper_among self.now t) }
+        ensures chain { IfSome result (λ channel. sleeper_on self.now (channel % 8) t ≡ sleeper_among self.now t) }
     {
         for chain in &self.chains {
             if let Some(sleeper) = chain.sleeper(t) {
@@ -77,8 +78,8 @@ impl Chains {
 
     /// Takes out a thread that sleeps on a channel.
     pub fn take_out(&mut self, t: ThreadId, channel: u16) -> ThreadRecord
-        requires { Some channel ≡ option_map (λ s. s.channel) (sleeper_among self.old t) }
-        ensures thread { Some result ≡ option_map (λ s. s.thread) (sleeper_among self.old t) }
+        requires { IsSome (sleeper_on self.old (channel % 8) t) }
+        ensures thread { Some result ≡ thread_of_sleeper (sleeper_on self.old (channel % 8) t) }
         ensures rest { self.new ≡ changed_at (channel % 8) (without_sleeper t) self.old }
         ensures bounds { KeepsBounds result }
     {

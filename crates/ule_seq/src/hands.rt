@@ -1,5 +1,5 @@
-ghost use Rattle.std.specs.Prelude.{◌≡◌, ◌<◌, ◌≤◌, None, length, slice_index_or, slice_set, IfOk, IfSome};
-ghost use Rattle.ule_model.specs.WorldValue.{holder_among, line_in_hands};
+ghost use Rattle.std.specs.Prelude.{◌≡◌, ◌<◌, ◌≤◌, None, length, slice_index_or, slice_set, IfOk, IfSome, option_and_then};
+ghost use Rattle.ule_model.specs.WorldValue.{held_line, holder_among, line_in_hands};
 ghost use Rattle.ule_score.specs.Bounds.{KeepsBounds};
 ghost use Rattle.ule_seq.specs.Hands.{AreEmptyHands, is_held};
 
@@ -9,6 +9,7 @@ use ule_io::Memory;
 use ule_prio::ThreadId;
 use ule_score::{Place, ThreadRecord};
 use ule_tdq::lines::line_of;
+use ule_threads::threads::repeated;
 use ule_types::ThreadLine;
 
 /// What each worker has in hand: the record of a thread between two critical sections of the
@@ -43,12 +44,7 @@ impl Hands {
         requires { workers ≤ 16 }
         ensures { IfOk result (λ h. AreEmptyHands workers h) }
     {
-        let mut held = Vec::new(alloc);
-        for _worker in 0..workers {
-            if held.push(nothing()).is_err() {
-                return Err(Memory);
-            }
-        }
+        let held = repeated(alloc, nothing(), usize::from(workers))?;
         Ok(Hands { held })
     }
 
@@ -87,11 +83,12 @@ impl Hands {
         ensures line { result ≡ line_in_hands 0 self.now t }
         ensures number { IfSome result (λ l. l.id ≡ t) }
     {
-        let worker = self.holder_of(t)?;
-        let Some(r) = self.get(worker) else {
-            unreachable!()
-        };
-        Some(line_of(&r, Place::Hand(worker), 0, None))
+        for (worker, held) in self.held.iter().enumerate() {
+            if let Some(line) = line_in_hand(worker as u8, held, t) {
+                return Some(line);
+            }
+        }
+        None
     }
 }
 
@@ -102,5 +99,27 @@ fn holds(held: &Option<ThreadRecord>, t: ThreadId) -> bool
     match held {
         Some(r) => r.id == t,
         None => false,
+    }
+}
+
+/// The line of a thread in a worker's hand, if it is the one there.
+fn line_in_hand(worker: u8, held: &Option<ThreadRecord>, t: ThreadId) -> Option<ThreadLine>
+    ensures line { result ≡ option_and_then (held_line worker t) held.now }
+    ensures number { IfSome result (λ l. l.id ≡ t) }
+{
+    match held {
+        Some(r) => held_line(worker, r, t),
+        None => None,
+    }
+}
+
+fn held_line(worker: u8, r: &ThreadRecord, t: ThreadId) -> Option<ThreadLine>
+    ensures line { result ≡ held_line worker t r.now }
+    ensures number { IfSome result (λ l. l.id ≡ t) }
+{
+    if r.id == t {
+        Some(line_of(r, Place::Hand(worker), 0, None))
+    } else {
+        None
     }
 }

@@ -1,13 +1,9 @@
 -- What a CPU keeps, and what its calls need.
-use Rattle.std.specs.Prelude.{◌≡◌, ◌==◌, ℕ, ◌+◌, Option, Some, None, IfSome, IsTrue, length, replicate, if◌then◌else◌}
+use Rattle.std.specs.Prelude.{◌≡◌, ℕ, ◌+◌, Option, Some, None, IfSome, IsTrue, length, sum_by}
 use Rattle.ule_model.specs.CpuValue.{CpuValue, thread_in}
-use Rattle.ule_model.specs.Start.{balance_count, stepped_word}
-use Rattle.ule_model.specs.World.{fresh_line}
 use Rattle.ule_runq.specs.Runq.{times}
 use Rattle.ule_tdq.specs.Queues.{once}
 use Rattle.ule_score.specs.Bounds.{KeepsBounds}
-use Rattle.ule_score.specs.declared.record.CpuLine.{CpuLine}
-use Rattle.ule_score.specs.declared.record.Settings.{Settings}
 use Rattle.ule_score.specs.declared.record.ThreadRecord.{ThreadRecord}
 use Rattle.ule_types.specs.Rules.{are_settings}
 
@@ -30,9 +26,11 @@ pub record IsRecordOf (t : ℕ) (r : ThreadRecord) : Type 0 where
   pub number : r.id ≡ t
   pub bounds : KeepsBounds r
 
--- what every CPU keeps: each thread that has a record stands in one place, and no other does
+-- what every CPU keeps: each thread that has a record stands in one place, and no other does,
+-- and there are as many as the load says
 pub record KeepsCpu (v : CpuValue) : Type 0 where
   pub settings : IsTrue (are_settings v.settings)
   pub slots : length v.threads ≡ 256
   pub places : (t : ℕ) → times_on v t ≡ once_if (thread_in v t)
+  pub load : v.load ≡ sum_by once_if v.threads
   pub records : (t : ℕ) → IfSome (thread_in v t) (IsRecordOf t)

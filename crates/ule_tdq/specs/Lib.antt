@@ -2,3 +2,4 @@ pub mod Queues
 pub mod Cpu
 pub mod TdqFields
 pub mod Replies
+pub mod Records

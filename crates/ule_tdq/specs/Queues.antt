@@ -1,7 +1,7 @@
 -- The three queues of a CPU as one value.
-use Rattle.std.specs.Prelude.{◌≡◌, ℕ, ◌+◌, ◌/◌, false, true, ◌==◌, List, Option, Some, None, if◌then◌else◌}
-use Rattle.std.specs.Option.{option_map}
+use Rattle.std.specs.Prelude.{ℕ, ◌+◌, ◌/◌, false, true, ◌==◌, List, Option, if◌then◌else◌}
 use Rattle.ule_calendar.specs.Calendar.{Dial, with_ordinary, with_next, after_removal}
+use Rattle.ule_model.specs.CalendarIndexes.{calendar_bucket}
 use Rattle.ule_model.specs.CpuValue.{with_inserted, in_kind, first_of}
 use Rattle.ule_model.specs.declared.insertion.Insertion.{Insertion}
 use Rattle.ule_model.specs.declared.insertion.Insertion.TheVariants.{Ordinary, Borrowing, Preempted}
@@ -36,6 +36,12 @@ dial_with Ordinary d p t = with_ordinary d t p
 dial_with Borrowing d p t = with_next d t false
 dial_with Preempted d p t = with_next d t true
 
+-- its bucket there
+abbrev pub dial_bucket : Insertion → Dial → ℕ → ℕ
+dial_bucket Ordinary d p = calendar_bucket d.idx d.ridx p
+dial_bucket Borrowing d p = d.ridx
+dial_bucket Preempted d p = d.ridx
+
 -- the queues with thread t of priority p in the one of this kind
 abbrev pub queues_with_in : Kind → Insertion → ℕ → ℕ → QueuesValue → QueuesValue
 queues_with_in Real how p t q = record q { real = with_inserted how q.real (p / 4) t }
@@ -45,6 +51,15 @@ queues_with_in Idle how p t q = record q { idle = with_inserted how q.idle (p / 
 -- the queues with thread t of priority p
 abbrev pub queues_with : Insertion → ℕ → ℕ → QueuesValue → QueuesValue
 queues_with how p t q = queues_with_in (kind_at p) how p t q
+
+-- its bucket there, in the queue of this kind
+abbrev pub bucket_with_in : Kind → Insertion → ℕ → QueuesValue → ℕ
+bucket_with_in Real how p q = p / 4
+bucket_with_in Batch how p q = dial_bucket how q.batch p
+bucket_with_in Idle how p q = p / 4
+
+abbrev pub bucket_with : Insertion → ℕ → QueuesValue → ℕ
+bucket_with how p q = bucket_with_in (kind_at p) how p q
 
 -- the queues without thread t, which stands in the one of this kind
 abbrev pub queues_without : Kind → ℕ → QueuesValue → QueuesValue

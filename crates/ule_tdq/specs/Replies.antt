@@ -1,10 +1,14 @@
--- What a switch came to, as the reply of its event.
+-- What a switch and a tick came to, as the replies of their events.
+use Rattle.ule_tdq.specs.declared.tdq.Clocked.{Clocked}
 use Rattle.ule_tdq.specs.declared.tdq.SwitchOut.{SwitchOut}
 use Rattle.ule_tdq.specs.declared.tdq.SwitchOut.TheVariants as out
 use Rattle.ule_types.specs.declared.event.Reply.{Reply}
-use Rattle.ule_types.specs.declared.event.Reply.TheVariants.{Unmarked, Nothing, Switched}
+use Rattle.ule_types.specs.declared.event.Reply.TheVariants.{Unmarked, Nothing, Switched, Ticked}
 
 abbrev pub reply_of : SwitchOut → Reply
 reply_of out.Unmarked = Unmarked
 reply_of out.Nothing = Nothing
 reply_of (out.Switched left into preempted) = Switched left into preempted
+
+abbrev pub ticked_reply : Clocked → Reply
+ticked_reply c = Ticked c.cur c.due c.ended

@@ -10,6 +10,7 @@ value_of d = record {
   settings = d.settings;
   threads = d.threads;
   current = d.current;
+  load = d.load;
   real = d.queues.real;
   batch = d.queues.batch.lists;
   idle = d.queues.idle;

@@ -3,13 +3,12 @@
 #![tactic(auto)]
 
 pub use queues::Queues;
-pub use tdq::{SwitchOut, Tdq};
-pub use threads::Threads;
+pub use tdq::{Arrival, Clocked, SwitchOut, Tdq};
 
+pub mod balance;
 pub mod lines;
 pub mod queues;
 pub mod records;
 pub mod tdq;
 #[cfg(test)]
 mod tests;
-pub mod threads;

@@ -17,8 +17,8 @@ pub fn queued(cpu: Cpu, kind: Kind, found: (u8, u16)) -> (Place, u8)
 }
 
 /// The line of a record at a place under this lock.
-pub fn line_of(r: &ThreadRecord, place: Place, pos: u8, lock: LockId) -> ThreadLine
-    requires { lock_of place ≡ Some lock }
+pub fn line_of(r: &ThreadRecord, place: Place, pos: u8, word: Option<LockId>) -> ThreadLine
+    requires { lock_of place ≡ word }
     ensures { result ≡ line_of r.now place pos }
 {
     ThreadLine {
@@ -41,6 +41,6 @@ pub fn line_of(r: &ThreadRecord, place: Place, pos: u8, lock: LockId) -> ThreadL
         last_run: r.last_run,
         bound: r.bound,
         parent: r.parent,
-        word: Some(lock),
+        word,
     }
 }

@@ -3,7 +3,7 @@ ghost use Rattle.ule_prio.specs.Kind.{kind_at};
 ghost use Rattle.ule_prio.specs.declared.kind.Kind.TheVariants.{Batch};
 ghost use Rattle.ule_runq.specs.Runq.{times};
 ghost use Rattle.ule_model.specs.CpuValue.{with_inserted};
-ghost use Rattle.ule_tdq.specs.Queues.{once, times_queued, times_in, dial_with, queues_with, queues_without, first_queued};
+ghost use Rattle.ule_tdq.specs.Queues.{once, times_queued, times_in, dial_with, dial_bucket, queues_with, bucket_with, queues_without, first_queued};
 
 use std::alloc::Global;
 use std::marker::Model;
@@ -45,9 +45,10 @@ impl Queues {
         })
     }
 
-    /// Queues a thread of this priority, after `tdq_runq_add`.
-    pub fn insert(&mut self, how: Insertion, p: Priority, t: ThreadId)
+    /// Queues a thread of this priority, and tells its bucket, after `tdq_runq_add`.
+    pub fn insert(&mut self, how: Insertion, p: Priority, t: ThreadId) -> u8
         requires { times_queued self.old t ≡ 0 }
+        ensures bucket { result ≡ bucket_with how p self.old }
         ensures filed { self.new ≡ queues_with how p t self.old }
         ensures times { (u : ℕ) → times_queued self.new u ≡ times_queued self.old u + once t u }
     {
@@ -96,8 +97,9 @@ impl Queues {
 }
 
 /// Queues a thread in a queue that is filed by priority alone.
-fn insert_plain(queue: &mut Runq, how: Insertion, p: Priority, t: ThreadId)
+fn insert_plain(queue: &mut Runq, how: Insertion, p: Priority, t: ThreadId) -> u8
     requires { times queue.old t ≡ 0 }
+    ensures bucket { result ≡ p / 4 }
     ensures filed { queue.new ≡ with_inserted how queue.old (p / 4) t }
     ensures times { (u : ℕ) → times queue.new u ≡ times queue.old u + once t u }
 {
@@ -107,12 +109,14 @@ fn insert_plain(queue: &mut Runq, how: Insertion, p: Priority, t: ThreadId)
         Insertion::Borrowing => queue.push_tail(bucket, t),
         Insertion::Preempted => queue.push_head(bucket, t),
     }
+    bucket
 }
 
 /// Queues a thread in the calendar.
-fn insert_batch(calendar: &mut Calendar, how: Insertion, p: Priority, t: ThreadId)
+fn insert_batch(calendar: &mut Calendar, how: Insertion, p: Priority, t: ThreadId) -> u8
     requires batch { kind_at p ≡ Batch }
     requires absent { times calendar.old.lists t ≡ 0 }
+    ensures bucket { result ≡ dial_bucket how calendar.old p }
     ensures filed { calendar.new ≡ dial_with how calendar.old p t }
     ensures times { (u : ℕ) → times calendar.new.lists u ≡ times calendar.old.lists u + once t u }
 {
@@ -120,5 +124,5 @@ fn insert_batch(calendar: &mut Calendar, how: Insertion, p: Priority, t: ThreadI
         Insertion::Ordinary => calendar.insert(t, p),
         Insertion::Borrowing => calendar.insert_at_index(t, false),
         Insertion::Preempted => calendar.insert_at_index(t, true),
-    };
+    }
 }

@@ -1,24 +1,32 @@
-ghost use Rattle.std.specs.Prelude.{◌≡◌, ℕ, ◌≤◌, ◌<◌, ◌^◌, None, Some, IfOk, IfSome, IsTrue, if◌then◌else◌};
+ghost use Rattle.std.specs.Prelude.{◌≡◌, ℕ, ◌≤◌, ◌<◌, ◌^◌, None, Some, IfOk, IfSome, IsTrue};
 ghost use Rattle.ule_types.specs.Rules.{are_settings};
 ghost use Rattle.std.specs.Option.{option_map};
-ghost use Rattle.ule_model.specs.Start.{balance_count, stepped_word};
 ghost use Rattle.ule_model.specs.WorldValue.{value_line, value_place};
 ghost use Rattle.ule_score.specs.Bounds.{KeepsBounds};
-ghost use Rattle.ule_model.specs.CpuValue.{value_switched, value_laid, chosen_next, with_given_way, without_marks, thread_in};
+ghost use Rattle.ule_model.specs.CpuValue.{chosen_next, current_in, takes_over_in, thread_in, value_added, value_clocked, value_laid, value_switched, value_taken, value_ticked, value_ticked_with, with_given_way, without_current, without_marks};
 ghost use Rattle.ule_model.specs.Switch.{started_reply};
-ghost use Rattle.ule_tdq.specs.Cpu.{IsNoEarlier, StartsAs};
-ghost use Rattle.ule_tdq.specs.Replies.{reply_of};
+ghost use Rattle.ule_model.specs.Conditions.{IsNoEarlier};
+ghost use Rattle.ule_model.specs.CpuStart.{StartsAs};
+ghost use Rattle.ule_model.specs.Insertion.{bucket_of};
+ghost use Rattle.ule_model.specs.declared.insertion.Insertion.TheVariants.{Ordinary};
+ghost use Rattle.ule_prio.specs.Kind.{kind_at};
+ghost use Rattle.ule_tdq.specs.Records.{leaving};
+ghost use Rattle.ule_tdq.specs.Replies.{reply_of, ticked_reply};
 
+use crate::balance::{balance_after_tick, first_balance, first_word, is_due, word_after_tick};
 use crate::lines::{line_of, queued};
 use crate::queues::Queues;
-use crate::records::{after_running, before_running, insertion_of, is_preemption, is_unasked};
-use crate::threads::Threads;
+use crate::records::{
+    after_running, after_tick, before_running, current_priority, either, insertion_of,
+    is_preemption, is_unasked, leaving, placed_on,
+};
 use std::alloc::Global;
 use std::marker::Model;
 use ule_io::Memory;
 use ule_model::Insertion;
-use ule_prio::{Cpu, Kind, LockId, ThreadId};
+use ule_prio::{Cpu, Kind, LockId, Priority, ThreadId, kind_of, preempts};
 use ule_score::{CpuLine, Place, Settings, ThreadRecord, Why};
+use ule_threads::Threads;
 use ule_types::ThreadLine;
 
 /// What a switch came to.
@@ -38,26 +46,21 @@ pub enum SwitchOut {
     },
 }
 
-/// Where CPU 0's balance word stands after its first step; another CPU's word takes none.
-fn first_word(is_first: bool, word: u32) -> u32
-    ensures { result ≡ (if is_first then stepped_word word else word) }
-{
-    if is_first {
-        ((u64::from(word) * 69069 + 5) % (1 << 32)) as u32
-    } else {
-        word
-    }
+/// What a tick came to: the current thread, whether a balance is due, whether its slice ended.
+#[derive(Clone, Copy, Debug, PartialEq, Eq)]
+pub struct Clocked {
+    pub cur: Option<ThreadId>,
+    pub due: bool,
+    pub ended: bool,
 }
 
-/// The balance count of CPU 0 that this word gives; another CPU has none.
-fn first_balance(is_first: bool, word: u32) -> u64
-    ensures { result ≡ (if is_first then balance_count word else 0) }
-{
-    if is_first {
-        64 + u64::from(word) / (1 << 25)
-    } else {
-        0
-    }
+/// What a thread's coming to a CPU came to: where it is queued, and whether it set the mark that
+/// asks for a switch.
+#[derive(Clone, Copy, Debug, PartialEq, Eq)]
+pub struct Arrival {
+    pub kind: Kind,
+    pub bucket: u8,
+    pub marked: bool,
 }
 
 /// What a switch without a current thread came to.
@@ -81,6 +84,8 @@ pub struct Tdq {
     settings: Settings,
     threads: Threads,
     current: Option<ThreadId>,
+    // how many threads run or wait here
+    load: u32,
     queues: Queues,
     resched: bool,
     slice_end: bool,
@@ -119,6 +124,7 @@ impl Tdq {
             settings,
             threads,
             current: None,
+            load: 0,
             queues,
             resched: false,
             slice_end: false,
@@ -164,10 +170,82 @@ impl Tdq {
         ensures value { self.new ≡ value_laid r self.old }
         ensures no_earlier { (now : ℕ) → IsNoEarlier self.old now → r.usage.ltick ≤ now → IsNoEarlier self.new now }
     {
-        let t = r.id;
+        self.file(r);
+    }
+
+    /// A stathz tick, after `sched_clock`.
+    pub fn clock(&mut self, now: u64) -> Clocked
+        requires begun { 20000 ≤ now }
+        requires bounded { now < 2 ^ 36 }
+        requires in_time { IsNoEarlier self.old now }
+        ensures value { self.new ≡ (value_ticked now self.old).0 }
+        ensures reply { ticked_reply result ≡ (value_ticked now self.old).1 }
+        ensures no_earlier { IsNoEarlier self.new now }
+    {
+        let due = is_due(self.cpu, self.balance);
+        let current = self.current_record();
+        self.count_tick();
+        match current {
+            None => Clocked {
+                cur: None,
+                due,
+                ended: false,
+            },
+            Some(r) => self.charge_tick(now, due, r),
+        }
+    }
+
+    /// The current thread leaves the CPU, and the next is chosen, after `sched_sleep` and
+    /// `sched_switch`. `sleeping` says that it goes to sleep, and notes when.
+    pub fn take_current(
+        &mut self,
+        now: u64,
+        sleeping: bool,
+    ) -> Option<(ThreadRecord, Option<ThreadId>)>
+        requires begun { 20000 ≤ now }
+        requires bounded { now < 2 ^ 36 }
+        requires in_time { IsNoEarlier self.old now }
+        ensures value { self.new ≡ (value_taken (leaving sleeping now) now self.old).0 }
+        ensures taken { option_map (λ r. record { thread = r.0; into = r.1 }) result ≡ (value_taken (leaving sleeping now) now self.old).1 }
+        ensures bounds { IfSome result (λ r. KeepsBounds r.0) }
+        ensures no_earlier { IsNoEarlier self.new now }
+    {
+        let t = self.current?;
+        let r = self.threads.get(t)?;
+        let left = leaving(r, now, sleeping);
+        self.let_go(t);
+        Some((left, self.choose_next(now)))
+    }
+
+    /// A thread comes to this CPU: queued by ordinary insertion, with a preemption test, after
+    /// `sched_add`. `remote` says that the worker of another CPU brought it.
+    pub fn add(&mut self, r: ThreadRecord, remote: bool) -> Arrival
+        requires absent { thread_in self.old r.id ≡ None }
+        requires bounds { KeepsBounds r }
+        ensures value { self.new ≡ value_added r remote self.old }
+        ensures kind { result.kind ≡ kind_at r.priority }
+        ensures bucket { result.bucket ≡ bucket_of (kind_at r.priority) Ordinary self.old.line r.priority }
+        ensures marked { result.marked ≡ takes_over_in r.priority remote self.old }
+        ensures no_earlier { (now : ℕ) → IsNoEarlier self.old now → r.usage.ltick ≤ now → IsNoEarlier self.new now }
+    {
         let priority = r.priority;
-        self.threads.put(t, Some(r));
-        self.queues.insert(Insertion::Ordinary, priority, t);
+        let cpu = self.cpu;
+        let marked = self.takes_over(priority, remote);
+        let placed = placed_on(r, cpu);
+        let bucket = self.file(placed);
+        self.resched = either(self.resched, marked);
+        Arrival {
+            kind: kind_of(priority),
+            bucket,
+            marked,
+        }
+    }
+
+    /// The mark that asks for a switch.
+    pub fn is_marked(&self) -> bool
+        ensures { result ≡ self.now.line.resched }
+    {
+        self.resched
     }
 
     /// The current thread, after `pc_curthread`.
@@ -191,7 +269,7 @@ impl Tdq {
     {
         let r = self.threads.get(t)?;
         let (place, pos) = self.placed(t)?;
-        Some(line_of(&r, place, pos, LockId(self.cpu.0)))
+        Some(line_of(&r, place, pos, Some(LockId(self.cpu.0))))
     }
 
     /// The record of a thread, if it runs or waits here.
@@ -231,6 +309,86 @@ impl Tdq {
         }
         let found = self.queues.idle.find(t)?;
         Some(queued(self.cpu, Kind::Idle, found))
+    }
+
+    /// Queues a thread more by ordinary insertion, and tells its bucket.
+    fn file(&mut self, r: ThreadRecord) -> u8
+        requires absent { thread_in self.old r.id ≡ None }
+        requires bounds { KeepsBounds r }
+        ensures value { self.new ≡ value_laid r self.old }
+        ensures bucket { result ≡ bucket_of (kind_at r.priority) Ordinary self.old.line r.priority }
+        ensures no_earlier { (now : ℕ) → IsNoEarlier self.old now → r.usage.ltick ≤ now → IsNoEarlier self.new now }
+    {
+        let t = r.id;
+        let priority = r.priority;
+        self.threads.put(t, Some(r));
+        self.load += 1;
+        self.queues.insert(Insertion::Ordinary, priority, t)
+    }
+
+    /// The record of the current thread.
+    fn current_record(&self) -> Option<ThreadRecord>
+        ensures { result ≡ current_in self.now }
+    {
+        let t = self.current?;
+        self.threads.get(t)
+    }
+
+    /// Whether a thread of this priority takes over from the current thread.
+    fn takes_over(&self, p: Priority, remote: bool) -> bool
+        ensures { result ≡ takes_over_in p remote self.now }
+    {
+        let current = current_priority(self.current_record());
+        preempts(p, current, remote, self.settings.preempt)
+    }
+
+    /// What a tick does to the CPU's own numbers.
+    fn count_tick(&mut self)
+        ensures { self.new ≡ value_clocked self.old }
+    {
+        let balance = balance_after_tick(self.cpu, self.balance, self.balance_word);
+        self.balance_word = word_after_tick(self.cpu, self.balance, self.balance_word);
+        self.balance = balance;
+        self.old_switches = self.switches;
+        self.switches = u64::from(self.load);
+        self.queues.batch.turn();
+    }
+
+    /// What a tick does to the current thread, which has this record.
+    fn charge_tick(&mut self, now: u64, due: bool, r: ThreadRecord) -> Clocked
+        requires begun { 20000 ≤ now }
+        requires bounded { now < 2 ^ 36 }
+        requires in_time { IsNoEarlier self.old now }
+        requires current { current_in self.old ≡ Some r }
+        ensures value { self.new ≡ (value_ticked_with (Some r) due now self.old).0 }
+        ensures reply { ticked_reply result ≡ (value_ticked_with (Some r) due now self.old).1 }
+        ensures no_earlier { IsNoEarlier self.new now }
+    {
+        let t = r.id;
+        let settings = self.settings;
+        let (after, ended) = after_tick(&settings, now, self.load, r);
+        self.threads.put(t, Some(after));
+        self.resched = either(self.resched, ended);
+        self.slice_end = either(self.slice_end, ended);
+        Clocked {
+            cur: Some(t),
+            due,
+            ended,
+        }
+    }
+
+    /// Lets the current thread go.
+    fn let_go(&mut self, t: ThreadId)
+        requires current { self.old.current ≡ Some t }
+        ensures value { self.new ≡ without_current t self.old }
+        ensures no_earlier { (now : ℕ) → IsNoEarlier self.old now → IsNoEarlier self.new now }
+    {
+        self.threads.put(t, None);
+        self.current = None;
+        self.load -= 1;
+        self.resched = false;
+        self.slice_end = false;
+        self.switches = self.switches.saturating_add(1);
     }
 
     fn clear_marks(&mut self)

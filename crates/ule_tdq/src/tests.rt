@@ -1,6 +1,6 @@
 ghost use Rattle.std.specs.Prelude.{◌≡◌, IfOk};
 ghost use Rattle.ule_score.specs.Bounds.{KeepsBounds};
-ghost use Rattle.ule_tdq.specs.Cpu.{IsNoEarlier};
+ghost use Rattle.ule_model.specs.Conditions.{IsNoEarlier};
 
 use super::*;
 use std::alloc::Global;

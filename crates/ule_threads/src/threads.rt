@@ -27,7 +27,7 @@ impl Model for Threads {
 }
 
 /// So many copies of a value.
-fn repeated<T: Copy>(alloc: Global, x: T, count: usize) -> Result<Vec<T>, AllocError>
+pub fn repeated<T: Copy>(alloc: Global, x: T, count: usize) -> Result<Vec<T>, AllocError>
     ensures len { IfOk result (λ v. vec_len v ≡ count) }
     ensures each { IfOk result (λ v. (k : ℕ) → slice_index_or v.items k x ≡ x) }
 {

@@ -6,5 +6,5 @@ use Rattle.ule_tdq.proofs.tdq.Tdq.start.Goals as goal
 pub invariant_of-result : goal.invariant_of-result
 invariant_of-result c =
     let empty = c.in_ok-queues.ensures in
-    KeepsCpu_start _ c.requires c.in_ok-threads.ensures.slots c.in_ok-threads.ensures.none refl
+    KeepsCpu_start _ c.requires c.in_ok-threads.ensures.slots c.in_ok-threads.ensures.none refl refl
     (ap (λ (q : QueuesValue). q.real) empty) (ap (λ (q : QueuesValue). q.batch.lists) empty) (ap (λ (q : QueuesValue). q.idle) empty)

@@ -1,0 +1,32 @@
+-- The chains by place.
+use Rattle.std.proofs.Common.{◌≡◌, ℕ, ◌+◌, ◌%◌, List, [], ◌∷◌, ◌++◌, drop, length, Option, Some, sym, ◌∙◌, ap, subst, arith}
+use Rattle.std.specs.Prelude.{IfSome, option_and_then, slice_get, slice_set}
+use Rattle.std.proofs.lemmas.List.{length_push}
+use Rattle.ule_sleep.specs.Chain.{ChainValue, IsEmptyChain, sleeper_in}
+use Rattle.ule_sleep.specs.declared.chain.Sleeper.{Sleeper}
+use Rattle.ule_seq.specs.Chains.{AreEmptyChains, KeepsChains, changed_at, sleeper_on, with_changed}
+use Rattle.ule_model.specs.WorldValue.{first_found, sleeper_among}
+use Rattle.ule_seq.proofs.Lists.{drop_at, push_each}
+
+-- one chain more without sleepers
+pub chains_push : (n : ℕ) (chains new : List ChainValue) (c : ChainValue) → AreEmptyChains n chains → IsEmptyChain c n → new ≡ chains ++ c ∷ [] → AreEmptyChains (n + 1) new
+chains_push n chains new c empty starts is = record {
+  count_is = let same = empty.count_is in ap length is ∙ length_push chains c ∙ omega arith;
+  none = λ k. rw is (push_each (λ i x. IsEmptyChain x i) chains c empty.none (rw empty.count_is starts) k);
+}
+
+-- a chain changed at its place
+pub changed_at_found : (k : ℕ) (change : ChainValue → ChainValue) (chains : List ChainValue) (c : ChainValue) → slice_get chains k ≡ Some c → changed_at k change chains ≡ slice_set chains k (change c)
+changed_at_found k change chains c found = ap (λ (o : Option ChainValue). with_changed k change o chains) found
+
+-- what a chain at its place has of a thread
+pub sleeper_on_found : (k t : ℕ) (chains : List ChainValue) (c : ChainValue) → slice_get chains k ≡ Some c → sleeper_on chains k t ≡ sleeper_in c t
+sleeper_on_found k t chains c found = ap (λ (o : Option ChainValue). option_and_then (λ x. sleeper_in x t) o) found
+
+-- the first sleeper of a thread is that of the chain of its channel
+pub sleeper_of_chain : (chains : List ChainValue) (t i : ℕ) (c : ChainValue) (s : Sleeper) → KeepsChains chains → slice_get chains i ≡ Some c → sleeper_in c t ≡ Some s → s.channel % 8 ≡ c.number →
+    sleeper_among chains t ≡ sleeper_among (drop i chains) t → sleeper_on chains (s.channel % 8) t ≡ sleeper_among chains t
+sleeper_of_chain chains t i c s keeps got sleeps chain first =
+    let here : c.number ≡ i = subst (λ (o : Option ChainValue). IfSome o (λ x. x.number ≡ i)) got (keeps.numbers i) in
+    ap (λ (k : ℕ). sleeper_on chains k t) (chain ∙ here) ∙ sleeper_on_found i t chains c got ∙ sleeps ∙
+    sym (first ∙ ap (λ (cs : List ChainValue). sleeper_among cs t) (drop_at chains i c got) ∙ ap (λ (o : Option Sleeper). first_found o (sleeper_among (drop (i + 1) chains) t)) sleeps)

@@ -1,0 +1,16 @@
+-- Which hand has a thread.
+use Rattle.std.proofs.Common.{◌≡◌, ℕ, suc, Bool, true, false, List, ◌∷◌, Option, Some, None, if◌then◌else◌, refl, ap}
+use Rattle.std.proofs.lemmas.Bool.{false≢true}
+use Rattle.ule_model.specs.WorldValue.{first_found, holder_among}
+use Rattle.ule_seq.specs.Hands.{is_held}
+use Rattle.ule_score.specs.declared.record.ThreadRecord.{ThreadRecord}
+
+-- the first hand, where it has the thread
+pub held_here : (w t : ℕ) (h : Option ThreadRecord) (hs : List (Option ThreadRecord)) → is_held h t ≡ true → holder_among w (h ∷ hs) t ≡ Some w
+held_here w t None hs is = absurd (false≢true is)
+held_here w t (Some r) hs is = ap (λ (b : Bool). first_found (if b then Some w else None) (holder_among (suc w) hs t)) is
+
+-- one behind it, where it hasn't
+pub held_past : (w t : ℕ) (h : Option ThreadRecord) (hs : List (Option ThreadRecord)) → is_held h t ≡ false → holder_among w (h ∷ hs) t ≡ holder_among (suc w) hs t
+held_past w t None hs is = refl
+held_past w t (Some r) hs is = ap (λ (b : Bool). first_found (if b then Some w else None) (holder_among (suc w) hs t)) is
