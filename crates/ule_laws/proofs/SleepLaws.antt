@@ -8,7 +8,7 @@ use Rattle.ule_score.specs.declared.place.Place.{Place}
 use Rattle.ule_score.specs.declared.place.Place.TheVariants.{Running, Queued, Asleep, Unborn, Gone, Hand}
 use Rattle.ule_score.specs.declared.record.Settings.{Settings}
 use Rattle.ule_score.specs.declared.record.ThreadRecord.{ThreadRecord}
-use Rattle.ule_sleep.specs.Chain.{ChainValue, IsSleeperOf, KeepsChain, sleeper_in, with_sleeper, without_sleeper}
+use Rattle.ule_sleep.specs.Chain.{AreChains, ChainValue, IsChain, IsSleeperOf, KeepsChain, sleeper_in, with_sleeper, without_sleeper}
 use Rattle.ule_sleep.specs.declared.chain.Sleeper.{Sleeper}
 use Rattle.ule_types.specs.declared.event.Event.TheVariants.{Bed, Wake}
 use Rattle.ule_types.specs.declared.event.Reply.{Reply}
@@ -33,17 +33,8 @@ use Rattle.ule_laws.proofs.WorldLaws.{Agree, slice_get-set_other, slice_get-set_
 
 -- ---- the chains of a scheduler
 
--- chain k, with what every chain keeps
-pub record IsChain (k : ℕ) (c : ChainValue) : Type 0 where
-  pub number : c.number ≡ k
-  pub keeps : KeepsChain c
-
--- the chains of a scheduler are chains 0, 1 and so on
-abbrev pub AreChains : WorldValue → Type 0
-AreChains v = (k : ℕ) → IfSome (slice_get v.chains k) (IsChain k)
-
 -- a sleeper is on the chain of its channel
-pub own_chain : (v : WorldValue) → AreChains v → (k t : ℕ) (x : Sleeper) → sleeper_at v k t ≡ Some x → x.channel % 8 ≡ k
+pub own_chain : (v : WorldValue) → AreChains v.chains → (k t : ℕ) (x : Sleeper) → sleeper_at v k t ≡ Some x → x.channel % 8 ≡ k
 own_chain v keeps k t x is = split (slice_get v.chains k) (keeps k) is
   where
     split : (o : Option ChainValue) → IfSome o (IsChain k) → option_and_then (λ c. sleeper_in c t) o ≡ Some x → x.channel % 8 ≡ k
@@ -58,7 +49,7 @@ pub record HasChain (v : WorldValue) (k : ℕ) : Type 0 where
   pub keeps : KeepsChain value
 
 -- each channel has one
-pub chain_at : (v : WorldValue) (channel : ℕ) → length v.chains ≡ 8 → AreChains v → HasChain v (channel % 8)
+pub chain_at : (v : WorldValue) (channel : ℕ) → length v.chains ≡ 8 → AreChains v.chains → HasChain v (channel % 8)
 chain_at v channel count keeps =
     ⊎_elim
     (λ (there : (x : ChainValue) × (channel % 8 < length v.chains) × (slice_get v.chains (channel % 8) ≡ Some x) × (get_or v.chains (channel % 8) x ≡ x)).
@@ -181,7 +172,7 @@ bedded_shows v w worker channel r shows within held chain =
     found = held_shown v w.members (threads_shown v w shows) worker r held
 
 -- the step of a bed
-pub bed_shows : (v : WorldValue) (worker t channel now : ℕ) → worker < length v.cpus → AreChains v → option_map (λ r. r.id) (held_by v worker) ≡ Some t →
+pub bed_shows : (v : WorldValue) (worker t channel now : ℕ) → worker < length v.cpus → AreChains v.chains → option_map (λ r. r.id) (held_by v worker) ≡ Some t →
     Steps v worker (Bed t channel) now (value_step v worker (Bed t channel) now).0 (value_step v worker (Bed t channel) now).1
 bed_shows v worker t channel now within keeps holds w shows = split (held_by v worker) refl holds
   where
@@ -208,7 +199,7 @@ with_woken v worker now t x chain =
     changed_off (slice_set v.chains (x.channel % 8) (without_sleeper t chain.value)) (slice_set v.hands worker (Some (after_sleep v.settings now x.thread))) v
 
 -- a sleeper is put into a hand
-woken_moves : (v : WorldValue) (w : World) (worker now t : ℕ) (x : Sleeper) → Shows v w → worker < length v.hands → AreChains v → held_by v worker ≡ None → thread_of t w.members ≡ Some (asleep_member x) → (chain : HasChain v (x.channel % 8)) →
+woken_moves : (v : WorldValue) (w : World) (worker now t : ℕ) (x : Sleeper) → Shows v w → worker < length v.hands → AreChains v.chains → held_by v worker ≡ None → thread_of t w.members ≡ Some (asleep_member x) → (chain : HasChain v (x.channel % 8)) →
     MovesOne v (with_woken v worker now t x chain) t (held_member worker (after_sleep v.settings now x.thread))
 woken_moves v w worker now t x shows within keeps empty found chain = record {
   count = refl;
@@ -257,7 +248,7 @@ woken_moves v w worker now t x shows within keeps empty found chain = record {
         sym (own_chain v keeps j t y is) ∙ ap (λ (i : ℕ). i % 8) (one_channel y (one_place t w.members (asleep_member y) (asleep_member x) (asleep_shown v w.members threads j t y is) found))
 
 -- the scheduler after it shows the world after it
-woken_shows : (v : WorldValue) (w : World) (worker now t : ℕ) (x : Sleeper) → Shows v w → worker < length v.cpus → AreChains v → held_by v worker ≡ None → thread_of t w.members ≡ Some (asleep_member x) → (chain : HasChain v (x.channel % 8)) →
+woken_shows : (v : WorldValue) (w : World) (worker now t : ℕ) (x : Sleeper) → Shows v w → worker < length v.cpus → AreChains v.chains → held_by v worker ≡ None → thread_of t w.members ≡ Some (asleep_member x) → (chain : HasChain v (x.channel % 8)) →
     Shows (with_woken v worker now t x chain) (record w { members = moved_to t (Hand worker) (pos 0) (with_record t (after_sleep v.settings now) w.members) })
 woken_shows v w worker now t x shows within keeps empty found chain =
     off_shows v w (slice_set v.chains (x.channel % 8) (without_sleeper t chain.value)) (slice_set v.hands worker (Some (change x.thread))) ns shows (length-set v.chains _ _) (length-set v.hands worker _)
@@ -282,7 +273,7 @@ abbrev woken_world : Option Member → ℕ → ℕ → Settings → World → Wo
 woken_world found worker now settings w = on_members (λ ms. woken_with found worker now settings ms) w
 
 -- where the thread sleeps
-wake_asleep : (v : WorldValue) (w : World) (worker now t : ℕ) (x : Sleeper) → Shows v w → worker < length v.cpus → AreChains v → held_by v worker ≡ None → thread_of t w.members ≡ Some (asleep_member x) →
+wake_asleep : (v : WorldValue) (w : World) (worker now t : ℕ) (x : Sleeper) → Shows v w → worker < length v.cpus → AreChains v.chains → held_by v worker ≡ None → thread_of t w.members ≡ Some (asleep_member x) →
     Agree (value_woken worker now (Some x) t v) (woken_world (Some (asleep_member x)) worker now w.settings w)
 wake_asleep v w worker now t x shows within keeps empty found =
     let chain : HasChain v (x.channel % 8) = chain_at v x.channel shows.chain_count keeps in
@@ -323,7 +314,7 @@ wake_placed v w worker now t m (Hand h) shows found awake stands place at =
     absurd (no_standing v t awake (no_place v w t shows (λ c. thread_on_off c t m w v shows found (ap (is_on c) place))) stands)
 
 -- the step of a wake
-pub wake_shows : (v : WorldValue) (worker t now : ℕ) → worker < length v.cpus → AreChains v → held_by v worker ≡ None → IsSome (standing_of v t) →
+pub wake_shows : (v : WorldValue) (worker t now : ℕ) → worker < length v.cpus → AreChains v.chains → held_by v worker ≡ None → IsSome (standing_of v t) →
     Steps v worker (Wake t) now (value_step v worker (Wake t) now).0 (value_step v worker (Wake t) now).1
 wake_shows v worker t now within keeps empty stands w shows = split (sleeper_among v.chains t) refl
   where

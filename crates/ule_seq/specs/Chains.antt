@@ -1,17 +1,18 @@
 -- The sleep chains.
 use Rattle.std.specs.Prelude.{◌≡◌, ℕ, List, length, slice_get, slice_set, Option, Some, None, IfSome, option_and_then}
-use Rattle.ule_sleep.specs.Chain.{ChainValue, IsEmptyChain, sleeper_in}
+use Rattle.ule_sleep.specs.Chain.{AreChains, ChainValue, IsEmptyChain, sleeper_in}
 use Rattle.ule_sleep.specs.declared.chain.Sleeper.{Sleeper}
 
 -- what the chains keep: there are eight, each at the place of its number
 pub record KeepsChains (chains : List ChainValue) : Type 0 where
   pub count : length chains ≡ 8
-  pub numbers : (k : ℕ) → IfSome (slice_get chains k) (λ c. c.number ≡ k)
+  pub each : AreChains chains
 
 -- so many chains without sleepers
 pub record AreEmptyChains (count : ℕ) (chains : List ChainValue) : Type 0 where
   pub count_is : length chains ≡ count
   pub none : (k : ℕ) → IfSome (slice_get chains k) (λ c. IsEmptyChain c k)
+  pub each : AreChains chains
 
 -- the sleeper of thread t on chain k
 abbrev pub sleeper_on : List ChainValue → ℕ → ℕ → Option Sleeper

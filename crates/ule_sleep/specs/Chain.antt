@@ -1,5 +1,5 @@
 -- A sleep chain as a value: its number, and for each thread number the sleeper, if it has one.
-use Rattle.std.specs.Prelude.{◌≡◌, ℕ, ◌%◌, ◌<◌, List, length, slice_index_or, slice_set, Option, Some, None, IfSome}
+use Rattle.std.specs.Prelude.{◌≡◌, ℕ, ◌%◌, ◌<◌, List, length, slice_get, slice_index_or, slice_set, Option, Some, None, IfSome}
 use Rattle.std.specs.Option.{option_map}
 use Rattle.ule_score.specs.Bounds.{KeepsBounds}
 use Rattle.ule_score.specs.declared.place.Place.{Place}
@@ -48,3 +48,12 @@ pub record KeepsChain (v : ChainValue) : Type 0 where
   pub threads : length v.threads ≡ 256
   pub channels : length v.channels ≡ 256
   pub sleepers : (t : ℕ) → IfSome (sleeper_in v t) (IsSleeperOf v.number t)
+
+-- the chain of number k
+pub record IsChain (k : ℕ) (v : ChainValue) : Type 0 where
+  pub number : v.number ≡ k
+  pub keeps : KeepsChain v
+
+-- chains, each at the place of its number
+abbrev pub AreChains : List ChainValue → Type 0
+AreChains chains = (k : ℕ) → IfSome (slice_get chains k) (IsChain k)

@@ -1,7 +1,7 @@
 ghost use Rattle.std.specs.Prelude.{◌≡◌, ℕ, ◌%◌, ◌<◌, None, Some, IfOk, IfSome, IsSome, vec_len, slice_index_or};
 ghost use Rattle.std.specs.Option.{option_map};
 ghost use Rattle.ule_score.specs.Bounds.{KeepsBounds};
-ghost use Rattle.ule_sleep.specs.Chain.{IsEmptyChain, IsSleeperOf, place_of_sleeper, sleeper_in, thread_of_sleeper, with_sleeper, without_sleeper};
+ghost use Rattle.ule_sleep.specs.Chain.{IsEmptyChain, IsSleeperOf, KeepsChain, place_of_sleeper, sleeper_in, thread_of_sleeper, with_sleeper, without_sleeper};
 
 use std::alloc::Global;
 use std::marker::Model;
@@ -43,7 +43,8 @@ impl Chain {
     /// A chain of this number, 0..=7, without sleepers. It takes all the memory that it ever needs.
     pub fn start(alloc: Global, number: u8) -> Result<Chain, Memory>
         requires { number < 8 }
-        ensures { IfOk result (λ c. IsEmptyChain c number) }
+        ensures empty { IfOk result (λ c. IsEmptyChain c number) }
+        ensures keeps { IfOk result KeepsChain }
     {
         let threads = Threads::none(alloc)?;
         let Ok(channels) = vec![in alloc; 0; THREADS] else {
@@ -61,7 +62,8 @@ impl Chain {
         requires chain { channel % 8 ≡ self.old.number }
         requires absent { sleeper_in self.old r.id ≡ None }
         requires bounds { KeepsBounds r }
-        ensures { self.new ≡ with_sleeper r channel self.old }
+        ensures rest { self.new ≡ with_sleeper r channel self.old }
+        ensures keeps { KeepsChain self.new }
     {
         self.channels[usize::from(r.id.0)] = channel;
         self.threads.put(r.id, Some(r));
@@ -72,6 +74,7 @@ impl Chain {
         requires { IsSome (sleeper_in self.old t) }
         ensures thread { Some result ≡ thread_of_sleeper (sleeper_in self.old t) }
         ensures rest { self.new ≡ without_sleeper t self.old }
+        ensures keeps { KeepsChain self.new }
         ensures number { result.id ≡ t }
         ensures bounds { KeepsBounds result }
     {
