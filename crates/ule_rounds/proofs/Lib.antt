@@ -1,6 +1,5 @@
 pub mod Histories
 pub mod Courses
+pub mod Orderly
 pub mod RoundsLaws
 pub mod LegalLaws
-pub mod YieldRounds
-pub mod HistoryLaws
