@@ -3,5 +3,7 @@ pub mod Courses
 pub mod Orderly
 pub mod Numbers
 pub mod Agreement
+pub mod StepKeeps
+pub mod Hands
 pub mod RoundsLaws
 pub mod LegalLaws
