@@ -195,21 +195,29 @@ pub woken_number : (settings : Settings) (now : ℕ) (r : ThreadRecord) → (aft
 woken_number settings now r =
     rebased_number settings (record (rested now r) { slice_count = 0; slept_at = 0 }) ∙ rested_number now r
 
--- each event keeps the threads' numbers
-pub ids_kept : (settings : Settings) (now : ℕ) (ids : List ℕ) → IsKept settings now (λ ms. ids_of ms ≡ ids)
-ids_kept settings now ids = record {
-  moves = λ t place order ms same. ids_of-changed t (λ m. record m { place = place; order = order }) ms (λ m. refl) ∙ same;
-  ticks = λ t load ms same. recorded t (λ r. (after_tick settings now load r).0) ms (ticked_number settings now load) same;
-  ran = λ t ms same. recorded t (after_running now) ms (λ r. refl) same;
-  runs = λ t ms same. recorded t (before_running now) ms (λ r. refl) same;
-  sleeps = λ t ms same. recorded t (before_sleep now) ms (λ r. refl) same;
-  wakes = λ t ms same. recorded t (after_sleep settings now) ms (woken_number settings now) same;
-  lands = λ t c ms same. recorded t (placed_on c) ms (λ r. refl) same;
+-- what holds of the threads' numbers is kept
+pub numbers_kept : (settings : Settings) (now : ℕ) (P : List ℕ → Type 0) → IsKept settings now (λ ms. P (ids_of ms))
+numbers_kept settings now P = record {
+  moves = λ t place order ms holds. subst P (sym (ids_of-changed t (λ m. record m { place = place; order = order }) ms (λ m. refl))) holds;
+  ticks = λ t load ms holds. recorded t (λ r. (after_tick settings now load r).0) ms (ticked_number settings now load) holds;
+  ran = λ t ms holds. recorded t (after_running now) ms (λ r. refl) holds;
+  runs = λ t ms holds. recorded t (before_running now) ms (λ r. refl) holds;
+  sleeps = λ t ms holds. recorded t (before_sleep now) ms (λ r. refl) holds;
+  wakes = λ t ms holds. recorded t (after_sleep settings now) ms (woken_number settings now) holds;
+  lands = λ t c ms holds. recorded t (placed_on c) ms (λ r. refl) holds;
 }
   where
-    recorded : (t : ℕ) (change : ThreadRecord → ThreadRecord) (ms : List Member) → ((r : ThreadRecord) → (change r).id ≡ r.id) → ids_of ms ≡ ids → ids_of (with_record t change ms) ≡ ids
-    recorded t change ms leaves same = ids_of-changed t (λ m. record m { thread = change m.thread }) ms (λ m. leaves m.thread) ∙ same
+    recorded : (t : ℕ) (change : ThreadRecord → ThreadRecord) (ms : List Member) → ((r : ThreadRecord) → (change r).id ≡ r.id) → P (ids_of ms) → P (ids_of (with_record t change ms))
+    recorded t change ms leaves holds = subst P (sym (ids_of-changed t (λ m. record m { thread = change m.thread }) ms (λ m. leaves m.thread))) holds
+
+-- no number stands twice
+abbrev pub AreDistinct : List Member → Type 0
+AreDistinct ms = is_distinct (ids_of ms) ≡ true
+
+-- so it stays
+pub distinct_kept : (settings : Settings) (now : ℕ) → IsKept settings now AreDistinct
+distinct_kept settings now = numbers_kept settings now (λ us. is_distinct us ≡ true)
 
 -- the threads after each event have the numbers that they had
 pub step_ids : (w : World) (worker : ℕ) (e : Event) (now : ℕ) → ids_of (step w worker e now).0.members ≡ ids_of w.members
-step_ids w worker e now = step_keeps (λ ms. ids_of ms ≡ ids_of w.members) w worker e now (ids_kept w.settings now (ids_of w.members)) refl
+step_ids w worker e now = step_keeps (λ ms. ids_of ms ≡ ids_of w.members) w worker e now (numbers_kept w.settings now (λ us. us ≡ ids_of w.members)) refl
