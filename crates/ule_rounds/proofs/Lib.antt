@@ -5,5 +5,6 @@ pub mod Numbers
 pub mod Agreement
 pub mod StepKeeps
 pub mod Hands
+pub mod Records
 pub mod RoundsLaws
 pub mod LegalLaws

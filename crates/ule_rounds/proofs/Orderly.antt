@@ -53,10 +53,15 @@ put_by_first (i ∷ is) = put_by_item i
 abbrev pub held_at : Course → Option ℕ
 held_at course = put_by_first (added course.progress.given course.last)
 
--- a reply of a woken thread that can land
-abbrev pub CanLand : ℕ → Reply → Type 0
-CanLand cpus (reply.Woken p bound last last_run) = landing_cpu bound < cpus
-CanLand cpus _ = Unit {0}
+-- a woken thread of this reply lands on one of so many CPUs
+abbrev pub LandsWithin : ℕ → Reply → Type 0
+LandsWithin cpus (reply.Woken p bound last last_run) = landing_cpu bound < cpus
+LandsWithin cpus _ = Unit {0}
+
+-- the reply of a wake is such
+abbrev pub CanLand : ℕ → Event → Reply → Type 0
+CanLand cpus (event.Wake t) r = LandsWithin cpus r
+CanLand cpus _ r = Unit {0}
 
 -- an event that takes a thread from the hand seeks none
 pub ready_putting : (w : World) (worker t : ℕ) (e : Event) → put_by e ≡ Some t → is_ready w worker e ≡ true
@@ -93,7 +98,7 @@ added_seeks ids (Some e) (Some told) = following_seeks e told.0
     following_seeks _ r = tt
 
 -- it names a CPU that there is, where the woken thread can land
-pub following_names : (cpus : ℕ) (e : Event) (r : Reply) → CanLand cpus r → AllByRecursion (λ i. names_item cpus i ≡ true) (following e r)
+pub following_names : (cpus : ℕ) (e : Event) (r : Reply) → CanLand cpus e r → AllByRecursion (λ i. names_item cpus i ≡ true) (following e r)
 following_names cpus (event.Drop c channel) (reply.Dropped out into) can = (refl, tt)
 following_names cpus (event.Drop c channel) _ can = tt
 following_names cpus (event.Wake t) (reply.Woken p bound last last_run) can = (lt-ltb (landing_cpu bound) cpus can, tt)
@@ -244,7 +249,7 @@ valid_tail ids cpus c cs both = (
 )
 
 -- the course told the reply of its event is orderly
-pub orderly_told : (ids : List ℕ) (cpus worker : ℕ) (course : Course) (e : Event) (after : Course) (r : Reply) (now : ℕ) → IsOrderly ids cpus worker course → IsNext worker course (item.Event e) after → CanLand cpus r → IsOrderly ids cpus worker (record after { last = Some (r, now) })
+pub orderly_told : (ids : List ℕ) (cpus worker : ℕ) (course : Course) (e : Event) (after : Course) (r : Reply) (now : ℕ) → IsOrderly ids cpus worker course → IsNext worker course (item.Event e) after → CanLand cpus e r → IsOrderly ids cpus worker (record after { last = Some (r, now) })
 orderly_told ids cpus worker course e after r now orderly next can =
     let left = next_script (AreValid ids cpus) worker course (item.Event e) after (orderly.built, orderly.valid) (valid_tail ids cpus) next in
     subst (λ a. IsOrderly ids cpus worker (record a { last = Some (r, now) })) (sym left.1.1)
