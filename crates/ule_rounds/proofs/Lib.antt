@@ -6,5 +6,6 @@ pub mod Agreement
 pub mod StepKeeps
 pub mod Hands
 pub mod Records
+pub mod Setups
 pub mod RoundsLaws
 pub mod LegalLaws

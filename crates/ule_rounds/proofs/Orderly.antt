@@ -1,10 +1,12 @@
 -- Orderly courses: those of built commands, each begun and done, whose next item is one that the last
 -- reply added or the one that a command begins with.
-use Rattle.std.proofs.Common.{◌≡◌, ℕ, ◌<◌, ◌⊎◌, inl, inr, Bool, true, false, List, [], ◌∷◌, ◌++◌, Option, Some, None, refl, sym, ◌∙◌, ap, subst, ⊎_elim}
+use Rattle.std.proofs.Common.{◌≡◌, ℕ, ◌+◌, ◌<◌, ◌⊎◌, inl, inr, Bool, true, false, List, [], ◌∷◌, ◌++◌, Option, Some, None, refl, sym, ◌∙◌, ap, subst, sum_by, ⊎_elim, arith}
 use Rattle.std.specs.List.{AllByRecursion, list_all}
 use Rattle.std.proofs.lemmas.Bool.{and_parts, false≢true, lt-ltb}
 use Rattle.std.proofs.lemmas.List.{append-nil}
+use Rattle.std.proofs.lemmas.List.Sums.{sum_by-cons}
 use Rattle.std.proofs.lemmas.Option.{none-some, some_pair_parts}
+use Rattle.ule_prio.specs.Class.{is_within}
 use Rattle.ule_types.specs.Commands.{is_among, is_command}
 use Rattle.ule_types.specs.Form.{is_built}
 use Rattle.ule_types.specs.declared.command.Command.{Command}
@@ -16,6 +18,7 @@ use Rattle.ule_types.specs.declared.event.Item.TheVariants as item
 use Rattle.ule_types.specs.declared.event.Reply.{Reply}
 use Rattle.ule_types.specs.declared.event.Reply.TheVariants as reply
 use Rattle.ule_model.specs.Conditions.{names_cpu}
+use Rattle.ule_model.specs.Legal.{amount_of}
 use Rattle.ule_model.specs.Program.{Course, added, event_of, following, items_of, landing_cpu, next_step}
 use Rattle.ule_model.specs.Step.{is_ready}
 use Rattle.ule_model.specs.World.{World}
@@ -28,10 +31,16 @@ abbrev pub names_item : ℕ → Item → Bool
 names_item cpus (item.Event e) = names_cpu cpus e
 names_item cpus (item.Advance k) = true
 
--- the thread that a wake seeks is a declared one
-abbrev pub SeeksDeclared : List ℕ → Item → Type 0
-SeeksDeclared ids (item.Event (event.Wake t)) = is_among ids t ≡ true
-SeeksDeclared ids _ = Unit {0}
+-- the thread that a wake seeks is a declared one, and the time that goes on has its bounds
+abbrev pub IsValid : List ℕ → Item → Type 0
+IsValid ids (item.Event (event.Wake t)) = is_among ids t ≡ true
+IsValid ids (item.Advance k) = is_within 1 1000000 k ≡ true
+IsValid ids _ = Unit {0}
+
+-- the time that an item adds
+abbrev pub time_of : Item → ℕ
+time_of (item.Event e) = 0
+time_of (item.Advance k) = k
 
 -- the thread that an event takes from the worker's hand
 abbrev pub put_by : Event → Option ℕ
@@ -84,18 +93,31 @@ added_cases (Some e) (Some told) = following_cases e told.0
     following_cases (event.Wake t) _ = inl refl
     following_cases _ r = inl refl
 
--- it seeks no thread
-pub added_seeks : (ids : List ℕ) (given : Option Event) (last : Option (Reply × ℕ)) → AllByRecursion (SeeksDeclared ids) (added given last)
-added_seeks ids None last = tt
-added_seeks ids (Some e) None = tt
-added_seeks ids (Some e) (Some told) = following_seeks e told.0
+-- it is valid
+pub added_valid : (ids : List ℕ) (given : Option Event) (last : Option (Reply × ℕ)) → AllByRecursion (IsValid ids) (added given last)
+added_valid ids None last = tt
+added_valid ids (Some e) None = tt
+added_valid ids (Some e) (Some told) = following_valid e told.0
   where
-    following_seeks : (e : Event) (r : Reply) → AllByRecursion (SeeksDeclared ids) (following e r)
-    following_seeks (event.Drop c channel) (reply.Dropped out into) = (tt, tt)
-    following_seeks (event.Drop c channel) _ = tt
-    following_seeks (event.Wake t) (reply.Woken p bound last last_run) = (tt, tt)
-    following_seeks (event.Wake t) _ = tt
-    following_seeks _ r = tt
+    following_valid : (e : Event) (r : Reply) → AllByRecursion (IsValid ids) (following e r)
+    following_valid (event.Drop c channel) (reply.Dropped out into) = (tt, tt)
+    following_valid (event.Drop c channel) _ = tt
+    following_valid (event.Wake t) (reply.Woken p bound last last_run) = (tt, tt)
+    following_valid (event.Wake t) _ = tt
+    following_valid _ r = tt
+
+-- it adds no time
+pub added_time : (given : Option Event) (last : Option (Reply × ℕ)) → AllByRecursion (λ i. time_of i ≡ 0) (added given last)
+added_time None last = tt
+added_time (Some e) None = tt
+added_time (Some e) (Some told) = following_time e told.0
+  where
+    following_time : (e : Event) (r : Reply) → AllByRecursion (λ i. time_of i ≡ 0) (following e r)
+    following_time (event.Drop c channel) (reply.Dropped out into) = (refl, tt)
+    following_time (event.Drop c channel) _ = tt
+    following_time (event.Wake t) (reply.Woken p bound last last_run) = (refl, tt)
+    following_time (event.Wake t) _ = tt
+    following_time _ r = tt
 
 -- it names a CPU that there is, where the woken thread can land
 pub following_names : (cpus : ℕ) (e : Event) (r : Reply) → CanLand cpus e r → AllByRecursion (λ i. names_item cpus i ≡ true) (following e r)
@@ -137,15 +159,25 @@ items_name cpus worker (Sleep channel) below = (lt-ltb worker cpus below, tt)
 items_name cpus worker (Wake t) below = (refl, tt)
 items_name cpus worker _ below = tt
 
--- it seeks a declared thread
-pub items_seek : (ids : List ℕ) (cpus worker : ℕ) (c : Command) → is_command ids cpus c ≡ true → AllByRecursion (SeeksDeclared ids) (items_of worker c)
-items_seek ids cpus worker Tick valid = (tt, tt)
-items_seek ids cpus worker (Time k) valid = (tt, tt)
-items_seek ids cpus worker Yield valid = (tt, tt)
-items_seek ids cpus worker Resched valid = (tt, tt)
-items_seek ids cpus worker (Sleep channel) valid = (tt, tt)
-items_seek ids cpus worker (Wake t) valid = (valid, tt)
-items_seek ids cpus worker _ valid = tt
+-- it is valid where the command is
+pub items_valid : (ids : List ℕ) (cpus worker : ℕ) (c : Command) → is_command ids cpus c ≡ true → AllByRecursion (IsValid ids) (items_of worker c)
+items_valid ids cpus worker Tick valid = (tt, tt)
+items_valid ids cpus worker (Time k) valid = (valid, tt)
+items_valid ids cpus worker Yield valid = (tt, tt)
+items_valid ids cpus worker Resched valid = (tt, tt)
+items_valid ids cpus worker (Sleep channel) valid = (tt, tt)
+items_valid ids cpus worker (Wake t) valid = (valid, tt)
+items_valid ids cpus worker _ valid = tt
+
+-- it adds the time that the command does
+pub items_time : (worker : ℕ) (c : Command) → AllByRecursion (λ i. time_of i ≡ amount_of c) (items_of worker c)
+items_time worker Tick = (refl, tt)
+items_time worker (Time k) = (refl, tt)
+items_time worker Yield = (refl, tt)
+items_time worker Resched = (refl, tt)
+items_time worker (Sleep channel) = (refl, tt)
+items_time worker (Wake t) = (refl, tt)
+items_time worker _ = tt
 
 -- ---- orderly courses
 
@@ -209,11 +241,11 @@ pub next_names : (ids : List ℕ) (cpus worker : ℕ) (course : Course) (i : Ite
 next_names ids cpus worker course i after orderly below next =
     next_has (λ j. names_item cpus j ≡ true) worker course i after orderly.due (λ c cs script. items_name cpus worker c below) next
 
--- it seeks a declared thread
-pub next_seeks : (ids : List ℕ) (cpus worker : ℕ) (course : Course) (i : Item) (after : Course) → IsOrderly ids cpus worker course → IsNext worker course i after → SeeksDeclared ids i
-next_seeks ids cpus worker course i after orderly next =
-    next_has (SeeksDeclared ids) worker course i after (added_seeks ids course.progress.given course.last)
-    (λ c cs script. items_seek ids cpus worker c (and_parts (is_command ids cpus c) (list_all (is_command ids cpus) cs) (subst (λ cs. list_all (is_command ids cpus) cs ≡ true) script orderly.valid)).0) next
+-- it is valid
+pub next_valid : (ids : List ℕ) (cpus worker : ℕ) (course : Course) (i : Item) (after : Course) → IsOrderly ids cpus worker course → IsNext worker course i after → IsValid ids i
+next_valid ids cpus worker course i after orderly next =
+    next_has (IsValid ids) worker course i after (added_valid ids course.progress.given course.last)
+    (λ c cs script. items_valid ids cpus worker c (and_parts (is_command ids cpus c) (list_all (is_command ids cpus) cs) (subst (λ cs. list_all (is_command ids cpus) cs ≡ true) script orderly.valid)).0) next
 
 -- it takes from the hand what the worker has there
 pub next_puts : (worker : ℕ) (course : Course) (i : Item) (after : Course) → IsNext worker course i after → held_at course ≡ put_by_item i
@@ -229,6 +261,41 @@ held_goes_on ids cpus worker t course orderly held ended =
     none-some (one.0, gone_on course.script worker one.0 [])
     (sym ended ∙ orderly_from ids cpus worker course orderly ∙ ap (next_from course.script worker) one.1 ∙ next_from_item course.script worker one.0 []))
     (added_cases course.progress.given course.last)
+
+-- a course at its end has no further command
+pub ended_script : (ids : List ℕ) (cpus worker : ℕ) (course : Course) → IsOrderly ids cpus worker course → next_step course ≡ None → course.script ≡ []
+ended_script ids cpus worker course orderly ended =
+    ⊎_elim (λ (none : added course.progress.given course.last ≡ []). at_script course.script refl orderly.built (ap (next_from course.script worker) (sym none) ∙ from))
+    (λ (one : (i : Item) × (added course.progress.given course.last ≡ i ∷ [])).
+    absurd (none-some (one.0, gone_on course.script worker one.0 []) (sym from ∙ ap (next_from course.script worker) one.1 ∙ next_from_item course.script worker one.0 [])))
+    (added_cases course.progress.given course.last)
+  where
+    from : next_from course.script worker (added course.progress.given course.last) ≡ None
+    from = sym (orderly_from ids cpus worker course orderly) ∙ ended
+
+    at_script : (script : List Command) → course.script ≡ script → list_all is_built script ≡ true → next_from script worker [] ≡ None → course.script ≡ []
+    at_script [] is built none = is
+    at_script (c ∷ cs) is built none =
+        let one = items_one worker c (and_parts (is_built c) (list_all is_built cs) built).0 in
+        absurd (none-some (one.0, gone_on cs worker one.0 []) (sym none ∙ ap (next_from cs worker) one.1 ∙ next_from_item cs worker one.0 []))
+
+-- ---- the time that is left
+
+-- the time that a script adds
+abbrev pub amount_in : List Command → ℕ
+amount_in script = sum_by amount_of script
+
+-- an item takes its time from what its script adds
+pub next_time : (worker : ℕ) (course : Course) (i : Item) (after : Course) → IsNext worker course i after → time_of i + amount_in after.script ≡ amount_in course.script
+next_time worker course i after (replied is gone) =
+    let none : time_of i ≡ 0 = (subst (AllByRecursion (λ j. time_of j ≡ 0)) is (added_time course.progress.given course.last)).0 in
+    let same : amount_in after.script ≡ amount_in course.script = ap (λ a. amount_in a.script) gone in
+    omega (arith, none, same)
+next_time worker course i after (begins c cs none script is gone) =
+    let own : time_of i ≡ amount_of c = (subst (AllByRecursion (λ j. time_of j ≡ amount_of c)) is (items_time worker c)).0 in
+    let left : amount_in after.script ≡ amount_in cs = ap (λ a. amount_in a.script) gone in
+    let whole : amount_in course.script ≡ amount_of c + amount_in cs = ap amount_in script ∙ sum_by-cons amount_of c cs in
+    omega (arith, own, left, whole)
 
 -- ---- the course after an item
 
