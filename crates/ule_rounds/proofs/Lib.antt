@@ -7,5 +7,7 @@ pub mod StepKeeps
 pub mod Hands
 pub mod Records
 pub mod Setups
+pub mod Starts
 pub mod RoundsLaws
 pub mod LegalLaws
+pub mod Plays
