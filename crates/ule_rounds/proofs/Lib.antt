@@ -11,3 +11,4 @@ pub mod Starts
 pub mod RoundsLaws
 pub mod LegalLaws
 pub mod Plays
+pub mod Keeping
