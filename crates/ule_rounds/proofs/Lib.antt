@@ -12,3 +12,5 @@ pub mod RoundsLaws
 pub mod LegalLaws
 pub mod Plays
 pub mod Keeping
+pub mod Finishing
+pub mod HistoryLaws
