@@ -1,5 +1,5 @@
 -- Courses: how a worker's entries go on, and how its items run out.
-use Rattle.std.proofs.Common.{◌≡◌, ℕ, ◌+◌, ◌*◌, ◌≤◌, ◌==◌, ◌&&◌, nat_lt, Bool, true, false, List, [], ◌∷◌, ◌++◌, length, sum_by, Option, Some, None, if◌then◌else◌, refl, sym, ◌∙◌, ap, subst, arith}
+use Rattle.std.proofs.Common.{◌≡◌, ℕ, ◌+◌, ◌*◌, ◌≤◌, ◌==◌, ◌&&◌, nat_lt, List, [], ◌∷◌, ◌++◌, sum_by, Option, Some, None, refl, sym, ◌∙◌, ap, subst, arith}
 use Rattle.std.proofs.lemmas.Bool.{cond_both}
 use Rattle.std.proofs.lemmas.List.Sums.{sum_by-append, sum_by-cons}
 use Rattle.std.proofs.lemmas.Option.{none-some, some_pair_parts}
@@ -14,7 +14,7 @@ use Rattle.ule_types.specs.declared.event.Item.TheVariants as item
 use Rattle.ule_types.specs.declared.event.Reply.{Reply}
 use Rattle.ule_types.specs.declared.event.Reply.TheVariants as reply
 use Rattle.ule_model.specs.Legal.{Follows, stays, advances, acts}
-use Rattle.ule_model.specs.Program.{Course, Progress, added, begun, event_of, following, items_of, next_in, next_item, next_of, next_step, or_else, stepped}
+use Rattle.ule_model.specs.Program.{Course, Progress, added, begun, event_of, following, items_of, next_in, next_item, next_step, or_else, stepped}
 use Rattle.ule_model.specs.Start.{starting_time}
 
 -- ---- one step more
@@ -160,5 +160,5 @@ left_falls_told cpus course after e r now next =
     let from : next_from course.script course.progress.worker (added course.progress.given course.last ++ course.progress.todo) ≡ Some (item.Event e, after) = sym (next_in_is course.script course.progress course.last) ∙ next in
     let gone = gone_on_from course.script course.progress.worker (added course.progress.given course.last ++ course.progress.todo) (item.Event e) after from in
     let told : left_of cpus (record after { last = Some (r, now) }) ≤ left_of cpus after =
-        subst (λ a. left_of cpus (record a { last = Some (r, now) }) ≤ left_of cpus a) (sym gone.2) (left_told cpus gone.0 course.progress.worker e gone.1 r now) in
+    subst (λ a. left_of cpus (record a { last = Some (r, now) }) ≤ left_of cpus a) (sym gone.2) (left_told cpus gone.0 course.progress.worker e gone.1 r now) in
     omega (arith, told, left_falls cpus course after (item.Event e) next)

@@ -1,20 +1,15 @@
 -- What each event does to the threads in hands.
-use Rattle.std.proofs.Common.{◌≡◌, ◌≢◌, ℕ, ℤ, pos, Bool, true, false, List, [], ◌∷◌, ◌++◌, filter, Option, Some, None, ◌⊎◌, inl, inr, if◌then◌else◌, option_and_then, refl, sym, ◌∙◌, ap, subst, ⊎_elim}
+use Rattle.std.proofs.Common.{◌≡◌, ◌≢◌, ℕ, ℤ, pos, Bool, true, false, List, [], ◌∷◌, filter, Option, Some, None, inl, inr, if◌then◌else◌, option_and_then, refl, sym, ◌∙◌, ap, subst, ⊎_elim}
 use Rattle.std.specs.Option.{option_map}
 use Rattle.std.proofs.lemmas.Bool.{cases_eq, cond_both, false≢true}
 use Rattle.std.proofs.lemmas.Option.{none-some, same_Some}
-use Rattle.ule_prio.specs.declared.class.Class.{Class}
-use Rattle.ule_prio.specs.declared.class.Class.TheVariants.{Ts, Ithd, Rt, Fifo}
-use Rattle.ule_prio.specs.declared.class.Class.TheVariants as class
 use Rattle.ule_score.specs.declared.place.Place.{Place}
 use Rattle.ule_score.specs.declared.place.Place.TheVariants.{Running, Queued, Asleep, Unborn, Gone, Hand}
 use Rattle.ule_score.specs.declared.record.Settings.{Settings}
 use Rattle.ule_score.specs.declared.record.ThreadRecord.{ThreadRecord}
 use Rattle.ule_score.specs.declared.record.Why.{Why}
-use Rattle.ule_types.specs.Rules.{is_distinct}
 use Rattle.ule_types.specs.declared.event.Event.{Event}
 use Rattle.ule_types.specs.declared.event.Event.TheVariants as event
-use Rattle.ule_types.specs.declared.event.Reply.{Reply}
 use Rattle.ule_types.specs.declared.event.Reply.TheVariants.{Unmarked}
 use Rattle.ule_model.specs.Choice.{choice_of, comes_before, least, sooner, turn_of}
 use Rattle.ule_model.specs.declared.insertion.Insertion.{Insertion}
@@ -23,14 +18,13 @@ use Rattle.ule_model.specs.declared.insertion.Insertion.TheVariants.{Ordinary}
 use Rattle.ule_model.specs.Landing.{landed, landed_with, placed_on}
 use Rattle.ule_model.specs.Places.{hand_of, runs_on, waits_on}
 use Rattle.ule_model.specs.Program.{following}
-use Rattle.ule_model.specs.Shows.{ids_of}
 use Rattle.ule_model.specs.Sleep.{after_sleep, bedded, before_sleep, dropped, dropped_with, taken, woken, woken_at, woken_with}
 use Rattle.ule_model.specs.Step.{holder_of, step}
 use Rattle.ule_model.specs.Switch.{after_running, before_running, choosing_next, counted, given_way, insertion_of, is_preemption, is_unasked, running_chosen, switched, switched_from, unmarked}
 use Rattle.ule_model.specs.Tick.{after_tick, clocked, is_due, load_of, ticked, ticked_with}
 use Rattle.ule_model.specs.World.{Member, Side, World, current_of, moved_to, side_of, thread_of, with_record}
 use Rattle.ule_members.proofs.Membership.{Has, has_filtered, has_thread_of}
-use Rattle.ule_rounds.proofs.Numbers.{LeavesNumber, found_again, found_by_number, ids_of-changed, thread_of-change, thread_of-change_other}
+use Rattle.ule_rounds.proofs.Numbers.{found_again, found_by_number, thread_of-change, thread_of-change_other}
 use Rattle.ule_rounds.proofs.Orderly.{put_by, put_by_first}
 use Rattle.ule_rounds.proofs.StepKeeps.{AreDistinct, distinct_kept, given_way_keeps, taken_keeps, ticked_number, woken_number}
 

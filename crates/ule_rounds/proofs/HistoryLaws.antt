@@ -1,14 +1,12 @@
 -- The rounds of a setup that a scenario can spell so far make a legal and whole history of it.
-use Rattle.std.proofs.Common.{◌≡◌, ◌≢◌, ℕ, ◌+◌, ◌<◌, ◌≤◌, ◌⊎◌, List, [], inl, inr, get_or, length, slice_get, Some, None, sym, ◌∙◌, ap, subst, le_of_eq, le_trans, ⊎_elim, arith}
+use Rattle.std.proofs.Common.{◌≡◌, ℕ, ◌<◌, ◌≤◌, [], inl, inr, get_or, length, slice_get, Some, sym, ap, subst, le_of_eq, le_trans, ⊎_elim, arith}
 use Rattle.std.proofs.lemmas.Bool.{cases_lt}
 use Rattle.std.proofs.lemmas.Option.{slice_get-get_or}
 use Rattle.ule_types.specs.Form.{IsOfForm}
-use Rattle.ule_types.specs.declared.command.Command.{Command}
-use Rattle.ule_types.specs.declared.event.Entry.{Entry}
 use Rattle.ule_types.specs.declared.setup.Setup.{Setup}
 use Rattle.ule_model.specs.History.{GoesOn, IsHistoryOf, RoundsGoOn}
 use Rattle.ule_model.specs.Legal.{Begins, IsLegal, IsWhole, end_time}
-use Rattle.ule_model.specs.Program.{Course, course_of, next_step}
+use Rattle.ule_model.specs.Program.{Course, course_of}
 use Rattle.ule_model.specs.Rounds.{Play, greatest_rounds, opening, play_of, round, rounds}
 use Rattle.ule_members.proofs.Within.{all_along}
 use Rattle.ule_rounds.proofs.Finishing.{IsFurther, round_goes, rounds_finish}

@@ -1,11 +1,10 @@
 -- What every play of a setup that can be spelled so far keeps, and what its next event needs.
-use Rattle.std.proofs.Common.{◌≡◌, ◌≢◌, ℕ, ◌+◌, ◌*◌, ◌^◌, ◌<◌, ◌≤◌, ◌==◌, Bool, true, false, nat_le, List, [], ◌∷◌, ◌++◌, length, sum_by, slice_get, slice_set, take, Option, Some, None, IfSome, IsSome, IsTrue, if◌then◌else◌, option_and_then, refl, sym, ◌∙◌, ap, subst, arith}
+use Rattle.std.proofs.Common.{◌≡◌, ℕ, ◌+◌, ◌*◌, ◌^◌, ◌<◌, ◌≤◌, true, nat_le, List, [], ◌∷◌, length, sum_by, slice_get, take, Option, Some, None, IsSome, IsTrue, option_and_then, refl, sym, ◌∙◌, ap, subst, arith}
 use Rattle.std.specs.List.{AllByRecursion, list_all}
 use Rattle.std.proofs.lemmas.Bool.{and_parts, cond_both, eq-eqb, false≢true, leb-true}
 use Rattle.std.proofs.lemmas.List.{length_push}
 use Rattle.std.proofs.lemmas.Option.{none-some, slice_get_within}
 use Rattle.ule_score.specs.Bounds.{KeepsBounds}
-use Rattle.ule_score.specs.declared.record.Settings.{Settings}
 use Rattle.ule_types.specs.Commands.{is_among, is_command}
 use Rattle.ule_types.specs.Form.{IsOfForm, is_built}
 use Rattle.ule_types.specs.Rules.{declared_ids, is_distinct}
@@ -15,26 +14,26 @@ use Rattle.ule_types.specs.declared.event.Event.TheVariants as event
 use Rattle.ule_types.specs.declared.event.Item.{Item}
 use Rattle.ule_types.specs.declared.event.Item.TheVariants as item
 use Rattle.ule_types.specs.declared.setup.Setup.{Setup}
-use Rattle.ule_model.specs.Conditions.{HasEmptyHand, HasThreads, IsBy, IsPossible, names_cpu}
+use Rattle.ule_model.specs.Conditions.{HasThreads, IsBy, IsPossible, names_cpu}
 use Rattle.ule_model.specs.History.{KeepsAllRecords, KeepsRecords}
-use Rattle.ule_model.specs.Legal.{after_entry, end_time, replayed}
+use Rattle.ule_model.specs.Legal.{after_entry, end_time}
 use Rattle.ule_model.specs.Program.{Course, following, next_step}
-use Rattle.ule_model.specs.Rounds.{Play, after_item, entry_of, greatest_rounds, opening, opening_courses, performed, turn}
+use Rattle.ule_model.specs.Rounds.{Play, after_item, entry_of, greatest_rounds, opening, performed, turn}
 use Rattle.ule_model.specs.Shows.{ids_of}
 use Rattle.ule_model.specs.Start.{starting_time, world_at_start}
 use Rattle.ule_model.specs.Step.{has_thread, holder_of, is_own, is_ready, step}
-use Rattle.ule_model.specs.World.{Member, World, thread_of}
+use Rattle.ule_model.specs.World.{World}
 use Rattle.ule_members.proofs.Within.{all_along}
 use Rattle.ule_rounds.proofs.Agreement.{DoAgree}
 use Rattle.ule_rounds.proofs.Hands.{stays, step_hands}
 use Rattle.ule_rounds.proofs.Histories.{KeepsAllRecords-push}
 use Rattle.ule_rounds.proofs.LegalLaws.{IsLegalSoFar, each_after_set, legal_advanced, legal_opening, legal_performed}
 use Rattle.ule_rounds.proofs.Numbers.{found_among}
-use Rattle.ule_rounds.proofs.Orderly.{AreValid, IsNext, IsOrderly, IsValid, amount_in, held_at, held_told, names_item, next_is, next_names, next_puts, next_time, next_valid, orderly_advanced, orderly_told, put_by, put_by_first, time_of}
+use Rattle.ule_rounds.proofs.Orderly.{AreValid, IsNext, IsOrderly, IsValid, amount_in, held_at, held_told, next_is, next_names, next_puts, next_time, next_valid, orderly_advanced, orderly_told, put_by, put_by_first}
 use Rattle.ule_rounds.proofs.Plays.{agree_moved, all_left, hand_at, hands_at_start, left_advanced, left_performed, opening_count, opening_left, orderly_at_start, sum_set, time_at_start}
 use Rattle.ule_rounds.proofs.Records.{AreSound, HaveSlice, IsSound, sound_advanced, step_lands, step_sound}
 use Rattle.ule_rounds.proofs.RoundsLaws.{turn_cases}
-use Rattle.ule_rounds.proofs.Setups.{HasScripts, all_from_list_all, all_take, setup_end, setup_scripts, setup_specs}
+use Rattle.ule_rounds.proofs.Setups.{all_from_list_all, all_take, setup_end, setup_scripts, setup_specs}
 use Rattle.ule_rounds.proofs.Starts.{IsLaid, form_slice, free_holder, start_laid}
 use Rattle.ule_rounds.proofs.StepKeeps.{AreDistinct, step_count, step_ids, step_settings}
 

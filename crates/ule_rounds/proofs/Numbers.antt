@@ -1,14 +1,12 @@
 -- Threads by their numbers, where no number stands twice: what look-ups find after a change.
-use Rattle.std.proofs.Common.{◌≡◌, ◌≢◌, ℕ, ℤ, ◌==◌, Bool, true, false, not, ◌||◌, ◌&&◌, List, [], ◌∷◌, ◌++◌, filter, map, Option, Some, None, ◌⊎◌, inl, inr, if◌then◌else◌, refl, sym, ◌∙◌, ap, subst, ⊎_elim}
-use Rattle.std.specs.List.{AllByRecursion, find, list_any}
+use Rattle.std.proofs.Common.{◌≡◌, ◌≢◌, ℕ, ◌==◌, Bool, true, false, not, ◌||◌, List, [], ◌∷◌, Option, Some, inl, inr, if◌then◌else◌, refl, sym, ◌∙◌, ap, subst, ⊎_elim}
+use Rattle.std.specs.List.{AllByRecursion, find}
 use Rattle.std.specs.Option.{option_map}
 use Rattle.std.proofs.lemmas.Bool.{and_parts, both_ways, cond-false, cond-true, eq-eqb, eqb-true, false≢true, ne_eqb, not-true, or_cases}
-use Rattle.ule_score.specs.declared.place.Place.{Place}
-use Rattle.ule_score.specs.declared.record.ThreadRecord.{ThreadRecord}
 use Rattle.ule_types.specs.Commands.{is_among}
 use Rattle.ule_types.specs.Rules.{is_distinct}
 use Rattle.ule_model.specs.Shows.{ids_of}
-use Rattle.ule_model.specs.World.{Member, is_thread, moved_to, thread_of, with_record}
+use Rattle.ule_model.specs.World.{Member, is_thread, thread_of}
 use Rattle.ule_members.proofs.Membership.{Has, has_between}
 use Rattle.ule_members.proofs.Within.{changed, found_at}
 

@@ -1,6 +1,6 @@
 -- Orderly courses: those of built commands, each begun and done, whose next item is one that the last
 -- reply added or the one that a command begins with.
-use Rattle.std.proofs.Common.{◌≡◌, ℕ, ◌+◌, ◌<◌, ◌⊎◌, inl, inr, Bool, true, false, List, [], ◌∷◌, ◌++◌, Option, Some, None, refl, sym, ◌∙◌, ap, subst, sum_by, ⊎_elim, arith}
+use Rattle.std.proofs.Common.{◌≡◌, ℕ, ◌+◌, ◌<◌, ◌⊎◌, inl, inr, Bool, true, List, [], ◌∷◌, ◌++◌, Option, Some, None, refl, sym, ◌∙◌, ap, subst, sum_by, ⊎_elim, arith}
 use Rattle.std.specs.List.{AllByRecursion, list_all}
 use Rattle.std.proofs.lemmas.Bool.{and_parts, false≢true, lt-ltb}
 use Rattle.std.proofs.lemmas.List.{append-nil}
@@ -19,7 +19,7 @@ use Rattle.ule_types.specs.declared.event.Reply.{Reply}
 use Rattle.ule_types.specs.declared.event.Reply.TheVariants as reply
 use Rattle.ule_model.specs.Conditions.{names_cpu}
 use Rattle.ule_model.specs.Legal.{amount_of}
-use Rattle.ule_model.specs.Program.{Course, added, event_of, following, items_of, landing_cpu, next_step}
+use Rattle.ule_model.specs.Program.{Course, added, following, items_of, landing_cpu, next_step}
 use Rattle.ule_model.specs.Step.{is_ready}
 use Rattle.ule_model.specs.World.{World}
 use Rattle.ule_rounds.proofs.Courses.{gone_on, next_from, next_in_is}

@@ -1,17 +1,15 @@
 -- The items, the time and the hands of all workers of a play.
-use Rattle.std.proofs.Common.{◌≡◌, ◌≢◌, ℕ, zero, suc, ◌+◌, ◌*◌, ◌<◌, ◌≤◌, ◌==◌, List, [], ◌∷◌, ◌++◌, get_or, length, map, sum, sum_by, slice_get, slice_set, take, Option, Some, None, option_and_then, refl, sym, ◌∙◌, ap, subst, ⊎_elim, arith}
-use Rattle.std.specs.List.{AllByRecursion, enumerate_from, list_all}
+use Rattle.std.proofs.Common.{◌≡◌, ◌≢◌, ℕ, zero, suc, ◌+◌, ◌≤◌, List, [], ◌∷◌, length, map, sum, sum_by, slice_get, slice_set, take, Option, Some, None, option_and_then, refl, sym, ◌∙◌, ap, subst, ⊎_elim, arith}
+use Rattle.std.specs.List.{AllByRecursion, enumerate_from}
 use Rattle.std.proofs.lemmas.Bool.{cases_eq}
 use Rattle.std.proofs.lemmas.List.{length-map, length-take-le}
 use Rattle.std.proofs.lemmas.List.FromFn.{length-enumerate_from}
 use Rattle.std.proofs.lemmas.List.Sums.{sum_by-cons, sum_by-set, sum-map}
-use Rattle.std.proofs.lemmas.Option.{get_or_from_slice_get, none-some, option_and_then_some, same_Some, slice_get_within}
-use Rattle.ule_types.specs.Commands.{greatest_of, is_command}
-use Rattle.ule_types.specs.Form.{is_built}
+use Rattle.std.proofs.lemmas.Option.{get_or_from_slice_get, none-some, same_Some, slice_get_within}
+use Rattle.ule_types.specs.Commands.{greatest_of}
 use Rattle.ule_types.specs.Rules.{budget_from}
 use Rattle.ule_types.specs.declared.command.Command.{Command}
 use Rattle.ule_types.specs.declared.event.Event.{Event}
-use Rattle.ule_types.specs.declared.event.Item.{Item}
 use Rattle.ule_types.specs.declared.event.Item.TheVariants as item
 use Rattle.ule_types.specs.declared.setup.Setup.{Setup}
 use Rattle.ule_model.specs.Program.{Course, course_of, next_step}
@@ -107,7 +105,7 @@ pub left_at_start : (cpus worker : ℕ) (scripts : List (List Command)) → sum_
 left_at_start cpus worker [] = refl
 left_at_start cpus worker (script ∷ scripts) =
     let first : left_of cpus (course_of worker script) ≡ sum (map (λ c. greatest_of c worker cpus) script) =
-        (let none : 0 + 0 + greatest_in cpus worker script ≡ greatest_in cpus worker script = omega arith in none ∙ sym (sum-map (λ c. greatest_of c worker cpus) script)) in
+    (let none : 0 + 0 + greatest_in cpus worker script ≡ greatest_in cpus worker script = omega arith in none ∙ sym (sum-map (λ c. greatest_of c worker cpus) script)) in
     omega (arith, first, left_at_start cpus (worker + 1) scripts, sum_by-cons (left_of cpus) (course_of worker script) (courses_from (worker + 1) scripts))
 
 -- the budget of the first workers is within that of all

@@ -1,5 +1,5 @@
 -- The records of a play: their bounds, and that each event keeps them.
-use Rattle.std.proofs.Common.{◌≡◌, ℕ, ◌+◌, ◌-◌, ◌*◌, ◌^◌, ◌<◌, ◌≤◌, ◌==◌, Bool, true, false, nat_le, List, Option, Some, None, IfSome, if◌then◌else◌, refl, sym, ◌∙◌, ap, subst, le_of_eq, arith}
+use Rattle.std.proofs.Common.{◌≡◌, ℕ, ◌+◌, ◌-◌, ◌*◌, ◌^◌, ◌<◌, ◌≤◌, ◌==◌, Bool, true, false, List, Option, Some, None, IfSome, if◌then◌else◌, refl, le_of_eq, arith}
 use Rattle.std.specs.List.{AllByRecursion}
 use Rattle.std.proofs.lemmas.Bool.{cond_both, leb-false}
 use Rattle.ule_history.proofs.CpuUseUpdateLemmas.{IsBoundedUse-updated_use}
@@ -9,8 +9,8 @@ use Rattle.ule_prio.specs.declared.class.Class.{Class}
 use Rattle.ule_prio.specs.declared.class.Class.TheVariants.{Ts, Ithd, Rt, Fifo}
 use Rattle.ule_prio.specs.declared.class.Class.TheVariants as class
 use Rattle.ule_score.proofs.BoundsLemmas.{KeepsBounds-bases, KeepsBounds-histories, KeepsBounds-times, KeepsBounds-uses}
-use Rattle.ule_score.specs.Bounds.{KeepsBounds, with_base, with_history, with_use}
-use Rattle.ule_score.specs.TimesharePriority.{IsNice, timeshare_priority}
+use Rattle.ule_score.specs.Bounds.{KeepsBounds, with_history, with_use}
+use Rattle.ule_score.specs.TimesharePriority.{IsNice}
 use Rattle.ule_score.specs.declared.place.Place.{Place}
 use Rattle.ule_score.specs.declared.place.Place.TheVariants.{Running, Queued, Asleep, Unborn, Gone, Hand}
 use Rattle.ule_score.specs.declared.record.Settings.{Settings}
@@ -27,7 +27,7 @@ use Rattle.ule_model.specs.Sleep.{after_sleep, before_sleep, rested, woken, woke
 use Rattle.ule_model.specs.Step.{step}
 use Rattle.ule_model.specs.Switch.{after_running, before_running}
 use Rattle.ule_model.specs.Tick.{after_tick, charged_in, is_slice_end, rebased, rebased_in, sliced, tick_length}
-use Rattle.ule_model.specs.World.{Member, World, moved_to, thread_of, with_record}
+use Rattle.ule_model.specs.World.{Member, World, thread_of, with_record}
 use Rattle.ule_members.proofs.Membership.{all_has, has_thread_of}
 use Rattle.ule_members.proofs.Within.{all_along}
 use Rattle.ule_rounds.proofs.Numbers.{all_changed}

@@ -1,12 +1,11 @@
 -- What the rules of a setup say.
-use Rattle.std.proofs.Common.{◌≡◌, ℕ, zero, suc, ◌+◌, ◌≤◌, ◌&&◌, ◌==◌, Bool, true, nat_le, List, [], ◌∷◌, ◌++◌, drop, flat_map, length, map, sum, sum_by, take, refl, sym, ◌∙◌, ap, arith}
+use Rattle.std.proofs.Common.{◌≡◌, ℕ, zero, suc, ◌+◌, ◌≤◌, ◌&&◌, ◌==◌, Bool, true, nat_le, List, [], ◌∷◌, drop, flat_map, length, sum_by, take, refl, ap, arith}
 use Rattle.std.specs.List.{AllByRecursion, list_all}
 use Rattle.std.proofs.lemmas.Bool.{and_parts, eqb-true, leb-true}
 use Rattle.std.proofs.lemmas.List.{nil_from_length}
 use Rattle.std.proofs.lemmas.List.Sums.{sum-map, sum_by-append, sum_by-cons}
 use Rattle.ule_prio.specs.Class.{is_within}
-use Rattle.ule_score.proofs.TimesharePriorityLemmas.{timeshare_priority-bounds}
-use Rattle.ule_types.specs.Commands.{greatest_of, is_among, is_command, forked_by}
+use Rattle.ule_types.specs.Commands.{is_among, is_command, forked_by}
 use Rattle.ule_types.specs.Rules.{are_scripts, are_settings, are_turns, budget_from, declared_ids, is_distinct, is_spec}
 use Rattle.ule_types.specs.declared.command.Command.{Command}
 use Rattle.ule_types.specs.declared.setup.Setup.{Setup}

@@ -1,5 +1,5 @@
 -- The world at the start of a setup that can be spelled so far: its threads' numbers, records and places.
-use Rattle.std.proofs.Common.{◌≡◌, ℕ, ◌+◌, ◌^◌, ◌<◌, ◌≤◌, ◌&&◌, ◌||◌, ℤ, pos, negsuc, Bool, true, false, nat_le, nat_lt, List, [], ◌∷◌, ◌++◌, fold, length, map, replicate, Option, Some, None, IfSome, if◌then◌else◌, refl, sym, ◌∙◌, ap, subst, arith}
+use Rattle.std.proofs.Common.{◌≡◌, ℕ, ◌<◌, ◌≤◌, ◌||◌, ℤ, pos, negsuc, true, nat_lt, List, [], ◌∷◌, ◌++◌, fold, length, map, replicate, Option, Some, None, IfSome, refl, sym, ◌∙◌, ap, subst, arith}
 use Rattle.std.specs.List.{AllByRecursion, list_all}
 use Rattle.std.proofs.lemmas.Bool.{and_parts, cond_both, false≢true, leb-true, ltb-true}
 use Rattle.std.proofs.lemmas.Int.{ints}
@@ -8,7 +8,7 @@ use Rattle.ule_score.proofs.TimesharePriorityLemmas.{timeshare_priority-bounds}
 use Rattle.ule_score.specs.TimesharePriority.{IsNice}
 use Rattle.ule_score.specs.declared.record.Settings.{Settings}
 use Rattle.ule_score.specs.declared.record.ThreadRecord.{ThreadRecord}
-use Rattle.ule_types.specs.Form.{IsOfForm, default_settings, is_plain, is_timeshare}
+use Rattle.ule_types.specs.Form.{IsOfForm, is_plain, is_timeshare}
 use Rattle.ule_types.specs.Rules.{declared_ids, is_form, is_nice, is_spec}
 use Rattle.ule_types.specs.declared.setup.Form.{Form}
 use Rattle.ule_types.specs.declared.setup.Form.TheVariants.{Ts}
@@ -19,14 +19,14 @@ use Rattle.ule_model.specs.declared.insertion.Insertion.TheVariants.{Ordinary}
 use Rattle.ule_model.specs.Insertion.{order_of_insertion, place_of_insertion, queued, with_queued}
 use Rattle.ule_model.specs.Places.{hand_of}
 use Rattle.ule_model.specs.Shows.{ids_of}
-use Rattle.ule_model.specs.Start.{base_of, class_of, empty_world, first_line, fresh_history, fresh_use, laid, laid_on, nice_of, record_of, starting_time, unborn_member, with_unborn, world_at_start}
+use Rattle.ule_model.specs.Start.{base_of, empty_world, first_line, fresh_history, fresh_use, laid, laid_on, nice_of, record_of, starting_time, unborn_member, with_unborn, world_at_start}
 use Rattle.ule_model.specs.Step.{holder_of}
-use Rattle.ule_model.specs.World.{Member, Side, World, fresh_line, is_thread, moved_to, side_of, thread_of}
+use Rattle.ule_model.specs.World.{Member, Side, World, fresh_line, is_thread, side_of, thread_of}
 use Rattle.ule_members.proofs.Within.{all-append}
 use Rattle.ule_rounds.proofs.Hands.{hand_in}
 use Rattle.ule_rounds.proofs.Numbers.{all_changed}
 use Rattle.ule_rounds.proofs.Records.{AreSound, HaveSlice, IsSound, sound_kept}
-use Rattle.ule_rounds.proofs.Setups.{HasScripts, HasSpecs, setup_scripts, setup_specs}
+use Rattle.ule_rounds.proofs.Setups.{setup_specs}
 use Rattle.ule_rounds.proofs.StepKeeps.{numbers_kept, queued_keeps}
 
 -- ---- a declared thread's record

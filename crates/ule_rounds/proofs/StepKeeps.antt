@@ -1,5 +1,5 @@
 -- What each event keeps of the threads: that which each change of a record and each move keeps.
-use Rattle.std.proofs.Common.{◌≡◌, ℕ, ◌-◌, ◌*◌, ◌==◌, ℤ, pos, Bool, true, false, List, length, Option, Some, None, if◌then◌else◌, refl, sym, ◌∙◌, ap, subst}
+use Rattle.std.proofs.Common.{◌≡◌, ℕ, ◌-◌, ◌*◌, ◌==◌, ℤ, pos, Bool, true, false, List, length, Option, Some, None, if◌then◌else◌, refl, sym, ◌∙◌, subst}
 use Rattle.std.proofs.lemmas.Bool.{cond_both}
 use Rattle.std.proofs.lemmas.List.{length-set}
 use Rattle.ule_prio.specs.declared.class.Class.{Class}
@@ -16,7 +16,6 @@ use Rattle.ule_score.specs.declared.record.Why.{Why}
 use Rattle.ule_types.specs.Rules.{is_distinct}
 use Rattle.ule_types.specs.declared.event.Event.{Event}
 use Rattle.ule_types.specs.declared.event.Event.TheVariants.{Tick, Switch, Drop, Bed, Wake, Land}
-use Rattle.ule_types.specs.declared.event.Reply.{Reply}
 use Rattle.ule_types.specs.declared.event.Reply.TheVariants.{Unmarked}
 use Rattle.ule_model.specs.Choice.{choice_of}
 use Rattle.ule_model.specs.declared.insertion.Insertion.{Insertion}
