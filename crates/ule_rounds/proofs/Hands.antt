@@ -24,7 +24,7 @@ use Rattle.ule_model.specs.Switch.{after_running, before_running, choosing_next,
 use Rattle.ule_model.specs.Tick.{after_tick, clocked, is_due, load_of, ticked, ticked_with}
 use Rattle.ule_model.specs.World.{Member, Side, World, current_of, moved_to, side_of, thread_of, with_record}
 use Rattle.ule_members.proofs.Membership.{Has, has_filtered, has_thread_of}
-use Rattle.ule_rounds.proofs.Numbers.{found_again, found_by_number, thread_of-change, thread_of-change_other}
+use Rattle.ule_rounds.proofs.Numbers.{placed, recorded, found_again, found_by_number, thread_of-change, thread_of-change_other}
 use Rattle.ule_rounds.proofs.Orderly.{put_by, put_by_first}
 use Rattle.ule_rounds.proofs.StepKeeps.{AreDistinct, distinct_kept, given_way_keeps, taken_keeps, ticked_number, woken_number}
 
@@ -37,14 +37,6 @@ SameHands old new = (u : ℕ) → holder_of new u ≡ holder_of old u
 -- each thread but one is in the hand that it was in
 abbrev pub SameOtherHands : ℕ → List Member → List Member → Type 0
 SameOtherHands t old new = (u : ℕ) → u ≢ t → holder_of new u ≡ holder_of old u
-
--- a thread with its record changed
-abbrev pub recorded : (ThreadRecord → ThreadRecord) → Member → Member
-recorded change m = record m { thread = change m.thread }
-
--- a thread at another place
-abbrev pub placed : Place → ℤ → Member → Member
-placed place order m = record m { place = place; order = order }
 
 -- the hand that a found thread is in
 abbrev pub hand_in : Option Member → Option ℕ

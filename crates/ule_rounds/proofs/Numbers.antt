@@ -1,8 +1,10 @@
 -- Threads by their numbers, where no number stands twice: what look-ups find after a change.
-use Rattle.std.proofs.Common.{◌≡◌, ◌≢◌, ℕ, ◌==◌, Bool, true, false, not, ◌||◌, List, [], ◌∷◌, Option, Some, inl, inr, if◌then◌else◌, refl, sym, ◌∙◌, ap, subst, ⊎_elim}
+use Rattle.std.proofs.Common.{◌≡◌, ◌≢◌, ℕ, ℤ, ◌==◌, Bool, true, false, not, ◌||◌, List, [], ◌∷◌, Option, Some, inl, inr, if◌then◌else◌, refl, sym, ◌∙◌, ap, subst, ⊎_elim}
 use Rattle.std.specs.List.{AllByRecursion, find}
 use Rattle.std.specs.Option.{option_map}
 use Rattle.std.proofs.lemmas.Bool.{and_parts, both_ways, cond-false, cond-true, eq-eqb, eqb-true, false≢true, ne_eqb, not-true, or_cases}
+use Rattle.ule_score.specs.declared.place.Place.{Place}
+use Rattle.ule_score.specs.declared.record.ThreadRecord.{ThreadRecord}
 use Rattle.ule_types.specs.Commands.{is_among}
 use Rattle.ule_types.specs.Rules.{is_distinct}
 use Rattle.ule_model.specs.Shows.{ids_of}
@@ -65,7 +67,15 @@ found_among t ms distinct among =
     let has = has_among t ms among in
     (has.0, subst (λ u. thread_of u ms ≡ Some has.0) has.1.1 (found_by_number has.0 ms distinct has.1.0))
 
--- ---- a change that leaves the numbers
+-- ---- one thread changed
+
+-- a thread with its record changed
+abbrev pub recorded : (ThreadRecord → ThreadRecord) → Member → Member
+recorded change m = record m { thread = change m.thread }
+
+-- a thread at another place
+abbrev pub placed : Place → ℤ → Member → Member
+placed place order m = record m { place = place; order = order }
 
 -- a change that leaves the number
 abbrev pub LeavesNumber : (Member → Member) → Type 0

@@ -30,7 +30,7 @@ use Rattle.ule_model.specs.Tick.{after_tick, charged_in, is_slice_end, rebased, 
 use Rattle.ule_model.specs.World.{Member, World, thread_of, with_record}
 use Rattle.ule_members.proofs.Membership.{all_has, has_thread_of}
 use Rattle.ule_members.proofs.Within.{all_along}
-use Rattle.ule_rounds.proofs.Numbers.{all_changed}
+use Rattle.ule_rounds.proofs.Numbers.{all_changed, placed, recorded}
 use Rattle.ule_rounds.proofs.Orderly.{CanLand, LandsWithin}
 use Rattle.ule_rounds.proofs.StepKeeps.{IsKept, step_keeps}
 
@@ -180,17 +180,17 @@ AreSound cpus now ms = AllByRecursion (λ m. IsSound cpus now m.thread) ms
 -- events keep it
 pub sound_kept : (cpus now : ℕ) (settings : Settings) → now < 2 ^ 36 → HaveSlice settings → IsKept settings now (AreSound cpus now)
 sound_kept cpus now settings below have = record {
-  moves = λ t place order ms sound. all_changed (λ m. IsSound cpus now m.thread) t (λ m. record m { place = place; order = order }) ms (λ m same. same) sound;
-  ticks = λ t load ms sound. recorded t (λ r. (after_tick settings now load r).0) ms (λ r. sound_ticked cpus now load settings r below have) sound;
-  ran = λ t ms sound. recorded t (after_running now) ms (λ r. sound_after_running cpus now r below) sound;
-  runs = λ t ms sound. recorded t (before_running now) ms (λ r. sound_use cpus now false r below) sound;
-  sleeps = λ t ms sound. recorded t (before_sleep now) ms (λ r. sound_before_sleep cpus now r below) sound;
-  wakes = λ t ms sound. recorded t (after_sleep settings now) ms (λ r. sound_woken cpus now settings r below) sound;
-  lands = λ t c ms sound. recorded t (placed_on c) ms (λ r. sound_placed cpus now c r) sound;
+  moves = λ t place order ms sound. all_changed (λ m. IsSound cpus now m.thread) t (placed place order) ms (λ m same. same) sound;
+  ticks = λ t load ms sound. changed_record t (λ r. (after_tick settings now load r).0) ms (λ r. sound_ticked cpus now load settings r below have) sound;
+  ran = λ t ms sound. changed_record t (after_running now) ms (λ r. sound_after_running cpus now r below) sound;
+  runs = λ t ms sound. changed_record t (before_running now) ms (λ r. sound_use cpus now false r below) sound;
+  sleeps = λ t ms sound. changed_record t (before_sleep now) ms (λ r. sound_before_sleep cpus now r below) sound;
+  wakes = λ t ms sound. changed_record t (after_sleep settings now) ms (λ r. sound_woken cpus now settings r below) sound;
+  lands = λ t c ms sound. changed_record t (placed_on c) ms (λ r. sound_placed cpus now c r) sound;
 }
   where
-    recorded : (t : ℕ) (change : ThreadRecord → ThreadRecord) (ms : List Member) → ((r : ThreadRecord) → IsSound cpus now r → IsSound cpus now (change r)) → AreSound cpus now ms → AreSound cpus now (with_record t change ms)
-    recorded t change ms keeps sound = all_changed (λ m. IsSound cpus now m.thread) t (λ m. record m { thread = change m.thread }) ms (λ m. keeps m.thread) sound
+    changed_record : (t : ℕ) (change : ThreadRecord → ThreadRecord) (ms : List Member) → ((r : ThreadRecord) → IsSound cpus now r → IsSound cpus now (change r)) → AreSound cpus now ms → AreSound cpus now (with_record t change ms)
+    changed_record t change ms keeps sound = all_changed (λ m. IsSound cpus now m.thread) t (recorded change) ms (λ m. keeps m.thread) sound
 
 -- each event does
 pub step_sound : (cpus : ℕ) (w : World) (worker : ℕ) (e : Event) (now : ℕ) → now < 2 ^ 36 → HaveSlice w.settings → AreSound cpus now w.members → AreSound cpus now (step w worker e now).0.members

@@ -28,7 +28,7 @@ use Rattle.ule_model.specs.Step.{step}
 use Rattle.ule_model.specs.Switch.{after_running, before_running, choosing_next, counted, given_way, insertion_of, is_preemption, is_unasked, running_chosen, switched, switched_from, unmarked}
 use Rattle.ule_model.specs.Tick.{after_tick, charged_in, clocked, is_due, load_of, rebased, rebased_in, tick_length, ticked, ticked_with}
 use Rattle.ule_model.specs.World.{Member, Side, World, current_of, moved_to, side_of, thread_of, with_record}
-use Rattle.ule_rounds.proofs.Numbers.{ids_of-changed}
+use Rattle.ule_rounds.proofs.Numbers.{ids_of-changed, placed, recorded}
 
 -- ---- what the parts of an event keep
 
@@ -197,17 +197,17 @@ woken_number settings now r =
 -- what holds of the threads' numbers is kept
 pub numbers_kept : (settings : Settings) (now : ℕ) (P : List ℕ → Type 0) → IsKept settings now (λ ms. P (ids_of ms))
 numbers_kept settings now P = record {
-  moves = λ t place order ms holds. subst P (sym (ids_of-changed t (λ m. record m { place = place; order = order }) ms (λ m. refl))) holds;
-  ticks = λ t load ms holds. recorded t (λ r. (after_tick settings now load r).0) ms (ticked_number settings now load) holds;
-  ran = λ t ms holds. recorded t (after_running now) ms (λ r. refl) holds;
-  runs = λ t ms holds. recorded t (before_running now) ms (λ r. refl) holds;
-  sleeps = λ t ms holds. recorded t (before_sleep now) ms (λ r. refl) holds;
-  wakes = λ t ms holds. recorded t (after_sleep settings now) ms (woken_number settings now) holds;
-  lands = λ t c ms holds. recorded t (placed_on c) ms (λ r. refl) holds;
+  moves = λ t place order ms holds. subst P (sym (ids_of-changed t (placed place order) ms (λ m. refl))) holds;
+  ticks = λ t load ms holds. changed_record t (λ r. (after_tick settings now load r).0) ms (ticked_number settings now load) holds;
+  ran = λ t ms holds. changed_record t (after_running now) ms (λ r. refl) holds;
+  runs = λ t ms holds. changed_record t (before_running now) ms (λ r. refl) holds;
+  sleeps = λ t ms holds. changed_record t (before_sleep now) ms (λ r. refl) holds;
+  wakes = λ t ms holds. changed_record t (after_sleep settings now) ms (woken_number settings now) holds;
+  lands = λ t c ms holds. changed_record t (placed_on c) ms (λ r. refl) holds;
 }
   where
-    recorded : (t : ℕ) (change : ThreadRecord → ThreadRecord) (ms : List Member) → ((r : ThreadRecord) → (change r).id ≡ r.id) → P (ids_of ms) → P (ids_of (with_record t change ms))
-    recorded t change ms leaves holds = subst P (sym (ids_of-changed t (λ m. record m { thread = change m.thread }) ms (λ m. leaves m.thread))) holds
+    changed_record : (t : ℕ) (change : ThreadRecord → ThreadRecord) (ms : List Member) → ((r : ThreadRecord) → (change r).id ≡ r.id) → P (ids_of ms) → P (ids_of (with_record t change ms))
+    changed_record t change ms leaves holds = subst P (sym (ids_of-changed t (recorded change) ms (λ m. leaves m.thread))) holds
 
 -- no number stands twice
 abbrev pub AreDistinct : List Member → Type 0
