@@ -5,6 +5,7 @@ use Rattle.std.proofs.lemmas.Bool.{cond-true, cond-false, eq-eqb, ne_eqb}
 use Rattle.std.proofs.lemmas.List.{append-nil}
 use Rattle.std.proofs.lemmas.List.Elements.{filter-append}
 use Rattle.ule_types.specs.declared.event.Entry.{Entry}
+use Rattle.ule_model.specs.History.{KeepsAllRecords, KeepsRecords}
 use Rattle.ule_model.specs.Legal.{Locked, IsEntryOf, IsReplayed, IsInTime, after_entry, entries_of, replayed, share, with_locks}
 use Rattle.ule_model.specs.Step.{locks_of}
 use Rattle.ule_model.specs.World.{World}
@@ -54,3 +55,9 @@ entries_of_other worker es e other =
     filter-append (λ x. x.worker == worker) es (e ∷ []) ∙
     ap (λ ys. entries_of worker es ++ ys) (cond-false (e.worker == worker) (e ∷ []) [] (ne_eqb e.worker worker other)) ∙
     append-nil (entries_of worker es)
+
+-- the records of every world of a history, and those of one more
+pub KeepsAllRecords-push : (w : World) (es : List Entry) (e : Entry) → KeepsAllRecords w es → KeepsRecords (after_entry (replayed w es) e) → KeepsAllRecords w (es ++ e ∷ [])
+unfolding KeepsAllRecords replayed
+KeepsAllRecords-push w [] e kept last = (kept, last)
+KeepsAllRecords-push w (x ∷ xs) e kept last = (kept.0, KeepsAllRecords-push (after_entry w x) xs e kept.1 last)

@@ -1,23 +1,21 @@
--- Each turn keeps a play legal so far, whatever the next item is.
-use Rattle.std.proofs.Common.{◌≡◌, ℕ, ◌+◌, ◌<◌, ◌≤◌, Bool, true, false, List, [], ◌∷◌, ◌++◌, length, slice_get, slice_set, zero, suc, Some, if◌then◌else◌, refl, sym, ◌∙◌, ap, subst, ⊎_elim, arith}
+-- What keeps a play legal so far: time that goes on, and an event that is ready and has its thread.
+use Rattle.std.proofs.Common.{◌≡◌, ℕ, ◌+◌, ◌<◌, ◌≤◌, true, List, [], ◌∷◌, ◌++◌, length, slice_get, slice_set, zero, suc, Some, refl, sym, ◌∙◌, ap, subst, ⊎_elim, arith}
 use Rattle.std.specs.List.{AllByRecursion}
 use Rattle.std.proofs.lemmas.Bool.{cases_eq}
 use Rattle.std.proofs.lemmas.List.{length-set}
 use Rattle.std.proofs.lemmas.Option.{none-some, same_Some, slice_get_within}
 use Rattle.ule_types.specs.declared.event.Entry.{Entry}
 use Rattle.ule_types.specs.declared.event.Event.{Event}
-use Rattle.ule_types.specs.declared.event.Item.{Item}
 use Rattle.ule_types.specs.declared.event.Item.TheVariants as item
 use Rattle.ule_types.specs.declared.setup.Setup.{Setup}
 use Rattle.ule_model.specs.Legal.{Follows, stays, IsEntryOf, IsReplayed, IsInTime, after_entry, entries_of, replayed, with_locks}
 use Rattle.ule_model.specs.Program.{Course, next_step}
-use Rattle.ule_model.specs.Rounds.{Play, after_item, entry_of, opening, opening_courses, performed, turn}
+use Rattle.ule_model.specs.Rounds.{Play, after_item, entry_of, opening, opening_courses, performed}
 use Rattle.ule_model.specs.Start.{starting_time, world_at_start}
 use Rattle.ule_model.specs.Step.{has_thread, is_ready, step, locks_of}
 use Rattle.ule_model.specs.World.{World}
 use Rattle.ule_rounds.proofs.Courses.{follows_acted, follows_advanced}
 use Rattle.ule_rounds.proofs.Histories.{IsInTime-push, IsReplayed-push, all-with_locks, entries_of_other, entries_of_own, replayed_push, with_locks_push}
-use Rattle.ule_rounds.proofs.RoundsLaws.{turn_cases}
 use Rattle.ule_members.proofs.Within.{all-append, all_along}
 
 -- ---- one course changed among all
@@ -137,22 +135,3 @@ legal_performed s p worker e course after legal got next ready thread = record {
       follows = subst (λ ys. Follows at.start 0 ys c at.total) (sym (entries_of_other w p.entries x (λ same. other (sym same)))) at.follows;
       by_now = at.by_now;
     }
-
--- a worker's next event, where it is ready, has its thread
-abbrev pub HasThread : Play → ℕ → Type 0
-HasThread p worker = (course after : Course) (e : Event) → slice_get p.courses worker ≡ Some course → next_step course ≡ Some (item.Event e, after) → is_ready p.world worker e ≡ true → has_thread p.world worker e ≡ true
-
--- the next item of a worker keeps a play legal so far
-pub legal_after_item : (s : Setup) (p : Play) (worker : ℕ) (i : Item) (course after : Course) → IsLegalSoFar s p → HasThread p worker → slice_get p.courses worker ≡ Some course → next_step course ≡ Some (i, after) → IsLegalSoFar s (after_item worker i after p)
-legal_after_item s p worker (item.Advance k) course after legal thread got next = legal_advanced s p worker k course after legal got next
-legal_after_item s p worker (item.Event e) course after legal thread got next = if_ready (is_ready p.world worker e) refl
-  where
-    if_ready : (ready : Bool) → is_ready p.world worker e ≡ ready → IsLegalSoFar s (if ready then performed worker e after p else p)
-    if_ready true is = legal_performed s p worker e course after legal got next is (thread course after e got next is)
-    if_ready false is = legal
-
--- a turn keeps a play legal so far
-pub legal_turn : (s : Setup) (p : Play) (worker : ℕ) → IsLegalSoFar s p → HasThread p worker → IsLegalSoFar s (turn p worker)
-legal_turn s p worker legal thread =
-    turn_cases (IsLegalSoFar s) p worker (λ finished. legal)
-    (λ course after i got next. legal_after_item s p worker i course after legal thread got next)

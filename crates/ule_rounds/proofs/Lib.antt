@@ -1,6 +1,16 @@
 pub mod Histories
 pub mod Courses
+pub mod Orderly
+pub mod Numbers
+pub mod Agreement
+pub mod StepKeeps
+pub mod Hands
+pub mod Records
+pub mod Setups
+pub mod Starts
 pub mod RoundsLaws
 pub mod LegalLaws
-pub mod YieldRounds
+pub mod Plays
+pub mod Keeping
+pub mod Finishing
 pub mod HistoryLaws

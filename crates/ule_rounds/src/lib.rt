@@ -2,6 +2,6 @@
 //! spell so far. Each law is the contract of a function that does nothing.
 #![tactic(auto)]
 
-pub use history::rounds_are_legal;
+pub use history::{rounds_are_legal, rounds_go_on};
 
 pub mod history;

@@ -1,0 +1,183 @@
+-- Each round performs an item where a worker has a further one, until all workers are at their ends.
+use Rattle.std.proofs.Common.{◌≡◌, ℕ, zero, suc, ◌+◌, ◌<◌, ◌≤◌, ◌⊎◌, Bool, true, false, length, slice_get, Option, Some, None, inl, inr, if◌then◌else◌, option_and_then, refl, sym, ◌∙◌, ap, subst, ⊎_elim, arith}
+use Rattle.std.specs.List.{range_with_len}
+use Rattle.std.proofs.lemmas.Bool.{cases_lt, true≢false}
+use Rattle.std.proofs.lemmas.List.{length_push}
+use Rattle.std.proofs.lemmas.Option.{option_and_then_some, slice_get_within}
+use Rattle.ule_types.specs.Form.{IsOfForm}
+use Rattle.ule_types.specs.declared.event.Event.{Event}
+use Rattle.ule_types.specs.declared.event.Item.{Item}
+use Rattle.ule_types.specs.declared.event.Item.TheVariants as item
+use Rattle.ule_types.specs.declared.setup.Setup.{Setup}
+use Rattle.ule_model.specs.Program.{Course, next_step}
+use Rattle.ule_model.specs.Rounds.{Play, after_item, entry_of, performed, round, rounds, turn}
+use Rattle.ule_model.specs.Step.{holder_of, is_no_others, is_ready, sought_by}
+use Rattle.ule_rounds.proofs.Keeping.{Keeps, advance_within, hand_of_next, ids_in, keeps_turn}
+use Rattle.ule_rounds.proofs.Orderly.{held_at, held_goes_on, put_by, ready_putting}
+use Rattle.ule_rounds.proofs.Plays.{all_left, hand_at, left_advanced, left_performed}
+use Rattle.ule_rounds.proofs.RoundsLaws.{IsFinished, round_finished, rounds_none, rounds_still, rounds_suc, turn_cases, turns, turns_keep, turns_more}
+
+-- ---- a turn
+
+-- a worker whose turn is lost: the thread that its event seeks is in another worker's hand
+pub record IsLost (p : Play) (worker : ℕ) : Type 0 where
+  pub course : Course
+  pub after : Course
+  pub event : Event
+  pub got : slice_get p.courses worker ≡ Some course
+  pub next : next_step course ≡ Some (item.Event event, after)
+  pub ready : is_ready p.world worker event ≡ false
+
+-- a worker that performs no item in its turn
+abbrev pub IsIdle : Play → ℕ → Type 0
+IsIdle p worker = IsFinished p worker ⊎ IsLost p worker
+
+-- a play that went no further back than another
+pub record IsNoEarlier (cpus : ℕ) (p q : Play) : Type 0 where
+  pub entries : length p.entries ≤ length q.entries
+  pub now : p.now ≤ q.now
+  pub left : all_left cpus q ≤ all_left cpus p
+
+-- a play that performed an item more
+pub record IsFurther (cpus : ℕ) (p q : Play) : Type 0 where
+  pub entries : length p.entries ≤ length q.entries
+  pub now : p.now ≤ q.now
+  pub left : all_left cpus q + 1 ≤ all_left cpus p
+  pub more : length p.entries + p.now + 1 ≤ length q.entries + q.now
+
+-- a turn performs an item, or changes nothing, since its worker is at its end or its turn is lost
+pub turn_goes : (s : Setup) (p : Play) (worker : ℕ) → Keeps s p → IsFurther s.cpus p (turn p worker) ⊎ ((turn p worker ≡ p) × IsIdle p worker)
+turn_goes s p worker kept =
+    turn_cases (λ q. IsFurther s.cpus p q ⊎ ((q ≡ p) × IsIdle p worker)) p worker (λ finished. inr (refl, inl finished)) goes
+  where
+    goes : (course after : Course) (i : Item) → slice_get p.courses worker ≡ Some course → next_step course ≡ Some (i, after) → IsFurther s.cpus p (after_item worker i after p) ⊎ ((after_item worker i after p ≡ p) × IsIdle p worker)
+    goes course after (item.Advance k) got next =
+        inl (record {
+          entries = omega arith;
+          now = omega arith;
+          left = left_advanced s.cpus p worker k course after got next;
+          more = omega (arith, advance_within s p worker k course after kept got next);
+        })
+    goes course after (item.Event e) got next = if_ready (is_ready p.world worker e) refl
+      where
+        if_ready : (b : Bool) → is_ready p.world worker e ≡ b → IsFurther s.cpus p (if b then performed worker e after p else p) ⊎ (((if b then performed worker e after p else p) ≡ p) × IsIdle p worker)
+        if_ready true is =
+            let pushed = length_push p.entries (entry_of p worker e) in
+            inl (record {
+              entries = omega (arith, pushed);
+              now = omega arith;
+              left = left_performed s.cpus p worker e course after got next;
+              more = omega (arith, pushed);
+            })
+        if_ready false is = inr (refl, inr (record { course = course; after = after; event = e; got = got; next = next; ready = is }))
+
+-- a turn goes back in nothing
+pub turn_no_earlier : (s : Setup) (p : Play) (worker : ℕ) → Keeps s p → IsNoEarlier s.cpus p (turn p worker)
+turn_no_earlier s p worker kept =
+    ⊎_elim
+    (λ (further : IsFurther s.cpus p (turn p worker)). record { entries = further.entries; now = further.now; left = omega (arith, further.left) })
+    (λ (same : (turn p worker ≡ p) × IsIdle p worker). subst (IsNoEarlier s.cpus p) (sym same.0) (record { entries = omega arith; now = omega arith; left = omega arith }))
+    (turn_goes s p worker kept)
+
+-- ---- a round
+
+-- what a play that performed an item has, one no earlier has
+pub further_still : (cpus : ℕ) (p q r : Play) → IsFurther cpus p q → IsNoEarlier cpus q r → IsFurther cpus p r
+further_still cpus p q r further later = record {
+  entries = omega (arith, further.entries, later.entries);
+  now = omega (arith, further.now, later.now);
+  left = omega (arith, further.left, later.left);
+  more = omega (arith, further.more, later.entries, later.now);
+}
+
+-- the turns of so many workers perform an item, or change nothing, since none of those workers performs one
+pub turns_go : (s : Setup) (n : ℕ) (p : Play) → IsOfForm s → Keeps s p → IsFurther s.cpus p (turns n p) ⊎ ((turns n p ≡ p) × ((worker : ℕ) → worker < n → IsIdle p worker))
+turns_go s zero p form kept = inr (refl, λ worker below. absurd (omega arith))
+turns_go s (suc n) p form kept =
+    subst (λ q. IsFurther s.cpus p q ⊎ ((q ≡ p) × ((worker : ℕ) → worker < suc n → IsIdle p worker))) (sym last)
+    (⊎_elim after_further after_same (turns_go s n p form kept))
+  where
+    last : turns (suc n) p ≡ turn (turns n p) n
+    last = let more : suc n ≡ n + 1 = omega arith in ap (λ k. turns k p) more ∙ turns_more n p
+
+    after_further : IsFurther s.cpus p (turns n p) → IsFurther s.cpus p (turn (turns n p) n) ⊎ ((turn (turns n p) n ≡ p) × ((worker : ℕ) → worker < suc n → IsIdle p worker))
+    after_further further =
+        inl (further_still s.cpus p (turns n p) (turn (turns n p) n) further
+        (turn_no_earlier s (turns n p) n (turns_keep (Keeps s) (keeps_turn s form) (range_with_len 0 n) p kept)))
+
+    after_same : (turns n p ≡ p) × ((worker : ℕ) → worker < n → IsIdle p worker) → IsFurther s.cpus p (turn (turns n p) n) ⊎ ((turn (turns n p) n ≡ p) × ((worker : ℕ) → worker < suc n → IsIdle p worker))
+    after_same same =
+        subst (λ q. IsFurther s.cpus p (turn q n) ⊎ ((turn q n ≡ p) × ((worker : ℕ) → worker < suc n → IsIdle p worker))) (sym same.0)
+        (⊎_elim (λ (further : IsFurther s.cpus p (turn p n)). inl further)
+        (λ (still : (turn p n ≡ p) × IsIdle p n).
+        inr (
+          still.0,
+          λ worker below.
+              ⊎_elim (λ (under : worker < n). same.1 worker under)
+              (λ (at : n ≤ worker). let is : n ≡ worker = omega arith in subst (IsIdle p) is still.1)
+              (cases_lt worker n),
+        ))
+        (turn_goes s p n kept))
+
+-- ---- no turn is lost for good
+
+-- a thread that is sought in vain is in another worker's hand
+pub sought_held : (members_holder : ℕ → Option ℕ) (worker : ℕ) (sought : Option ℕ) → is_no_others worker (option_and_then members_holder sought) ≡ false → (t : ℕ) × (h : ℕ) × (members_holder t ≡ Some h)
+sought_held holder worker None lost = absurd (true≢false lost)
+sought_held holder worker (Some t) lost = at_holder (holder t) refl lost
+  where
+    at_holder : (o : Option ℕ) → holder t ≡ o → is_no_others worker o ≡ false → (u : ℕ) × (h : ℕ) × (holder u ≡ Some h)
+    at_holder None is lost = absurd (true≢false lost)
+    at_holder (Some h) is lost = (t, h, is)
+
+-- a worker that has a thread in hand performs an item in its turn
+pub held_not_idle : (s : Setup) (p : Play) (t h : ℕ) → Keeps s p → hand_at p.courses h ≡ Some t → ((worker : ℕ) → worker < length p.courses → IsIdle p worker) → ⊥
+held_not_idle s p t h kept had idle = option_and_then_some held_at (slice_get p.courses h) t had at_course
+  where
+    at_course : (course : Course) → slice_get p.courses h ≡ Some course → held_at course ≡ Some t → ⊥
+    at_course course got held =
+        ⊎_elim
+        (λ (finished : IsFinished p h). held_goes_on (ids_in s) s.cpus h t course (kept.courses h course got) held (finished course got))
+        (λ (lost : IsLost p h).
+        let puts : put_by lost.event ≡ Some t = sym (hand_of_next s p h lost.course lost.after lost.event kept lost.got lost.next) ∙ had in
+        true≢false (sym (ready_putting p.world h t lost.event puts) ∙ lost.ready))
+        (idle h (slice_get_within p.courses h course got))
+
+-- where no worker performs an item, all are at their ends
+pub idle_finished : (s : Setup) (p : Play) → Keeps s p → ((worker : ℕ) → worker < length p.courses → IsIdle p worker) → (worker : ℕ) → IsFinished p worker
+idle_finished s p kept idle worker course got =
+    ⊎_elim (λ (finished : IsFinished p worker). finished course got)
+    (λ (lost : IsLost p worker).
+    let held = sought_held (holder_of p.world.members) worker (sought_by lost.event) lost.ready in
+    absurd (held_not_idle s p held.0 held.1 kept (kept.hands.has held.0 held.1 held.2) idle))
+    (idle worker (slice_get_within p.courses worker course got))
+
+-- a round performs an item, or all workers are at their ends
+pub round_goes : (s : Setup) (p : Play) → IsOfForm s → Keeps s p → IsFurther s.cpus p (round p) ⊎ ((worker : ℕ) → IsFinished p worker)
+round_goes s p form kept =
+    ⊎_elim (λ (further : IsFurther s.cpus p (turns (length p.courses) p)). inl further)
+    (λ (still : (turns (length p.courses) p ≡ p) × ((worker : ℕ) → worker < length p.courses → IsIdle p worker)). inr (idle_finished s p kept still.1))
+    (turns_go s (length p.courses) p form kept)
+
+-- a round leaves fewer items, or all workers are at their ends
+pub round_falls : (s : Setup) (p : Play) → IsOfForm s → Keeps s p → (all_left s.cpus (round p) + 1 ≤ all_left s.cpus p) ⊎ ((worker : ℕ) → IsFinished p worker)
+round_falls s p form kept =
+    ⊎_elim (λ (further : IsFurther s.cpus p (round p)). inl further.left) (λ (ended : (worker : ℕ) → IsFinished p worker). inr ended) (round_goes s p form kept)
+
+-- ---- rounds
+
+-- as many rounds as there are items left bring all workers to their ends
+pub rounds_finish : (s : Setup) (n : ℕ) (p : Play) → IsOfForm s → Keeps s p → all_left s.cpus p ≤ n → (worker : ℕ) → IsFinished (rounds n p) worker
+rounds_finish s zero p form kept within =
+    subst (λ q. (worker : ℕ) → IsFinished q worker) (sym (rounds_none p))
+    (⊎_elim (λ (less : all_left s.cpus (round p) + 1 ≤ all_left s.cpus p). absurd (omega arith))
+    (λ (ended : (worker : ℕ) → IsFinished p worker). ended)
+    (round_falls s p form kept))
+rounds_finish s (suc n) p form kept within =
+    ⊎_elim
+    (λ (less : all_left s.cpus (round p) + 1 ≤ all_left s.cpus p).
+    subst (λ q. (worker : ℕ) → IsFinished q worker) (sym (rounds_suc n p))
+    (rounds_finish s n (round p) form (turns_keep (Keeps s) (keeps_turn s form) (range_with_len 0 (length p.courses)) p kept) (omega arith)))
+    (λ (ended : (worker : ℕ) → IsFinished p worker).
+    subst (λ q. (worker : ℕ) → IsFinished q worker) (sym (rounds_still p (round_finished p ended) (suc n))) ended)
+    (round_falls s p form kept)
