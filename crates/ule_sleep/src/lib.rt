@@ -5,3 +5,5 @@
 pub use chain::{Chain, Sleeper};
 
 pub mod chain;
+#[cfg(test)]
+mod tests;

@@ -3,4 +3,6 @@
 
 pub use threads::Threads;
 
+#[cfg(test)]
+mod tests;
 pub mod threads;
