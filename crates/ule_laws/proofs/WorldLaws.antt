@@ -11,23 +11,8 @@ use Rattle.ule_model.specs.World.{Side, World, side_of, with_side, thread_of}
 use Rattle.ule_model.specs.WorldValue.{WorldValue, IsPart, Shows}
 use Rattle.ule_laws.proofs.CpuRest.{StaysOn}
 use Rattle.ule_laws.proofs.Elsewhere.{side_own}
+use Rattle.ule_members.proofs.Lists.{slice_get-set_other, slice_get-set_same}
 use Rattle.ule_laws.proofs.ValueLaws.{ShowsThreads, threads_shown, threads_stay}
-
--- ---- an element put for another
-
--- at its place it is found
-pub slice_get-set_same : {X : Type 0} (xs : List X) (i : ℕ) (x : X) → i < length xs → slice_get (slice_set xs i x) i ≡ Some x
-slice_get-set_same [] i x within = absurd (omega arith)
-slice_get-set_same (y ∷ ys) zero x within = refl
-slice_get-set_same (y ∷ ys) (suc i) x within = slice_get-set_same ys i x (omega arith)
-
--- at another the old one is
-pub slice_get-set_other : {X : Type 0} (xs : List X) (i j : ℕ) (x : X) → j ≢ i → slice_get (slice_set xs i x) j ≡ slice_get xs j
-slice_get-set_other [] i j x apart = refl
-slice_get-set_other (y ∷ ys) zero zero x apart = absurd (apart refl)
-slice_get-set_other (y ∷ ys) zero (suc j) x apart = refl
-slice_get-set_other (y ∷ ys) (suc i) zero x apart = refl
-slice_get-set_other (y ∷ ys) (suc i) (suc j) x apart = slice_get-set_other ys i j x (λ e. apart (ap suc e))
 
 -- ---- a step
 

@@ -2,3 +2,4 @@ pub mod Membership
 pub mod Within
 pub mod Threads
 pub mod Loads
+pub mod Lists

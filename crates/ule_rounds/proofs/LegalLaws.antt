@@ -16,23 +16,10 @@ use Rattle.ule_model.specs.Step.{has_thread, is_ready, step, locks_of}
 use Rattle.ule_model.specs.World.{World}
 use Rattle.ule_rounds.proofs.Courses.{follows_acted, follows_advanced}
 use Rattle.ule_rounds.proofs.Histories.{IsInTime-push, IsReplayed-push, all-with_locks, entries_of_other, entries_of_own, replayed_push, with_locks_push}
+use Rattle.ule_members.proofs.Lists.{slice_get-set_other, slice_get-set_same}
 use Rattle.ule_members.proofs.Within.{all-append, all_along}
 
 -- ---- one course changed among all
-
--- the element written is the one read there
-pub slice_get-set_same : {X : Type 0} (xs : List X) (i : ℕ) (x v : X) → slice_get xs i ≡ Some x → slice_get (slice_set xs i v) i ≡ Some v
-slice_get-set_same [] i x v got = absurd (none-some x got)
-slice_get-set_same (y ∷ ys) zero x v got = refl
-slice_get-set_same (y ∷ ys) (suc i) x v got = slice_get-set_same ys i x v got
-
--- any other element is read as before
-pub slice_get-set_other : {X : Type 0} (xs : List X) (i j : ℕ) (v : X) → (j ≡ i → ⊥) → slice_get (slice_set xs i v) j ≡ slice_get xs j
-slice_get-set_other [] i j v other = refl
-slice_get-set_other (y ∷ ys) zero zero v other = absurd (other refl)
-slice_get-set_other (y ∷ ys) zero (suc j) v other = refl
-slice_get-set_other (y ∷ ys) (suc i) zero v other = refl
-slice_get-set_other (y ∷ ys) (suc i) (suc j) v other = slice_get-set_other ys i j v (λ e. other (ap suc e))
 
 -- what holds of the element written, and of each other, holds of each afterwards
 pub each_after_set : {X : Type 0} (Q : ℕ → X → Type 0) (xs : List X) (i : ℕ) (x v : X) → slice_get xs i ≡ Some x → Q i v → ((j : ℕ) (y : X) → (j ≡ i → ⊥) → slice_get xs j ≡ Some y → Q j y) → (j : ℕ) (y : X) → slice_get (slice_set xs i v) j ≡ Some y → Q j y
@@ -40,7 +27,7 @@ each_after_set Q xs i x v got here others j y found =
     ⊎_elim
     (λ (same : j ≡ i).
     let at : slice_get (slice_set xs i v) i ≡ Some y = subst (λ k. slice_get (slice_set xs i v) k ≡ Some y) same found in
-    let is : v ≡ y = same_Some v y (sym (slice_get-set_same xs i x v got) ∙ at) in
+    let is : v ≡ y = same_Some v y (sym (slice_get-set_same xs i v (slice_get_within xs i x got)) ∙ at) in
     subst (λ k. Q k y) (sym same) (subst (Q i) is here))
     (λ (other : j ≡ i → ⊥). others j y other (sym (slice_get-set_other xs i j v other) ∙ found))
     (cases_eq j i)

@@ -19,7 +19,7 @@ use Rattle.ule_model.specs.World.{Member}
 use Rattle.ule_rounds.proofs.Agreement.{DoAgree, agree_emptied, agree_filled, agree_same}
 use Rattle.ule_rounds.proofs.Courses.{greatest_in, left_falls, left_falls_told, left_of}
 use Rattle.ule_rounds.proofs.Hands.{HandsMove, stays, fills, empties}
-use Rattle.ule_rounds.proofs.LegalLaws.{slice_get-set_other, slice_get-set_same}
+use Rattle.ule_members.proofs.Lists.{slice_get-set_other, slice_get-set_same}
 use Rattle.ule_rounds.proofs.Orderly.{AreValid, IsOrderly, amount_in, held_at}
 use Rattle.ule_rounds.proofs.Setups.{HasScripts, amount_in_all, setup_scripts}
 
@@ -67,7 +67,7 @@ agree_moved courses worker course reached put gets old new got before after move
     was = ap (option_and_then held_at) got ∙ before
 
     own : hand_at (slice_set courses worker reached) worker ≡ gets
-    own = ap (option_and_then held_at) (slice_get-set_same courses worker course reached got) ∙ after
+    own = ap (option_and_then held_at) (slice_get-set_same courses worker reached (slice_get_within courses worker course got)) ∙ after
 
     others : (h : ℕ) → h ≢ worker → hand_at (slice_set courses worker reached) h ≡ hand_at courses h
     others h other = ap (option_and_then held_at) (slice_get-set_other courses worker h reached other)

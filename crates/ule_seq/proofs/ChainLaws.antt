@@ -1,12 +1,14 @@
 -- The chains by place.
-use Rattle.std.proofs.Common.{◌≡◌, ℕ, ◌+◌, ◌%◌, List, [], ◌∷◌, ◌++◌, drop, length, Option, Some, sym, ◌∙◌, ap, subst, arith}
+use Rattle.std.proofs.Common.{◌≡◌, ◌≢◌, ℕ, ◌+◌, ◌%◌, ⊎_elim, List, [], ◌∷◌, ◌++◌, drop, length, Option, Some, sym, ◌∙◌, ap, subst, arith}
 use Rattle.std.specs.Prelude.{IfSome, option_and_then, slice_get, slice_set}
-use Rattle.std.proofs.lemmas.List.{length_push}
-use Rattle.ule_sleep.specs.Chain.{ChainValue, IsEmptyChain, sleeper_in}
+use Rattle.std.proofs.lemmas.Bool.{cases_eq}
+use Rattle.std.proofs.lemmas.List.{length-set, length_push}
+use Rattle.std.proofs.lemmas.Option.{slice_get_within}
+use Rattle.ule_sleep.specs.Chain.{ChainValue, IsChain, IsEmptyChain, KeepsChain, sleeper_in}
 use Rattle.ule_sleep.specs.declared.chain.Sleeper.{Sleeper}
 use Rattle.ule_seq.specs.Chains.{AreEmptyChains, KeepsChains, changed_at, sleeper_on, with_changed}
 use Rattle.ule_model.specs.WorldValue.{first_found, sleeper_among}
-use Rattle.ule_seq.proofs.Lists.{drop_at, push_each}
+use Rattle.ule_members.proofs.Lists.{drop_at, push_each, slice_get-set_other, slice_get-set_same}
 
 -- one chain more without sleepers
 pub chains_push : (n : ℕ) (chains new : List ChainValue) (c : ChainValue) → AreEmptyChains n chains → IsEmptyChain c n → KeepsChain c → new ≡ chains ++ c ∷ [] → AreEmptyChains (n + 1) new

@@ -1,6 +1,6 @@
-pub mod Lists
-pub mod HandLaws
 pub mod ChainLaws
+pub mod HandLaws
+pub mod StepValues
 pub mod FinalLines
 pub mod Starting
 pub mod PlayLaws

@@ -23,9 +23,10 @@ use Rattle.ule_model.specs.Step.{holder_of, is_no_others, is_ready, sought_by, s
 use Rattle.ule_model.specs.World.{World}
 use Rattle.ule_model.specs.WorldValue.{Shows, WorldValue, holder_in}
 use Rattle.ule_laws.proofs.ConditionLaws.{can_step, holder_shown}
-use Rattle.ule_rounds.proofs.HistoryLaws.{Keeps, keeps_opening, keeps_turn, now_bounded, possible}
+use Rattle.ule_rounds.proofs.Keeping.{Keeps, keeps_opening, keeps_turn, possible, time_below}
+use Rattle.ule_rounds.proofs.Plays.{all_left, left_performed}
 use Rattle.ule_rounds.proofs.RoundsLaws.{turn_finished}
-use Rattle.ule_rounds.proofs.Measure.{all_left, left_performed}
+use Rattle.ule_members.proofs.Lists.{drop_at}
 use Rattle.ule_seq.specs.Outcomes.{HasFinals, HasLines, IsOutcomeOf}
 use Rattle.ule_seq.specs.Playing.{IsAttempted, IsPerformed, IsPlay, IsReached, PlayerValue, opens, goes_on, advanced, course_at, courses_from, told}
 use Rattle.ule_seq.specs.Programs.{progress_of}
@@ -35,10 +36,6 @@ use Rattle.ule_seq.specs.declared.rounds.Course.{Course}
 use Rattle.ule_seq.specs.declared.world.Ready.TheVariants.{Yes, InHand}
 
 -- ---- the next item of a course
-
--- what is left of a list from the place of an element
-pub drop_at : {X : Type 0} (xs : List X) (i : ℕ) (x : X) → slice_get xs i ≡ Some x → drop i xs ≡ x ∷ drop (i + 1) xs
-drop_at xs i x got = rw (add-one, drop-cons xs i x (slice_get_within xs i x got), get_or_from_slice_get xs i x x got) refl
 
 -- that of the command begun, where it has a further one
 pub next_begun : (script : List Command) (p : Progress) (last : Option (Reply × ℕ)) (i : Item) → (next_of last p).0 ≡ Some i → next_in script p last ≡ Some (i, record { script = script; progress = (next_of last p).1; last = None })
@@ -137,7 +134,7 @@ reached_keeps s I first step p (goes_on q worker reached) = step q worker (reach
 
 -- each play that is reached keeps what the laws of histories ask for
 pub reached_kept : (s : Setup) → IsOfForm s → (p : Play) → IsReached s p → Keeps s p
-reached_kept s form = reached_keeps s (Keeps s) (keeps_opening s form) (keeps_turn s)
+reached_kept s form = reached_keeps s (Keeps s) (keeps_opening s form) (keeps_turn s form)
 
 -- ---- a turn of the player
 
@@ -191,7 +188,7 @@ has_room s v p worker c e after form play got next =
 
 -- time stays within its type
 pub advance_fits : (s : Setup) (v : PlayerValue) (p : Play) (k : ℕ) → IsOfForm s → IsPlay s v p → k < 2 ^ 32 → v.now + k < 2 ^ 64
-advance_fits s v p k form play small = omega (arith, play.now, now_bounded s p form (reached_kept s form p play.reached))
+advance_fits s v p k form play small = omega (arith, play.now, time_below s p (reached_kept s form p play.reached))
 
 -- a player has a course for each worker
 pub courses_count : (s : Setup) (v : PlayerValue) (p : Play) → IsOfForm s → IsPlay s v p → length v.courses ≡ s.cpus

@@ -8,27 +8,23 @@ use Rattle.std.specs.List.{AllByRecursion, list_all}
 use Rattle.std.specs.Option.{option_map}
 use Rattle.ule_model.specs.CpuValue.{CpuValue, thread_in, thread_on, value_laid}
 use Rattle.ule_model.specs.Places.{is_on}
-use Rattle.ule_model.specs.Start.{base_of, empty_world, laid, record_of}
+use Rattle.ule_model.specs.Start.{base_of, empty_world, laid, nice_of, record_of}
 use Rattle.ule_model.specs.World.{World, is_thread, thread_of}
 use Rattle.ule_model.specs.WorldValue.{IsPart, Shows, WorldValue}
-use Rattle.ule_laws.proofs.StartLaws.{IsEmptyCpu, declared_distinct, empty_shows, laid_shows, new_after}
+use Rattle.ule_laws.proofs.StartLaws.{declared_distinct, empty_shows, laid_shows, new_after}
+use Rattle.ule_members.proofs.Lists.{push_each}
 use Rattle.ule_members.proofs.Threads.{find_nowhere, none_passes}
 use Rattle.ule_seq.specs.Outcomes.{AreFresh, laid_part, with_laid}
 use Rattle.ule_types.specs.declared.setup.ThreadSpec.{ThreadSpec}
-use Rattle.ule_tdq.specs.Cpu.{IsNoEarlier, StartsAs}
+use Rattle.ule_model.specs.CpuStart.{StartsAs}
+use Rattle.ule_score.specs.TimesharePriority.{IsNice}
+use Rattle.ule_seq.specs.Chains.{AreEmptyChains}
+use Rattle.ule_seq.specs.Hands.{AreEmptyHands}
 use Rattle.ule_types.specs.Rules.{are_settings, are_scripts, are_turns, declared_ids, is_distinct, is_form, is_spec}
 use Rattle.ule_prio.specs.Class.{is_within}
 use Rattle.ule_types.specs.declared.setup.Setup.{Setup}
 
 -- ---- fresh CPUs
-
--- what holds of each item of a list, and of one more, holds of each of both
-push_each : {X : Type 0} (P : ℕ → X → Type 0) (xs : List X) (x : X) → ((k : ℕ) → IfSome (slice_get xs k) (P k)) → P (length xs) x →
-    (k : ℕ) → IfSome (slice_get (xs ++ x ∷ []) k) (P k)
-push_each P [] x each here zero = here
-push_each P [] x each here (suc k) = tt
-push_each P (y ∷ ys) x each here zero = each 0
-push_each P (y ∷ ys) x each here (suc k) = push_each (λ i. P (suc i)) ys x (λ i. each (suc i)) here k
 
 -- fresh CPUs and one more
 pub fresh_push : (s : Setup) (n : ℕ) (cpus new : List CpuValue) (v : CpuValue) → AreFresh s n cpus →
@@ -42,28 +38,10 @@ fresh_push s n cpus new v fresh starts is = record {
 pub fresh_none : (s : Setup) (cpus : List CpuValue) → cpus ≡ [] → AreFresh s 0 cpus
 fresh_none s cpus none = record { count = ap length none; each = λ k. rw none tt }
 
--- a CPU that starts is one of the empty world
-empty_cpu : (s : Setup) (c : ℕ) (v : CpuValue) → StartsAs v c s.settings ((s.jitter + 16) % 2 ^ 32) → IsEmptyCpu s c v
-empty_cpu s c v h = record {
-  cpu = h.cpu;
-  settings = h.settings;
-  slots = h.slots;
-  threads = h.threads;
-  current = h.current;
-  real = h.real;
-  batch = h.batch;
-  idle = h.idle;
-  line = h.line;
-  balance_word = h.balance_word;
-}
-
-empty_if : (s : Setup) (c : ℕ) (o : Option CpuValue) → IfSome o (λ v. StartsAs v c s.settings ((s.jitter + 16) % 2 ^ 32)) → IfSome o (IsEmptyCpu s c)
-empty_if s c None h = tt
-empty_if s c (Some v) h = empty_cpu s c v h
-
--- fresh CPUs show the empty world
-pub fresh_shows : (s : Setup) (v : WorldValue) → v.settings ≡ s.settings → AreFresh s s.cpus v.cpus → Shows v (empty_world s)
-fresh_shows s v settings fresh = empty_shows s v settings fresh.count (λ c. empty_if s c (slice_get v.cpus c) (fresh.each c))
+-- fresh CPUs with eight chains without sleepers and empty hands show the empty world
+pub fresh_shows : (s : Setup) (v : WorldValue) → v.settings ≡ s.settings → AreFresh s s.cpus v.cpus → AreEmptyChains 8 v.chains → AreEmptyHands s.cpus v.hands → Shows v (empty_world s)
+fresh_shows s v settings fresh chains hands =
+    empty_shows s v settings fresh.count fresh.each chains.count_is chains.none (hands.count ∙ sym fresh.count) hands.none
 
 -- ---- a thread that isn't there
 
@@ -111,17 +89,6 @@ setup_threads s =
 
 -- ---- one thread after another
 
--- no record of a fresh CPU has a later CPU-use update
-fresh_earlier : (v : CpuValue) (now : ℕ) → ((t : ℕ) → thread_in v t ≡ None) → IsNoEarlier v now
-fresh_earlier v now none = λ t. rw (none t) tt
-
-earlier_if : (s : Setup) (c now : ℕ) (o : Option CpuValue) → IfSome o (λ v. StartsAs v c s.settings ((s.jitter + 16) % 2 ^ 32)) → IfSome o (λ v. IsNoEarlier v now)
-earlier_if s c now None h = tt
-earlier_if s c now (Some v) h = fresh_earlier v now h.threads
-
-pub fresh_in_time : (s : Setup) (n now : ℕ) (cpus : List CpuValue) → AreFresh s n cpus → (c : ℕ) → IfSome (slice_get cpus c) (λ v. IsNoEarlier v now)
-fresh_in_time s n now cpus fresh c = earlier_if s c now (slice_get cpus c) (fresh.each c)
-
 -- the world after the first so many threads
 abbrev pub world_after : Setup → List ThreadSpec → ℕ → World
 world_after s specs k = fold laid (empty_world s) (take k specs)
@@ -146,16 +113,16 @@ none_within xs i within none =
 
 -- the scheduler with the next thread laid shows the next world
 pub next_shows : (s : Setup) (v : WorldValue) (specs : List ThreadSpec) (k : ℕ) (spec : ThreadSpec) → Shows v (world_after s specs k) →
-    is_distinct (map (λ x. x.id) specs) ≡ true → slice_get specs k ≡ Some spec → spec.cpu < length v.cpus → spec.id < 256 → base_of v.settings spec.form < 256 →
+    is_distinct (map (λ x. x.id) specs) ≡ true → slice_get specs k ≡ Some spec → spec.cpu < length v.cpus → spec.id < 256 → base_of v.settings spec.form < 256 → IsNice (nice_of spec.form) →
     Shows (with_laid v spec) (world_after s specs (k + 1))
-next_shows s v specs k spec shows distinct at within number priority =
+next_shows s v specs k spec shows distinct at within number priority nice =
     let more : world_after s specs (k + 1) ≡ laid (world_after s specs k) spec =
     fold_more laid (empty_world s) specs k spec (slice_get_within specs k spec at) ∙ ap (laid (world_after s specs k)) (get_or_from_slice_get specs k spec spec at) in
     rw more (split (slice_get v.cpus spec.cpu) refl)
   where
     split : (o : Option CpuValue) → slice_get v.cpus spec.cpu ≡ o → Shows (laid_part o spec v) (laid (world_after s specs k) spec)
     split None found = absurd (none_within v.cpus spec.cpu within found)
-    split (Some u) found = laid_shows v (world_after s specs k) spec u shows found (next_is_new s specs k spec distinct at) number priority
+    split (Some u) found = laid_shows v (world_after s specs k) spec u shows found (next_is_new s specs k spec distinct at) number priority nice
 
 -- the CPU of a declared thread is one of the setup's
 pub spec_cpu : (s : Setup) (k : ℕ) (spec : ThreadSpec) → slice_get s.threads k ≡ Some spec → spec.cpu < s.cpus

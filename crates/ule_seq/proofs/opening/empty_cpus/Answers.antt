@@ -1,6 +1,6 @@
 use Rattle.std.proofs.Common.{◌≡◌, ℕ, ◌++◌, ◌∷◌, [], subst, arith}
 use Rattle.std.proofs.lemmas.Grind.{common_steps}
-use Rattle.ule_tdq.specs.Cpu.{StartsAs}
+use Rattle.ule_model.specs.CpuStart.{StartsAs}
 use Rattle.ule_seq.proofs.Starting.{fresh_push}
 use Rattle.ule_seq.proofs.opening.empty_cpus.Goals as goal
 

@@ -1,22 +1,20 @@
 use Rattle.std.proofs.Common.{◌≡◌, ◌<◌, true, List, length, map, slice_get, Some, refl, sym, ◌∙◌, ap, subst, arith}
 use Rattle.std.proofs.lemmas.Option.{slice_get_read}
-use Rattle.ule_model.specs.Start.{starting_time}
 use Rattle.ule_model.specs.WorldValue.{WorldValue}
 use Rattle.ule_types.specs.Rules.{is_distinct}
 use Rattle.ule_types.specs.declared.setup.ThreadSpec.{ThreadSpec}
-use Rattle.ule_seq.proofs.Starting.{fresh_in_time, fresh_shows, laid_rest, next_absent, next_shows, setup_threads, spec_cpu}
+use Rattle.ule_seq.proofs.Starting.{fresh_shows, laid_rest, next_absent, next_shows, setup_threads, spec_cpu}
 use Rattle.ule_seq.proofs.opening.World.start.Goals as goal
 
 pub loop-spec-init : goal.loop-spec-init
 loop-spec-init c =
     let s = c.args.s.now in
     let fresh = c.in_ok-empty_cpus.ensures in
-    let v : WorldValue = record { settings = s.settings; cpus = c.in_ok-empty_cpus.field-0.items } in
+    let v : WorldValue = record { settings = s.settings; cpus = c.in_ok-empty_cpus.field-0.items; chains = c.in_ok-empty.field-0; hands = c.in_ok-empty-2.field-0 } in
     record {
-      shows = fresh_shows s v refl fresh;
+      shows = fresh_shows s v refl fresh c.in_ok-empty.ensures c.in_ok-empty-2.ensures;
       settings = refl;
       count = fresh.count;
-      in_time = fresh_in_time s s.cpus starting_time v.cpus fresh;
     }
 
 pub lay-requires-clause-absent : goal.lay-requires-clause-absent
@@ -41,8 +39,7 @@ loop-spec-preserved c =
     let within : spec.cpu < length v.cpus = let cpu = spec_cpu s k spec here in let count = kept.count in omega arith in
     let rest = laid_rest v spec in
     record {
-      shows = rw c.lay.ensures.value (next_shows s v specs k spec kept.shows distinct at within c.lay.ensures.number c.lay.ensures.priority);
+      shows = rw c.lay.ensures.value (next_shows s v specs k spec kept.shows distinct at within c.lay.ensures.number c.lay.ensures.priority c.lay.ensures.nice);
       settings = ap (λ (w : WorldValue). w.settings) c.lay.ensures.value ∙ rest.0 ∙ kept.settings;
       count = ap (λ (w : WorldValue). length w.cpus) c.lay.ensures.value ∙ rest.1 ∙ kept.count;
-      in_time = c.lay.ensures.in_time starting_time kept.in_time (omega arith);
     }

@@ -1,7 +1,6 @@
 use Rattle.std.proofs.Common.{◌≡◌, length, take, fold}
-use Rattle.ule_model.specs.Start.{empty_world, laid, starting_time}
+use Rattle.ule_model.specs.Start.{empty_world, laid}
 use Rattle.ule_model.specs.WorldValue.{Shows}
-use Rattle.ule_seq.specs.Conditions.{AllNoEarlier}
 use Rattle.ule_seq.proofs.opening.World.start.Given as goal
 
 abbrev pub invariant-loop-spec : goal.invariant-loop-spec
@@ -9,5 +8,4 @@ invariant-loop-spec l = record {
   shows : Shows l.world (fold laid (empty_world l.s) (take l.spec-index l.specs));
   settings : l.world.settings ≡ l.s.settings;
   count : length l.world.cpus ≡ l.s.cpus;
-  in_time : AllNoEarlier l.world starting_time;
 }
