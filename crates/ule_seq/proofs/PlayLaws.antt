@@ -23,7 +23,7 @@ use Rattle.ule_model.specs.Step.{holder_of, is_no_others, is_ready, sought_by, s
 use Rattle.ule_model.specs.World.{World}
 use Rattle.ule_model.specs.WorldValue.{Shows, WorldValue, holder_in}
 use Rattle.ule_laws.proofs.ConditionLaws.{can_step, holder_shown}
-use Rattle.ule_rounds.proofs.Keeping.{Keeps, keeps_opening, keeps_turn, possible, time_below}
+use Rattle.ule_rounds.proofs.Keeping.{Keeps, advance_within, keeps_opening, keeps_turn, possible, time_below}
 use Rattle.ule_rounds.proofs.Plays.{all_left, left_performed}
 use Rattle.ule_rounds.proofs.RoundsLaws.{turn_finished}
 use Rattle.ule_members.proofs.Lists.{drop_at}
@@ -187,8 +187,10 @@ has_room s v p worker c e after form play got next =
     left_among = left_performed s.cpus p worker e (course_at s worker c) after (course_got s v p worker c play got) next
 
 -- time stays within its type
-pub advance_fits : (s : Setup) (v : PlayerValue) (p : Play) (k : ℕ) → IsOfForm s → IsPlay s v p → k < 2 ^ 32 → v.now + k < 2 ^ 64
-advance_fits s v p k form play small = omega (arith, play.now, time_below s p (reached_kept s form p play.reached))
+pub advance_fits : (s : Setup) (v : PlayerValue) (p : Play) (worker : ℕ) (c : Course) (k : ℕ) (after : program.Course) → IsOfForm s → IsPlay s v p → slice_get v.courses worker ≡ Some c → next_step (course_at s worker c) ≡ Some (item.Advance k, after) → v.now + k < 2 ^ 64
+advance_fits s v p worker c k after form play got next =
+    let kept : Keeps s p = reached_kept s form p play.reached in
+    omega (arith, play.now, time_below s p kept, (advance_within s p worker k (course_at s worker c) after kept (course_got s v p worker c play got) next).1)
 
 -- a player has a course for each worker
 pub courses_count : (s : Setup) (v : PlayerValue) (p : Play) → IsOfForm s → IsPlay s v p → length v.courses ≡ s.cpus

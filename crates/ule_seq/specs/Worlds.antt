@@ -2,6 +2,7 @@
 use Rattle.std.specs.Prelude.{◌≡◌, ◌≤◌, length, vec_len, IsTrue}
 use Rattle.ule_model.specs.WorldValue.{WorldValue}
 use Rattle.ule_types.specs.Rules.{are_settings}
+use Rattle.ule_seq.specs.Chains.{KeepsChains}
 use Rattle.ule_seq.specs.declared.world.World.TheInside.{Inside}
 
 -- the value that clauses see
@@ -14,4 +15,5 @@ KeepsWorld w = record {
   settings : IsTrue (are_settings w.settings);
   count : vec_len w.cpus ≤ 16;
   hands : length w.hands ≡ vec_len w.cpus;
+  chains : KeepsChains w.chains;
 }

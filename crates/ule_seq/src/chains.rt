@@ -2,7 +2,7 @@ ghost use Rattle.std.specs.Prelude.{◌≡◌, ◌%◌, Some, IfOk, IfSome, IsSo
 ghost use Rattle.std.specs.Option.{option_map};
 ghost use Rattle.ule_model.specs.WorldValue.{sleeper_among, sleeper_line};
 ghost use Rattle.ule_score.specs.Bounds.{KeepsBounds};
-ghost use Rattle.ule_seq.specs.Chains.{AreEmptyChains, IsAwakeOn, changed_at, sleeper_on};
+ghost use Rattle.ule_seq.specs.Chains.{AreEmptyChains, IsAwakeOn, KeepsChains, changed_at, sleeper_on};
 ghost use Rattle.ule_sleep.specs.Chain.{thread_of_sleeper, with_sleeper, without_sleeper};
 
 use std::alloc::Global;
@@ -70,7 +70,8 @@ impl Chains {
     pub fn bed(&mut self, r: ThreadRecord, channel: u16)
         requires absent { IsAwakeOn self.old (channel % 8) r.id }
         requires bounds { KeepsBounds r }
-        ensures { self.new ≡ changed_at (channel % 8) (with_sleeper r channel) self.old }
+        ensures rest { self.new ≡ changed_at (channel % 8) (with_sleeper r channel) self.old }
+        ensures keeps { KeepsChains self.new }
     {
         let chain = &mut self.chains[usize::from(channel % 8)];
         chain.bed(r, channel);
@@ -82,6 +83,7 @@ impl Chains {
         ensures thread { Some result ≡ thread_of_sleeper (sleeper_on self.old (channel % 8) t) }
         ensures rest { self.new ≡ changed_at (channel % 8) (without_sleeper t) self.old }
         ensures bounds { KeepsBounds result }
+        ensures keeps { KeepsChains self.new }
     {
         let chain = &mut self.chains[usize::from(channel % 8)];
         chain.take_out(t)

@@ -1,30 +1,19 @@
-ghost use Rattle.std.specs.Prelude.{◌≡◌, ◌≢◌, ℕ, ◌+◌, ◌%◌, ◌^◌, ◌<◌, ◌≤◌, [], length, map, slice_get, None, Some, IfOk, IfSome, IsTrue, option_and_then};
-ghost use Rattle.std.specs.Option.{option_map};
+ghost use Rattle.std.specs.Prelude.{◌≡◌};
 ghost use Rattle.ule_model.specs.Conditions.{CanStep};
-ghost use Rattle.ule_model.specs.CpuValue.{thread_in};
-ghost use Rattle.ule_model.specs.Start.{base_of, nice_of, world_at_start};
-ghost use Rattle.ule_model.specs.Step.{holder_of, sought_by};
-ghost use Rattle.ule_model.specs.WorldValue.{Shows, Steps, not_asleep_reply, place_among, value_step};
-ghost use Rattle.ule_model.specs.World.{World};
-ghost use Rattle.ule_score.specs.TimesharePriority.{IsNice};
-ghost use Rattle.ule_seq.specs.Outcomes.{AreFresh, with_laid};
-ghost use Rattle.ule_seq.specs.Readiness.{ready_by, ready_in};
+ghost use Rattle.ule_model.specs.Step.{sought_by};
+ghost use Rattle.ule_model.specs.WorldValue.{Steps, not_asleep_reply, place_among, value_step};
+ghost use Rattle.ule_seq.specs.Readiness.{Readies, ready_by, ready_in};
 ghost use Rattle.ule_tdq.specs.Replies.{reply_of, ticked_reply};
-ghost use Rattle.ule_types.specs.Form.{IsOfForm};
-ghost use Rattle.ule_types.specs.Rules.{are_settings};
 ghost use Rattle.ule_types.specs.declared.event.Event.TheVariants.{Tick, Switch, Drop, Bed, Wake, Land};
 
 use crate::chains::Chains;
 use crate::hands::Hands;
-use crate::records::record_of;
-use std::alloc::Global;
 use std::marker::Model;
-use ule_io::Memory;
 use ule_prio::{Cpu, ThreadId};
 use ule_score::{Place, Settings, Why};
 use ule_tdq::records::after_sleep;
 use ule_tdq::{Clocked, SwitchOut, Tdq};
-use ule_types::{Event, Reply, Setup, ThreadSpec};
+use ule_types::{Event, Reply};
 
 /// Whether a worker can perform an event now.
 #[derive(Clone, Copy, Debug, PartialEq, Eq)]
@@ -92,8 +81,7 @@ impl World {
     /// Whether the thread that an event seeks is in no other worker's hand.
     pub fn ready(&self, worker: u8, e: &Event) -> Ready
         ensures value { result ≡ ready_in self.now worker e.now }
-        ensures ready { (w : World) → Shows self.now w →
-            result ≡ ready_by worker (option_and_then (holder_of w.members) (sought_by e.now)) }
+        ensures readies { Readies self.now worker e.now result }
     {
         match sought_by(e) {
             None => Ready::Yes,
@@ -106,6 +94,7 @@ impl World {
         requires { CanStep self.old worker e.now now }
         ensures { Steps self.old worker e.now now self.new result }
     {
+        let _ = &self.chains; // so that it is known what they keep
         match *e {
             Event::Tick(c) => self.tick(worker, c, now),
             Event::Switch(c, why) => self.switch(worker, c, why, now),

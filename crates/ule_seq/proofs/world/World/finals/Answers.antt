@@ -3,7 +3,7 @@ use Rattle.std.proofs.Common.{map, ap, ◌∙◌}
 use Rattle.ule_types.specs.Outcome.{OutcomeValue}
 use Rattle.ule_model.specs.CpuValue.{CpuValue}
 use Rattle.ule_seq.proofs.FinalLines.{final_lines}
-use Rattle.ule_seq.proofs.finals.World.finals.Goals as goal
+use Rattle.ule_seq.proofs.world.World.finals.Goals as goal
 
 pub returns : goal.returns
 returns c =

@@ -3,8 +3,8 @@ use Rattle.std.proofs.Common.{◌≡◌, ◌∙◌, sym, subst}
 use Rattle.std.specs.Prelude.{IfSome}
 use Rattle.ule_model.specs.WorldValue.{line_at}
 use Rattle.ule_seq.proofs.FinalLines.{below_more, set_none, set_some}
-use Rattle.ule_seq.proofs.finals.World.set_threads.Goals as goal
-use Rattle.ule_seq.proofs.finals.World.set_threads.Goals.{in-Some, in_default}
+use Rattle.ule_seq.proofs.world.World.set_threads.Goals as goal
+use Rattle.ule_seq.proofs.world.World.set_threads.Goals.{in-Some, in_default}
 
 pub loop-t-preserved : goal.loop-t-preserved
 loop-t-preserved c = record {

@@ -1,7 +1,7 @@
 use Rattle.std.proofs.Common.{◌≡◌, length, take, fold}
 use Rattle.ule_model.specs.Start.{empty_world, laid}
 use Rattle.ule_model.specs.WorldValue.{Shows}
-use Rattle.ule_seq.proofs.opening.World.start.Given as goal
+use Rattle.ule_seq.proofs.world.World.start.Given as goal
 
 abbrev pub invariant-loop-spec : goal.invariant-loop-spec
 invariant-loop-spec l = record {

@@ -3,7 +3,7 @@ use Rattle.std.proofs.Common.{◌≡◌}
 use Rattle.std.specs.List.{filter_map, range_with_len}
 use Rattle.ule_model.specs.WorldValue.{line_at}
 use Rattle.ule_seq.proofs.FinalLines.{AreBelow}
-use Rattle.ule_seq.proofs.finals.World.set_threads.Given as goal
+use Rattle.ule_seq.proofs.world.World.set_threads.Given as goal
 
 abbrev pub invariant-loop-t : goal.invariant-loop-t
 invariant-loop-t l = record {

@@ -4,7 +4,7 @@ use Rattle.ule_model.specs.WorldValue.{WorldValue}
 use Rattle.ule_types.specs.Rules.{is_distinct}
 use Rattle.ule_types.specs.declared.setup.ThreadSpec.{ThreadSpec}
 use Rattle.ule_seq.proofs.Starting.{fresh_shows, laid_rest, next_absent, next_shows, setup_threads, spec_cpu}
-use Rattle.ule_seq.proofs.opening.World.start.Goals as goal
+use Rattle.ule_seq.proofs.world.World.start.Goals as goal
 
 pub loop-spec-init : goal.loop-spec-init
 loop-spec-init c =
