@@ -188,9 +188,10 @@ value_clocked v = record v {
 abbrev pub value_ticked_with : Option ThreadRecord → Bool → ℕ → CpuValue → CpuValue × Reply
 value_ticked_with None due now v = (v, Ticked None due false)
 value_ticked_with (Some r) due now v =
-    let ended = (after_tick v.settings now v.load r).1 in
-    (record (with_thread r.id (λ x. (after_tick v.settings now v.load x).0) v) { line = marked_at_end ended v.line },
-      Ticked (Some r.id) due ended)
+    let ended = (after_tick v.settings now v.load r).1 in (
+      record (with_thread r.id (λ x. (after_tick v.settings now v.load x).0) v) { line = marked_at_end ended v.line },
+      Ticked (Some r.id) due ended,
+    )
 
 -- the step of a tick
 abbrev pub value_ticked : ℕ → CpuValue → CpuValue × Reply

@@ -60,9 +60,10 @@ woken_reply r = Woken r.priority r.bound r.last r.last_run
 
 -- the threads with a sleeping one in the worker's hand
 abbrev pub woken_thread : ℕ → ℕ → Settings → Member → List Member → List Member × Reply
-woken_thread worker now settings m members =
-    (moved_to m.thread.id (Hand worker) (pos 0) (with_record m.thread.id (after_sleep settings now) members),
-      woken_reply (after_sleep settings now m.thread))
+woken_thread worker now settings m members = (
+  moved_to m.thread.id (Hand worker) (pos 0) (with_record m.thread.id (after_sleep settings now) members),
+  woken_reply (after_sleep settings now m.thread),
+)
 
 -- the same by its place: one that stands elsewhere stays
 abbrev pub woken_at : Place → ℕ → ℕ → Settings → Member → List Member → List Member × Reply

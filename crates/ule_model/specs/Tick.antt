@@ -105,11 +105,13 @@ marked_at_end ended line = record line { resched = line.resched || ended; slice_
 abbrev pub ticked_with : Option Member → ℕ → Bool → ℕ → Side → Side × Reply
 ticked_with None load due now s = (s, Ticked None due false)
 ticked_with (Some m) load due now s =
-    let ended = (after_tick s.settings now load m.thread).1 in
-    (record s {
-      members = with_record m.thread.id (λ r. (after_tick s.settings now load r).0) s.members;
-      line = marked_at_end ended s.line;
-    }, Ticked (Some m.thread.id) due ended)
+    let ended = (after_tick s.settings now load m.thread).1 in (
+      record s {
+        members = with_record m.thread.id (λ r. (after_tick s.settings now load r).0) s.members;
+        line = marked_at_end ended s.line;
+      },
+      Ticked (Some m.thread.id) due ended,
+    )
 
 -- the step of a tick of CPU c
 abbrev pub ticked : ℕ → ℕ → Side → Side × Reply

@@ -167,15 +167,17 @@ not_asleep_reply (Some place) = NotAsleep place
 
 abbrev pub value_woken : ℕ → ℕ → Option Sleeper → ℕ → WorldValue → WorldValue × Reply
 value_woken worker now None t v = (v, not_asleep_reply (place_among v.cpus t))
-value_woken worker now (Some s) t v =
-    (with_hand worker (Some (after_sleep v.settings now s.thread)) (on_chain (s.channel % 8) (without_sleeper t) v),
-      woken_reply (after_sleep v.settings now s.thread))
+value_woken worker now (Some s) t v = (
+  with_hand worker (Some (after_sleep v.settings now s.thread)) (on_chain (s.channel % 8) (without_sleeper t) v),
+  woken_reply (after_sleep v.settings now s.thread),
+)
 
 -- a landing: what the worker has in hand comes to CPU c
 abbrev pub value_landed_on : ℕ → ℕ → ThreadRecord → CpuValue → WorldValue → WorldValue × Reply
-value_landed_on worker c r part v =
-    (with_hand worker None (with_cpu c (value_added r (not (worker == c)) part) v),
-      Landed (kind_at r.priority) (bucket_of (kind_at r.priority) Ordinary part.line r.priority) (takes_over_in r.priority (not (worker == c)) part))
+value_landed_on worker c r part v = (
+  with_hand worker None (with_cpu c (value_added r (not (worker == c)) part) v),
+  Landed (kind_at r.priority) (bucket_of (kind_at r.priority) Ordinary part.line r.priority) (takes_over_in r.priority (not (worker == c)) part),
+)
 
 abbrev pub value_landed : ℕ → ℕ → Option ThreadRecord → Option CpuValue → WorldValue → WorldValue × Reply
 value_landed worker c None part v = (v, Nothing)
