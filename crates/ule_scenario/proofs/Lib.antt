@@ -1,7 +1,7 @@
-pub mod Items
+pub mod Charges
+pub mod Commands
 pub mod Numbers
 pub mod Pieces
 pub mod Runs
-pub mod Rules
-pub mod Setups
 pub mod Text
+pub mod Threads

@@ -33,11 +33,10 @@ fn number_after(line: &[u8], keyword: &[u8], least: u32, greatest: u32) -> Optio
 {
     let words = Words::of(line).after(keyword)?;
     let (n, words) = words.number(greatest)?;
-    if n >= least && words.is_end() {
-        Some(n)
-    } else {
-        None
+    if n < least {
+        return None;
     }
+    if words.is_end() { Some(n) } else { None }
 }
 
 /// Whether a line has this keyword and this number.
@@ -82,7 +81,8 @@ pub(crate) fn is_script(line: &[u8], worker: u8) -> bool
 /// The thread that a line declares on so many CPUs: a timeshare thread, which is bound where there
 /// are several.
 pub(crate) fn thread_of(line: &[u8], cpus: u8) -> Option<ThreadSpec>
-    requires { 1 ≤ cpus }
+    requires least { 1 ≤ cpus }
+    requires greatest { cpus ≤ 16 }
     ensures found { IfSome result (λ spec. words_of line.now ≡ thread_line spec) }
     ensures within { IfSome result (λ spec. IsTrue (is_thread cpus spec)) }
     ensures none { IfNone result ((spec : ThreadSpec) → IsTrue (is_thread cpus spec) → words_of line.now ≢ thread_line spec) }

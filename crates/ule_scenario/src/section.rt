@@ -51,7 +51,8 @@ pub(crate) fn read_head(text: &[u8]) -> Option<(u32, u8, &[u8])>
 
 /// The thread that the first line declares, and the bytes after that line.
 fn next_thread(text: &[u8], cpus: u8) -> Option<(ThreadSpec, &[u8])>
-    requires { 1 ≤ cpus }
+    requires least { 1 ≤ cpus }
+    requires greatest { cpus ≤ 16 }
     ensures found { IfSome result (λ r. cut text.now ≡ thread_line r.0 ∷ cut r.1.now) }
     ensures within { IfSome result (λ r. IsTrue (is_thread cpus r.0)) }
     ensures shorter { IfSome result (λ r. length r.1.now < length text.now) }
@@ -68,7 +69,8 @@ pub(crate) fn read_threads(
     text: &[u8],
     cpus: u8,
 ) -> Result<(Specs, &[u8]), ScenarioFault>
-    requires cpus { 1 ≤ cpus }
+    requires least { 1 ≤ cpus }
+    requires greatest { cpus ≤ 16 }
     requires limit { length text.now ≤ 1048576 }
     ensures ok { IfOk result (λ r. TakesThreads cpus (cut text.now) r.0 (cut r.1.now)) }
     ensures refused { IfErr result (λ e. RefusedOnlyIf (RepeatsThread cpus (cut text.now)) e) }

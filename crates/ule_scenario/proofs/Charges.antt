@@ -1,0 +1,63 @@
+-- What commands are charged, and their ticks.
+use Rattle.std.proofs.Common.{◌≡◌, ℕ, suc, ◌+◌, ◌*◌, ◌<◌, ◌≤◌, ◌==◌, Bool, true, false, ◌&&◌, ◌||◌, not, IsTrue, List, [], ◌∷◌, ◌++◌, map, length, sum, replicate, refl, sym, ap, ◌∙◌, arith, ltb, cond}
+use Rattle.std.specs.Prelude.{nat_le, count_by}
+use Rattle.std.specs.List.{list_all, sum_by}
+use Rattle.std.proofs.Math.Bool.{or-true}
+use Rattle.std.proofs.lemmas.Bool.{le-leb, leb-true, or_cases}
+use Rattle.std.proofs.lemmas.List.{length-append}
+use Rattle.std.proofs.lemmas.List.Sums.{sum-map, sum_by-cons, sum_by-append, sum_by_push}
+use Rattle.ule_types.specs.Commands.{greatest_of, greatest_of_tick}
+use Rattle.ule_types.specs.Form.{is_tick, has_few_ticks}
+use Rattle.ule_types.specs.Rules.{budget_from}
+use Rattle.ule_types.specs.declared.command.Command.{Command}
+use Rattle.ule_types.specs.declared.command.Command.TheVariants.{Tick, Time, Yield, Resched, Sleep, Wake, Lend, Unlend, Renice, Fork, Exit, Idle, Balance, Look}
+use Rattle.ule_scenario.specs.Sections.{charge, are_few}
+
+tick_bounds : (b : Bool) (cpus : ℕ) → 1 ≤ cpus → (1 ≤ cond b (1 + 2 * cpus) 1) × (cond b (1 + 2 * cpus) 1 ≤ 3 + 2 * cpus)
+tick_bounds true cpus some = (omega arith, omega arith)
+tick_bounds false cpus some = (omega arith, omega arith)
+
+-- a command is charged something, and not much
+pub greatest_bounds : (c : Command) (worker cpus : ℕ) → 1 ≤ cpus → (1 ≤ greatest_of c worker cpus) × (greatest_of c worker cpus ≤ 3 + 2 * cpus)
+greatest_bounds Tick worker cpus some = tick_bounds ((worker == 0) && ltb 1 cpus) cpus some
+greatest_bounds (Time k) worker cpus some = (omega arith, omega arith)
+greatest_bounds Yield worker cpus some = (omega arith, omega arith)
+greatest_bounds Resched worker cpus some = (omega arith, omega arith)
+greatest_bounds (Sleep channel) worker cpus some = (omega arith, omega arith)
+greatest_bounds (Wake t) worker cpus some = (omega arith, omega arith)
+greatest_bounds (Lend t p) worker cpus some = (omega arith, omega arith)
+greatest_bounds (Unlend t) worker cpus some = (omega arith, omega arith)
+greatest_bounds (Renice t n) worker cpus some = (omega arith, omega arith)
+greatest_bounds (Fork t) worker cpus some = (omega arith, omega arith)
+greatest_bounds Exit worker cpus some = (omega arith, omega arith)
+greatest_bounds Idle worker cpus some = (omega arith, omega arith)
+greatest_bounds Balance worker cpus some = (omega arith, omega arith)
+greatest_bounds (Look c) worker cpus some = (omega arith, omega arith)
+
+charge-append : (worker cpus : ℕ) (xs ys : List Command) → charge worker cpus (xs ++ ys) ≡ charge worker cpus xs + charge worker cpus ys
+charge-append worker cpus xs ys =
+    let f : Command → ℕ = λ c. greatest_of c worker cpus in
+    sum-map f (xs ++ ys) ∙ sum_by-append f xs ys ∙ sym (ap (λ n. n + charge worker cpus ys) (sum-map f xs) ∙ ap (λ n. sum_by f xs + n) (sum-map f ys))
+
+-- one command more
+pub charge_push : (worker cpus : ℕ) (xs : List Command) (c : Command) → charge worker cpus (xs ++ c ∷ []) ≡ charge worker cpus xs + greatest_of c worker cpus
+charge_push worker cpus xs c = omega (arith, charge-append worker cpus xs (c ∷ []))
+
+-- a longer script is charged no less
+pub charge-le : (worker cpus : ℕ) (xs ys : List Command) → charge worker cpus xs ≤ charge worker cpus (xs ++ ys)
+charge-le worker cpus xs ys = omega (arith, charge-append worker cpus xs ys)
+
+pub ticks_push : (xs : List Command) (c : Command) → count_by is_tick (xs ++ c ∷ []) ≡ count_by is_tick xs + cond (is_tick c) 1 0
+ticks_push xs c = sum_by_push (λ x. cond (is_tick x) 1 0) xs c
+
+pub ticks-le : (xs ys : List Command) → count_by is_tick xs ≤ count_by is_tick (xs ++ ys)
+ticks-le xs ys = omega (arith, sum_by-append (λ x. cond (is_tick x) 1 0) xs ys)
+
+-- fewer ticks than a worker may have
+pub fewer : (worker cpus m n : ℕ) → m ≤ n → are_few worker cpus n ≡ true → are_few worker cpus m ≡ true
+fewer worker cpus m n le few =
+    few_by (not (worker == 0) || ltb cpus 2) m n le few
+  where
+    few_by : (b : Bool) (m n : ℕ) → m ≤ n → (b || nat_le n 63) ≡ true → (b || nat_le m 63) ≡ true
+    few_by true m n le few = refl
+    few_by false m n le few = le-leb m 63 (omega (arith, leb-true n 63 few))
