@@ -47,11 +47,11 @@ charge_push worker cpus xs c = omega (arith, charge-append worker cpus xs (c ∷
 pub charge-le : (worker cpus : ℕ) (xs ys : List Command) → charge worker cpus xs ≤ charge worker cpus (xs ++ ys)
 charge-le worker cpus xs ys = omega (arith, charge-append worker cpus xs ys)
 
-pub ticks_push : (xs : List Command) (c : Command) → count_by is_tick (xs ++ c ∷ []) ≡ count_by is_tick xs + cond (is_tick c) 1 0
-ticks_push xs c = sum_by_push (λ x. cond (is_tick x) 1 0) xs c
+pub ticks-append : (xs ys : List Command) → count_by is_tick (xs ++ ys) ≡ count_by is_tick xs + count_by is_tick ys
+ticks-append xs ys = sum_by-append (λ x. cond (is_tick x) 1 0) xs ys
 
 pub ticks-le : (xs ys : List Command) → count_by is_tick xs ≤ count_by is_tick (xs ++ ys)
-ticks-le xs ys = omega (arith, sum_by-append (λ x. cond (is_tick x) 1 0) xs ys)
+ticks-le xs ys = omega (arith, ticks-append xs ys)
 
 -- fewer ticks than a worker may have
 pub fewer : (worker cpus m n : ℕ) → m ≤ n → are_few worker cpus n ≡ true → are_few worker cpus m ≡ true

@@ -129,13 +129,14 @@ fn charged(spent: u32, command: &Command, worker: u8, cpus: u8) -> Option<u32>
     if sum <= BUDGET { Some(sum) } else { None }
 }
 
-/// Whether a command is a tick.
-fn is_tick(command: &Command) -> bool
-    ensures { result ≡ is_tick command.now }
+/// How many ticks a command is: 1 or 0.
+fn ticks_of(command: &Command) -> u32
+    ensures ticks { result ≡ count_by is_tick (command.now ∷ []) }
+    ensures within { result ≤ 1 }
 {
     match *command {
-        Command::Tick => true,
-        _ => false,
+        Command::Tick => 1,
+        _ => 0,
     }
 }
 
@@ -171,23 +172,23 @@ fn read_script<'a>(
         return Err(REFUSED);
     };
     let mut rest = commands;
-    let mut spent = spent;
+    let mut total = spent;
     let mut ticks = 0;
     while let Some((command, after)) = next_command(rest, threads) {
-        let Some(sum) = charged(spent, &command, worker, cpus) else {
+        let Some(sum) = charged(total, &command, worker, cpus) else {
             return Err(REFUSED);
         };
-        ticks += u32::from(is_tick(&command));
+        ticks += ticks_of(&command);
         if !are_few(worker, cpus, ticks) {
             return Err(REFUSED);
         }
         if scripts.push(worker, command).is_err() {
             return Err(ScenarioFault::Memory);
         }
-        spent = sum;
+        total = sum;
         rest = after;
     }
-    Ok((spent, rest))
+    Ok((total, rest))
 }
 
 /// Reads the scripts of all workers: the scripts, and the bytes that follow.
@@ -208,8 +209,8 @@ pub(crate) fn read_scripts<'a>(
     let mut rest = text;
     let mut spent = 0;
     for worker in 0..cpus {
-        let (sum, after) = read_script(rest, worker, cpus, threads, &mut scripts, spent)?;
-        spent = sum;
+        let (total, after) = read_script(rest, worker, cpus, threads, &mut scripts, spent)?;
+        spent = total;
         rest = after;
     }
     Ok((scripts, rest))
