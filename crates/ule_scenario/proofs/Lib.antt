@@ -1,8 +1,10 @@
+pub mod Causes
 pub mod Charges
 pub mod Commands
 pub mod Numbers
 pub mod Pieces
 pub mod Runs
 pub mod Script
+pub mod Scripts
 pub mod Text
 pub mod Threads

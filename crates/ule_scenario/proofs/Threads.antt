@@ -102,7 +102,8 @@ thread_apart cpus few a b good good' e =
     (same_number a.cpu b.cpu (omega (arith, u.cpu)) (omega (arith, v.cpu)) parts.2)
     (same_bound a.bound b.bound parts.3)
 
-first_word : {w x : Word} {ws xs : Line} {ls ms : List Line} → (w ∷ ws) ∷ ls ≡ (x ∷ xs) ∷ ms → w ≡ x
+-- words and lines of equal lines
+pub first_word : {w x : Word} {ws xs : Line} {ls ms : List Line} → (w ∷ ws) ∷ ls ≡ (x ∷ xs) ∷ ms → w ≡ x
 first_word e = cc
 
 -- the line that begins a script is no thread's
