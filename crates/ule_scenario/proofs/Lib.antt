@@ -3,6 +3,7 @@ pub mod Charges
 pub mod Commands
 pub mod Numbers
 pub mod Pieces
+pub mod Rules
 pub mod Runs
 pub mod Script
 pub mod Scripts
