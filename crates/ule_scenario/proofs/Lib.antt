@@ -1,5 +1,6 @@
 pub mod Causes
 pub mod Charges
+pub mod Clean
 pub mod Commands
 pub mod Numbers
 pub mod Pieces
@@ -7,5 +8,6 @@ pub mod Rules
 pub mod Runs
 pub mod Script
 pub mod Scripts
+pub mod Setups
 pub mod Text
 pub mod Threads

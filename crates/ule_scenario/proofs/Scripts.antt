@@ -9,11 +9,12 @@ use Rattle.std.proofs.lemmas.List.Folds.{list_all-append}
 use Rattle.ule_types.specs.Form.{is_tick, has_few_ticks}
 use Rattle.ule_types.specs.Rules.{budget_from}
 use Rattle.ule_types.specs.declared.command.Command.{Command}
-use Rattle.ule_scenario.specs.Scenario.{Line, script_line, script_lines, command_line, end_line}
+use Rattle.ule_types.specs.declared.setup.ThreadSpec.{ThreadSpec}
+use Rattle.ule_scenario.specs.Scenario.{Line, thread_line, script_line, script_lines, command_line, end_line}
 use Rattle.ule_scenario.specs.Sections.{Stops, is_spellable, charge, are_few, IsScript, TakesScript, HasNoScript, AreScripts, TakesScripts, HasNoScripts}
 use Rattle.ule_scenario.proofs.Commands.{command_apart, script_line_apart, end_line_apart}
 use Rattle.ule_scenario.proofs.Runs.{exact}
-use Rattle.ule_scenario.proofs.Threads.{first_word, first_line}
+use Rattle.ule_scenario.proofs.Threads.{first_word, first_line, script_line_no_thread, end_line_no_thread}
 
 -- the lines of scripts in two parts
 pub script_lines-append : (worker next : ℕ) (xs ys : List (List Command)) (rest : List Line) → next ≡ worker + length xs → script_lines worker (xs ++ ys) ++ rest ≡ script_lines worker xs ++ (script_lines next ys ++ rest)
@@ -42,19 +43,21 @@ few_push : (cpus : ℕ) (us : List (List Command)) (v : List Command) → has_fe
 few_push cpus [] v few here = here
 few_push cpus (u ∷ us) v few here = few
 
--- the line after a script: the next script's or the last one, and no command's
-record NextLine (ids : List ℕ) (cpus : ℕ) (lines : List Line) : Type 0 where
-  next : Line
-  rest : List Line
-  is : lines ≡ next ∷ rest
-  apart : (c : Command) → is_spellable ids cpus c ≡ true → next ≢ command_line c
+-- the line after threads or a script: the next script's or the last one, no thread's and no command's
+pub record NextLine (ids : List ℕ) (cpus : ℕ) (lines : List Line) : Type 0 where
+  pub next : Line
+  pub rest : List Line
+  pub is : lines ≡ next ∷ rest
+  pub no_thread : (spec : ThreadSpec) → next ≢ thread_line spec
+  pub apart : (c : Command) → is_spellable ids cpus c ≡ true → next ≢ command_line c
 
-next_line : (ids : List ℕ) (cpus worker : ℕ) (scripts : List (List Command)) (rest : List Line) → NextLine ids cpus (script_lines worker scripts ++ end_line ∷ rest)
-next_line ids cpus worker [] rest = record { next = end_line; rest = rest; is = refl; apart = end_line_apart ids cpus }
+pub next_line : (ids : List ℕ) (cpus worker : ℕ) (scripts : List (List Command)) (rest : List Line) → NextLine ids cpus (script_lines worker scripts ++ end_line ∷ rest)
+next_line ids cpus worker [] rest = record { next = end_line; rest = rest; is = refl; no_thread = end_line_no_thread; apart = end_line_apart ids cpus }
 next_line ids cpus worker (v ∷ scripts) rest = record {
   next = script_line worker;
   rest = (map command_line v ++ script_lines (worker + 1) scripts) ++ end_line ∷ rest;
   is = refl;
+  no_thread = script_line_no_thread worker;
   apart = script_line_apart ids cpus worker;
 }
 

@@ -10,7 +10,7 @@ use Rattle.ule_types.specs.Rules.{is_nice, is_form, is_spec}
 use Rattle.ule_types.specs.declared.setup.Form.{Form}
 use Rattle.ule_types.specs.declared.setup.Form.TheVariants.{Ts, Ithd, Rt, Fifo, Idle}
 use Rattle.ule_types.specs.declared.setup.ThreadSpec.{ThreadSpec}
-use Rattle.ule_scenario.specs.Scenario.{Word, Line, thread_line, script_line, form_words, bound_words, is_in_range}
+use Rattle.ule_scenario.specs.Scenario.{Word, Line, thread_line, script_line, end_line, form_words, bound_words, is_in_range}
 use Rattle.ule_scenario.specs.Sections.{is_thread}
 use Rattle.ule_scenario.proofs.Numbers.{same_number}
 
@@ -103,13 +103,21 @@ thread_apart cpus few a b good good' e =
     (same_bound a.bound b.bound parts.3)
 
 -- words and lines of equal lines
+first_of : {w x : Word} {ws xs : Line} → w ∷ ws ≡ x ∷ xs → w ≡ x
+first_of e = cc
+
 pub first_word : {w x : Word} {ws xs : Line} {ls ms : List Line} → (w ∷ ws) ∷ ls ≡ (x ∷ xs) ∷ ms → w ≡ x
 first_word e = cc
 
--- the line that begins a script is no thread's
-pub no_thread_here : (cpus worker : ℕ) (rest : List Line) (spec : ThreadSpec) (more : List Line) → is_thread cpus spec ≡ true → script_line worker ∷ rest ≢ thread_line spec ∷ more
-no_thread_here cpus worker rest spec more good e =
-    let words : codes "script" ≡ codes "thread" = first_word e in
+-- the line that begins a script is no thread's, nor is the last one
+pub script_line_no_thread : (worker : ℕ) (spec : ThreadSpec) → script_line worker ≢ thread_line spec
+script_line_no_thread worker spec e =
+    let words : codes "script" ≡ codes "thread" = first_of e in
+    omega (arith, ap (λ w. get_or w 0 0) words)
+
+pub end_line_no_thread : (spec : ThreadSpec) → end_line ≢ thread_line spec
+end_line_no_thread spec e =
+    let words : codes "end" ≡ codes "thread" = first_of e in
     omega (arith, ap (λ w. get_or w 0 0) words)
 
 -- parts of equal lines
