@@ -13,27 +13,7 @@ use Rattle.ule_types.specs.declared.command.Command.{Command}
 use Rattle.ule_types.specs.declared.command.Command.TheVariants.{Tick, Time, Yield, Resched, Sleep, Wake, Lend, Unlend, Renice, Fork, Exit, Idle, Balance, Look}
 use Rattle.ule_scenario.specs.Sections.{charge, are_few}
 
-tick_bounds : (b : Bool) (cpus : ℕ) → 1 ≤ cpus → (1 ≤ cond b (1 + 2 * cpus) 1) × (cond b (1 + 2 * cpus) 1 ≤ 3 + 2 * cpus)
-tick_bounds true cpus some = (omega arith, omega arith)
-tick_bounds false cpus some = (omega arith, omega arith)
-
--- a command is charged something, and not much
-pub greatest_bounds : (c : Command) (worker cpus : ℕ) → 1 ≤ cpus → (1 ≤ greatest_of c worker cpus) × (greatest_of c worker cpus ≤ 3 + 2 * cpus)
-greatest_bounds Tick worker cpus some = tick_bounds ((worker == 0) && ltb 1 cpus) cpus some
-greatest_bounds (Time k) worker cpus some = (omega arith, omega arith)
-greatest_bounds Yield worker cpus some = (omega arith, omega arith)
-greatest_bounds Resched worker cpus some = (omega arith, omega arith)
-greatest_bounds (Sleep channel) worker cpus some = (omega arith, omega arith)
-greatest_bounds (Wake t) worker cpus some = (omega arith, omega arith)
-greatest_bounds (Lend t p) worker cpus some = (omega arith, omega arith)
-greatest_bounds (Unlend t) worker cpus some = (omega arith, omega arith)
-greatest_bounds (Renice t n) worker cpus some = (omega arith, omega arith)
-greatest_bounds (Fork t) worker cpus some = (omega arith, omega arith)
-greatest_bounds Exit worker cpus some = (omega arith, omega arith)
-greatest_bounds Idle worker cpus some = (omega arith, omega arith)
-greatest_bounds Balance worker cpus some = (omega arith, omega arith)
-greatest_bounds (Look c) worker cpus some = (omega arith, omega arith)
-
+-- what commands in two parts are charged
 charge-append : (worker cpus : ℕ) (xs ys : List Command) → charge worker cpus (xs ++ ys) ≡ charge worker cpus xs + charge worker cpus ys
 charge-append worker cpus xs ys =
     let f : Command → ℕ = λ c. greatest_of c worker cpus in
@@ -47,9 +27,11 @@ charge_push worker cpus xs c = omega (arith, charge-append worker cpus xs (c ∷
 pub charge-le : (worker cpus : ℕ) (xs ys : List Command) → charge worker cpus xs ≤ charge worker cpus (xs ++ ys)
 charge-le worker cpus xs ys = omega (arith, charge-append worker cpus xs ys)
 
+-- the ticks of commands in two parts
 pub ticks-append : (xs ys : List Command) → count_by is_tick (xs ++ ys) ≡ count_by is_tick xs + count_by is_tick ys
 ticks-append xs ys = sum_by-append (λ x. cond (is_tick x) 1 0) xs ys
 
+-- a longer script has no fewer ticks
 pub ticks-le : (xs ys : List Command) → count_by is_tick xs ≤ count_by is_tick (xs ++ ys)
 ticks-le xs ys = omega (arith, ticks-append xs ys)
 

@@ -3,6 +3,7 @@ pub mod Charges
 pub mod Clean
 pub mod Commands
 pub mod Numbers
+pub mod Parts
 pub mod Pieces
 pub mod Rules
 pub mod Runs

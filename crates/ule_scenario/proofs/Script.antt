@@ -11,6 +11,7 @@ use Rattle.ule_scenario.specs.Scenario.{Line, script_line, command_line}
 use Rattle.ule_scenario.specs.Sections.{Begins, is_spellable, charge, are_few, IsScript, HasNoScript}
 use Rattle.ule_scenario.proofs.Charges.{charge_push, charge-le, ticks-append, ticks-le, fewer}
 use Rattle.ule_scenario.proofs.Commands.{command_apart}
+use Rattle.ule_scenario.proofs.Parts.{first_line, other_lines}
 use Rattle.ule_scenario.proofs.Runs.{begins_more, longer, cons_of}
 
 -- a command pushed to a worker's script
@@ -20,19 +21,13 @@ pushed_script first old new worker script c number small put push =
     push ∙ ap (λ scripts. set scripts worker (script ++ c ∷ [])) put ∙ set-set first worker script (script ++ c ∷ []) in
     (ap (λ scripts. get_or scripts worker []) again ∙ get_or-set_same first worker (script ++ c ∷ []) [] (omega arith), again)
 
-tail_of : {a b : Line} {ls ms : List Line} → a ∷ ls ≡ b ∷ ms → ls ≡ ms
-tail_of e = cc
-
 -- a script at the front goes on at least as far as the commands that were read
 read_front : (ids : List ℕ) (worker cpus : ℕ) (lines commands : List Line) (script : List Command) (rest : List Line) (other : List Command) (next : Line) (more : List Line) → lines ≡ script_line worker ∷ commands → Begins (is_spellable ids cpus) command_line commands script rest → IsTrue (list_all (is_spellable ids cpus) other)
     → ((c : Command) → IsTrue (is_spellable ids cpus c) → next ≢ command_line c) → lines ≡ script_line worker ∷ (map command_line other ++ next ∷ more) → (left : List Command) × (other ≡ script ++ left)
 read_front ids worker cpus lines commands script rest other next more e begins each apart front =
-    let same = sym begins.front ∙ tail_of (sym e ∙ front) in
-    let run = longer (is_spellable ids cpus) command_line (command_apart ids cpus) script other rest (next ∷ more) begins.each each same (λ c after good over. apart c good (head_of over)) in
+    let same = sym begins.front ∙ other_lines (sym e ∙ front) in
+    let run = longer (is_spellable ids cpus) command_line (command_apart ids cpus) script other rest (next ∷ more) begins.each each same (λ c after good over. apart c good (first_line over)) in
     (run.0, run.1)
-  where
-    head_of : {a b : Line} {ls ms : List Line} → a ∷ ls ≡ b ∷ ms → a ≡ b
-    head_of e = cc
 
 -- a worker has no script where its line is missing
 pub none_without_line : (ids : List ℕ) (worker cpus spent : ℕ) (lines : List Line) → ((next : Line) (more : List Line) → lines ≢ script_line worker ∷ next ∷ more) → HasNoScript ids worker cpus spent lines

@@ -13,8 +13,9 @@ use Rattle.ule_types.specs.declared.setup.ThreadSpec.{ThreadSpec}
 use Rattle.ule_scenario.specs.Scenario.{Line, thread_line, script_line, script_lines, command_line, end_line}
 use Rattle.ule_scenario.specs.Sections.{Stops, is_spellable, charge, are_few, IsScript, TakesScript, HasNoScript, AreScripts, TakesScripts, HasNoScripts}
 use Rattle.ule_scenario.proofs.Commands.{command_apart, script_line_apart, end_line_apart}
+use Rattle.ule_scenario.proofs.Parts.{first_line, first_word, other_lines}
 use Rattle.ule_scenario.proofs.Runs.{exact}
-use Rattle.ule_scenario.proofs.Threads.{first_word, first_line, script_line_no_thread, end_line_no_thread}
+use Rattle.ule_scenario.proofs.Threads.{script_line_no_thread, end_line_no_thread}
 
 -- the lines of scripts in two parts
 pub script_lines-append : (worker next : ℕ) (xs ys : List (List Command)) (rest : List Line) → next ≡ worker + length xs → script_lines worker (xs ++ ys) ++ rest ≡ script_lines worker xs ++ (script_lines next ys ++ rest)
@@ -69,10 +70,7 @@ stops_before ids cpus worker (v ∷ scripts) rest stops = λ c next more good e.
 -- lines from the start of a script on
 after_script : (u : List Command) (us : List (List Command)) (v : List Command) (vs : List (List Command)) (worker : ℕ) (x y : List Line) → script_lines worker (u ∷ us) ++ x ≡ script_lines worker (v ∷ vs) ++ y → map command_line u ++ (script_lines (worker + 1) us ++ x) ≡ map command_line v ++ (script_lines (worker + 1) vs ++ y)
 after_script u us v vs worker x y e =
-    sym (append_assoc (map command_line u) (script_lines (worker + 1) us) x) ∙ tail_of e ∙ append_assoc (map command_line v) (script_lines (worker + 1) vs) y
-  where
-    tail_of : {a b : Line} {ls ms : List Line} → a ∷ ls ≡ b ∷ ms → ls ≡ ms
-    tail_of e = cc
+    sym (append_assoc (map command_line u) (script_lines (worker + 1) us) x) ∙ other_lines e ∙ append_assoc (map command_line v) (script_lines (worker + 1) vs) y
 
 -- scripts up to the last line go on at least as far as those that were read
 pub scripts_longer : (ids : List ℕ) (cpus worker next : ℕ) (us vs : List (List Command)) (x ys : List Line) → list_all (list_all (is_spellable ids cpus)) us ≡ true → list_all (list_all (is_spellable ids cpus)) vs ≡ true → next ≡ worker + length us → (0 < length us → Stops (is_spellable ids cpus) command_line x)
@@ -80,7 +78,7 @@ pub scripts_longer : (ids : List ℕ) (cpus worker next : ℕ) (us vs : List (Li
 scripts_longer ids cpus worker next [] vs x ys good good' at stops e =
     let same : worker ≡ next = omega arith in (vs, refl, rw (← same) e)
 scripts_longer ids cpus worker next (u ∷ us) [] x ys good good' at stops e =
-    let words : codes "script" ≡ codes "end" = first_word e in
+    let words : codes "script" ≡ codes "end" = first_word (first_line e) in
     absurd (omega (arith, ap (λ w. get_or w 0 0) words))
 scripts_longer ids cpus worker next (u ∷ us) (v ∷ vs) x ys good good' at stops e =
     let parts = and_parts (list_all (is_spellable ids cpus) u) (list_all (list_all (is_spellable ids cpus)) us) good in
@@ -156,7 +154,7 @@ module _ (ids : List ℕ) (workers cpus : ℕ) (lines : List Line) (old : List (
       by_left run.0 run.1 run.2
     where
       by_left : (tail : List (List Command)) → scripts ≡ take workers old ++ tail → rest ≡ script_lines workers tail ++ end_line ∷ more → ⊥
-      by_left [] joined follows = omega (arith, number, ap length joined, append-nil (take workers old), ap length (append-nil (take workers old)), taken_number)
+      by_left [] joined follows = omega (arith, number, ap length joined, ap length (append-nil (take workers old)), taken_number)
       by_left (v ∷ tail) joined follows =
           let line = next_line ids cpus (workers + 1) tail more in
           none v line.next line.rest (allowed_here v tail (subst (AreScripts ids cpus) joined allowed)) line.apart

@@ -15,11 +15,12 @@ use Rattle.ule_scenario.specs.Sections.{head_lines, is_thread, is_spellable, ids
 use Rattle.ule_scenario.proofs.Clean.{clean_all}
 use Rattle.ule_scenario.proofs.Commands.{end_line_apart}
 use Rattle.ule_scenario.proofs.Numbers.{same_number}
+use Rattle.ule_scenario.proofs.Parts.{first_line, second_lines, second_word}
 use Rattle.ule_scenario.proofs.Rules.{all_weaker, budget_of_front, ticks_of_front, built_scripts, few_ticks, rules_of_form, parts_of_rules, spellable_front}
 use Rattle.ule_scenario.proofs.Runs.{longer, exact, cons_of, front_distinct}
 use Rattle.ule_scenario.proofs.Scripts.{NextLine, next_line, scripts_longer}
 use Rattle.ule_scenario.proofs.Text.{last_piece, cut-text, text_from_cut}
-use Rattle.ule_scenario.proofs.Threads.{thread_apart, thread_from, thread_parts, first_line, second_word}
+use Rattle.ule_scenario.proofs.Threads.{thread_apart, thread_from, thread_parts}
 
 -- the lines from those of the threads on
 abbrev pub after_head : List ThreadSpec → List (List Command) → List Line → List Line
@@ -76,9 +77,6 @@ shape_of bytes t spells =
           ∙ cut-text (head_lines t.jitter t.cpus (after_head t.threads (take t.cpus t.scripts) [])) (clean_all (ids_of t.threads) t.jitter t.cpus t.threads (take t.cpus t.scripts) spells.jitter rules.greatest (omega (arith, number, rules.greatest)) threads scripts)
           ∙ last_after t.jitter t.cpus t.threads (take t.cpus t.scripts);
     }
-
-second_lines : {a b c a' b' c' : Line} {ls ms : List Line} → a ∷ b ∷ c ∷ ls ≡ a' ∷ b' ∷ c' ∷ ms → (b ≡ b') × (c ≡ c') × (ls ≡ ms)
-second_lines e = (cc, cc, cc)
 
 -- two lists of a head and what follows
 head_apart : {n m i j : ℕ} {ls ms : List Line} → n < 2 ^ 32 → m < 2 ^ 32 → i ≤ 16 → j ≤ 16 → head_lines n i ls ≡ head_lines m j ms → (n ≡ m) × (i ≡ j) × (ls ≡ ms)

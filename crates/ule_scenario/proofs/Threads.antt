@@ -13,6 +13,7 @@ use Rattle.ule_types.specs.declared.setup.ThreadSpec.{ThreadSpec}
 use Rattle.ule_scenario.specs.Scenario.{Word, Line, thread_line, script_line, end_line, form_words, bound_words, is_in_range}
 use Rattle.ule_scenario.specs.Sections.{is_thread}
 use Rattle.ule_scenario.proofs.Numbers.{same_number}
+use Rattle.ule_scenario.proofs.Parts.{first_word, line_parts}
 
 -- what a thread line has where it can be read
 pub record IsThreadLine (cpus : ℕ) (spec : ThreadSpec) : Type 0 where
@@ -59,23 +60,9 @@ thread_words cpus spec good =
       words = line.3;
     }
 
--- the words that are left after one, three and four
-pub after_one : {l w m : Line} {a a' : Word} → l ≡ a ∷ w → l ≡ a' ∷ m → w ≡ m
-after_one p t = cc
-
-pub after_three : {l w x y m : Line} {a b c a' b' c' : Word} → l ≡ a ∷ w → w ≡ b ∷ x → x ≡ c ∷ y → l ≡ a' ∷ b' ∷ c' ∷ m → y ≡ m
-after_three p q r t = cc
-
-pub after_four : {l w x y z m : Line} {a b c d a' b' c' d' : Word} → l ≡ a ∷ w → w ≡ b ∷ x → x ≡ c ∷ y → y ≡ d ∷ z → l ≡ a' ∷ b' ∷ c' ∷ d' ∷ m → z ≡ m
-after_four p q r s t = cc
-
 mag_small : (n : ℤ) → IsTrue (is_nice n) → mag n < 2 ^ 63
 mag_small (pos n) fits = omega (arith, leb-true n 20 fits)
 mag_small (negsuc n) fits = omega (arith, ltb-true n 20 fits)
-
--- words of equal thread lines
-line_parts : {a b c d e a' b' c' d' e' : Word} {f f' : Line} → a ∷ b ∷ c ∷ d ∷ e ∷ f ≡ a' ∷ b' ∷ c' ∷ d' ∷ e' ∷ f' → (b ≡ b') × (d ≡ d') × (e ≡ e') × (f ≡ f')
-line_parts e = (cc, cc, cc, cc)
 
 same_bound : (b c : Bool) → bound_words b ≡ bound_words c → b ≡ c
 same_bound true true e = refl
@@ -102,30 +89,13 @@ thread_apart cpus few a b good good' e =
     (same_number a.cpu b.cpu (omega (arith, u.cpu)) (omega (arith, v.cpu)) parts.2)
     (same_bound a.bound b.bound parts.3)
 
--- words and lines of equal lines
-first_of : {w x : Word} {ws xs : Line} → w ∷ ws ≡ x ∷ xs → w ≡ x
-first_of e = cc
-
-pub first_word : {w x : Word} {ws xs : Line} {ls ms : List Line} → (w ∷ ws) ∷ ls ≡ (x ∷ xs) ∷ ms → w ≡ x
-first_word e = cc
-
 -- the line that begins a script is no thread's, nor is the last one
 pub script_line_no_thread : (worker : ℕ) (spec : ThreadSpec) → script_line worker ≢ thread_line spec
 script_line_no_thread worker spec e =
-    let words : codes "script" ≡ codes "thread" = first_of e in
+    let words : codes "script" ≡ codes "thread" = first_word e in
     omega (arith, ap (λ w. get_or w 0 0) words)
 
 pub end_line_no_thread : (spec : ThreadSpec) → end_line ≢ thread_line spec
 end_line_no_thread spec e =
-    let words : codes "end" ≡ codes "thread" = first_of e in
+    let words : codes "end" ≡ codes "thread" = first_word e in
     omega (arith, ap (λ w. get_or w 0 0) words)
-
--- parts of equal lines
-pub second_word : {a b a' b' : Word} → ◌≡◌ {A = Line} (a ∷ b ∷ []) (a' ∷ b' ∷ []) → b ≡ b'
-second_word e = cc
-
-pub second_of_two : {l w x : Line} {a b a' b' : Word} → l ≡ a ∷ w → w ≡ b ∷ x → l ≡ a' ∷ b' ∷ [] → b ≡ b'
-second_of_two p q r = cc
-
-pub first_line : {a b : Line} {ls ms : List Line} → a ∷ ls ≡ b ∷ ms → a ≡ b
-first_line e = cc

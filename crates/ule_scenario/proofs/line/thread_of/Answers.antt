@@ -2,7 +2,8 @@ use Rattle.std.proofs.Common.{[], ◌∷◌, sym, ◌∙◌, arith}
 use Rattle.std.specs.Prelude.{codes}
 use Rattle.std.specs.Fmt.{decimal, signed_decimal}
 use Rattle.ule_scenario.specs.Scenario.{bound_words}
-use Rattle.ule_scenario.proofs.Threads.{thread_words, after_one, after_three, after_four}
+use Rattle.ule_scenario.proofs.Parts.{after_one, after_three, after_four}
+use Rattle.ule_scenario.proofs.Threads.{thread_words}
 use Rattle.ule_scenario.proofs.line.thread_of.Goals as goal
 
 pub returns-in_err-id-clause-none : goal.returns-in_err-id-clause-none

@@ -3,7 +3,7 @@ use Rattle.std.specs.List.{list_any}
 use Rattle.std.proofs.lemmas.Bool.{false≢true}
 use Rattle.ule_types.specs.declared.setup.ThreadSpec.{ThreadSpec}
 use Rattle.ule_scenario.proofs.Numbers.{same_number}
-use Rattle.ule_scenario.proofs.Threads.{second_word}
+use Rattle.ule_scenario.proofs.Parts.{second_word}
 use Rattle.ule_scenario.proofs.line.woken_by.Goals as goal
 
 pub returns-else-is_declared-clause-none : goal.returns-else-is_declared-clause-none

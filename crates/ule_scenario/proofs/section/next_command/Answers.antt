@@ -1,5 +1,5 @@
 use Rattle.std.proofs.Common.{sym, ◌∙◌}
-use Rattle.ule_scenario.proofs.Threads.{first_line}
+use Rattle.ule_scenario.proofs.Parts.{first_line}
 use Rattle.ule_scenario.proofs.section.next_command.Goals as goal
 
 pub returns-in_err-command-clause-none : goal.returns-in_err-command-clause-none
