@@ -1,5 +1,5 @@
 -- No word of a setup's lines has a space or a newline.
-use Rattle.std.proofs.Common.{◌≡◌, ℕ, ◌+◌, ◌^◌, ◌<◌, ◌≤◌, ◌==◌, Bool, true, false, IsTrue, List, [], ◌∷◌, ◌++◌, map, length, refl, sym, subst, arith, ℤ, pos, negsuc, suc, ltb}
+use Rattle.std.proofs.Common.{◌≡◌, ℕ, ◌+◌, ◌^◌, ◌<◌, ◌≤◌, ◌==◌, Bool, true, false, IsTrue, List, [], ◌∷◌, ◌++◌, map, length, refl, sym, subst, arith, ℤ, pos, negsuc, suc}
 use Rattle.std.specs.List.{list_all}
 use Rattle.std.specs.Fmt.{decimal, signed_decimal}
 use Rattle.std.specs.Str.Parse.{AllDigits}
@@ -10,7 +10,7 @@ use Rattle.ule_types.specs.Rules.{is_nice}
 use Rattle.ule_types.specs.declared.command.Command.{Command}
 use Rattle.ule_types.specs.declared.command.Command.TheVariants.{Tick, Time, Yield, Resched, Sleep, Wake, Lend, Unlend, Renice, Fork, Exit, Idle, Balance, Look}
 use Rattle.ule_types.specs.declared.setup.ThreadSpec.{ThreadSpec}
-use Rattle.ule_scenario.specs.Scenario.{Line, thread_line, script_line, script_lines, command_line, end_line, bound_words}
+use Rattle.ule_scenario.specs.Scenario.{Line, thread_line, script_lines, command_line, end_line, bound_words}
 use Rattle.ule_scenario.specs.Sections.{head_lines, is_thread, is_spellable}
 use Rattle.ule_scenario.proofs.Commands.{command_parts, within_parts}
 use Rattle.ule_scenario.proofs.Numbers.{decimal_digits}
@@ -70,10 +70,11 @@ clean_scripts : (ids : List ℕ) (cpus worker : ℕ) (scripts : List (List Comma
 clean_scripts ids cpus worker [] rest few all clean = clean
 clean_scripts ids cpus worker (script ∷ scripts) rest few all clean =
     let parts = and_parts (list_all (is_spellable ids cpus) script) (list_all (list_all (is_spellable ids cpus)) scripts) all in
-    let later = clean_scripts ids cpus (worker + 1) scripts rest (omega arith) parts.1 clean in
-    ((refl, (clean_decimal worker (omega arith), tt)),
-    subst CleanLines (sym (append_assoc (map command_line script) (script_lines (worker + 1) scripts) rest))
-    (clean_map (is_spellable ids cpus) command_line (clean_command ids cpus) script (script_lines (worker + 1) scripts ++ rest) parts.0 later))
+    let later = clean_scripts ids cpus (worker + 1) scripts rest (omega arith) parts.1 clean in (
+      (refl, (clean_decimal worker (omega arith), tt)),
+      subst CleanLines (sym (append_assoc (map command_line script) (script_lines (worker + 1) scripts) rest))
+          (clean_map (is_spellable ids cpus) command_line (clean_command ids cpus) script (script_lines (worker + 1) scripts ++ rest) parts.0 later),
+    )
 
 -- all lines of a setup
 pub clean_all : (ids : List ℕ) (jitter cpus : ℕ) (threads : List ThreadSpec) (scripts : List (List Command)) → jitter < 2 ^ 32 → cpus ≤ 16 → length scripts ≤ 16 → list_all (is_thread cpus) threads ≡ true → list_all (list_all (is_spellable ids cpus)) scripts ≡ true

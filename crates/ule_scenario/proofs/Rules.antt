@@ -1,14 +1,14 @@
 -- A setup of the form so far keeps every rule, and what the rules say of one.
-use Rattle.std.proofs.Common.{◌≡◌, ℕ, zero, suc, ◌+◌, ◌-◌, ◌<◌, ◌≤◌, ◌==◌, Bool, true, ◌&&◌, ◌||◌, List, [], ◌∷◌, ◌++◌, map, length, take, drop, replicate, get_or, sum, refl, sym, ap, ◌∙◌, arith, ltb}
+use Rattle.std.proofs.Common.{◌≡◌, ℕ, zero, suc, ◌+◌, ◌-◌, ◌≤◌, ◌==◌, Bool, true, ◌&&◌, ◌||◌, List, [], ◌∷◌, length, take, drop, replicate, refl, sym, ap, ◌∙◌, arith, ltb}
 use Rattle.std.specs.Prelude.{nat_le, count_by}
 use Rattle.std.specs.List.{list_all, flat_map}
-use Rattle.std.proofs.lemmas.Bool.{and_from, and_parts, false≢true, le-leb, leb-true, eqb-true, eq-eqb}
+use Rattle.std.proofs.lemmas.Bool.{and_from, and_parts, false≢true, le-leb, leb-true, eqb-true}
 use Rattle.std.proofs.lemmas.List.{append-nil, take-append-drop, length-drop, length-take-le, get_or-take, nil_from_length}
 use Rattle.std.proofs.lemmas.List.Folds.{list_all-append}
 use Rattle.ule_prio.specs.Class.{is_within}
 use Rattle.ule_score.specs.declared.record.Settings.{Settings}
 use Rattle.ule_types.specs.Form.{default_settings, is_built, is_tick, has_few_ticks}
-use Rattle.ule_types.specs.Commands.{is_among, greatest_of, is_command, forked_by}
+use Rattle.ule_types.specs.Commands.{is_among, is_command, forked_by}
 use Rattle.ule_types.specs.Rules.{are_settings, are_turns, is_distinct, is_spec, declared_ids, budget_from, are_scripts, keeps_rules}
 use Rattle.ule_types.specs.declared.command.Command.{Command}
 use Rattle.ule_types.specs.declared.command.Command.TheVariants.{Tick, Time, Yield, Resched, Sleep, Wake, Lend, Unlend, Renice, Fork, Exit, Idle, Balance, Look}

@@ -1,14 +1,14 @@
 -- The script of one worker, one command more or compared with another.
-use Rattle.std.proofs.Common.{◌≡◌, ◌≢◌, ℕ, ◌+◌, ◌<◌, ◌≤◌, Bool, true, false, IsTrue, List, [], ◌∷◌, ◌++◌, map, length, set, get_or, cond, refl, sym, ap, ◌∙◌, arith}
+use Rattle.std.proofs.Common.{◌≡◌, ◌≢◌, ℕ, ◌+◌, ◌<◌, ◌≤◌, false, IsTrue, List, [], ◌∷◌, ◌++◌, map, length, set, get_or, sym, ap, ◌∙◌, arith}
 use Rattle.std.specs.Prelude.{count_by}
 use Rattle.std.proofs.lemmas.Bool.{false≢true}
 use Rattle.std.specs.List.{list_all}
-use Rattle.std.proofs.lemmas.List.{set-set, get_or-set_same, length-set}
+use Rattle.std.proofs.lemmas.List.{set-set, get_or-set_same}
 use Rattle.ule_types.specs.Commands.{greatest_of}
 use Rattle.ule_types.specs.Form.{is_tick}
 use Rattle.ule_types.specs.declared.command.Command.{Command}
 use Rattle.ule_scenario.specs.Scenario.{Line, script_line, command_line}
-use Rattle.ule_scenario.specs.Sections.{Begins, is_spellable, charge, are_few, IsScript, HasNoScript}
+use Rattle.ule_scenario.specs.Sections.{Begins, is_spellable, charge, are_few, HasNoScript}
 use Rattle.ule_scenario.proofs.Charges.{charge_push, charge-le, ticks-append, ticks-le, fewer}
 use Rattle.ule_scenario.proofs.Commands.{command_apart}
 use Rattle.ule_scenario.proofs.Parts.{first_line, other_lines}

@@ -1,10 +1,10 @@
 -- The scripts of the workers, one script more or compared with others.
-use Rattle.std.proofs.Common.{◌≡◌, ◌≢◌, ℕ, suc, ◌+◌, ◌-◌, ◌<◌, ◌≤◌, ◌==◌, Bool, true, false, ◌&&◌, IsTrue, List, [], ◌∷◌, ◌++◌, map, length, take, drop, set, get_or, replicate, refl, sym, ap, subst, ◌∙◌, arith}
+use Rattle.std.proofs.Common.{◌≡◌, ◌≢◌, ℕ, ◌+◌, ◌-◌, ◌<◌, ◌≤◌, true, ◌&&◌, List, [], ◌∷◌, ◌++◌, map, length, take, drop, set, get_or, replicate, refl, sym, ap, subst, ◌∙◌, arith}
 use Rattle.std.specs.Prelude.{codes, count_by}
 use Rattle.std.specs.List.{list_all}
 use Rattle.std.proofs.Math.Bool.{or-true}
 use Rattle.std.proofs.lemmas.Bool.{and_from, and_parts, ne_eqb}
-use Rattle.std.proofs.lemmas.List.{append_assoc, append-nil, length-append, length-set, length-take-le, take_more_set, drop-set-lt, drop-drop, drop-replicate, get_or-drop, get_or-replicate}
+use Rattle.std.proofs.lemmas.List.{append_assoc, append-nil, length-set, length-take-le, take_more_set, drop-set-lt, drop-drop, drop-replicate, get_or-drop, get_or-replicate}
 use Rattle.std.proofs.lemmas.List.Folds.{list_all-append}
 use Rattle.ule_types.specs.Form.{is_tick, has_few_ticks}
 use Rattle.ule_types.specs.Rules.{budget_from}
@@ -120,8 +120,7 @@ module _ (ids : List ℕ) (workers cpus : ℕ) (lines : List Line) (old : List (
       let front : take (workers + 1) new ≡ take workers old ++ script ∷ [] = ap (take (workers + 1)) put ∙ take_more_set old workers script within in
       let back : drop (workers + 1) new ≡ drop (workers + 1) old = ap (drop (workers + 1)) put ∙ drop-set-lt (workers + 1) old workers script (omega arith) in
       let budget : budget_from 0 cpus (take workers old ++ script ∷ []) ≡ budget_from 0 cpus (take workers old) + charge workers cpus script =
-      omega (arith, budget-append 0 workers cpus (take workers old) (script ∷ []) (omega (arith, taken_number))) in
-      (
+      omega (arith, budget-append 0 workers cpus (take workers old) (script ∷ []) (omega (arith, taken_number))) in (
         record {
           front = taken.front ∙ ap (λ ls. script_lines 0 (take workers old) ++ ls) (here.front ∙ ap (λ ls. script_line workers ∷ ls) (ap (λ ls. ls ++ after) (sym (append-nil (map command_line script)))))
               ∙ sym (script_lines-append 0 workers (take workers old) (script ∷ []) after (omega (arith, taken_number))) ∙ ap (λ scripts. script_lines 0 scripts ++ after) (sym front);

@@ -1,15 +1,15 @@
 -- The lines of a setup that a text spells, and that no text spells two.
-use Rattle.std.proofs.Common.{◌≡◌, ◌≢◌, ℕ, ◌+◌, ◌-◌, ◌^◌, ◌<◌, ◌≤◌, ◌==◌, Bool, true, false, ◌&&◌, IsTrue, List, [], ◌∷◌, ◌++◌, map, length, take, drop, replicate, refl, sym, ap, subst, ◌∙◌, arith}
+use Rattle.std.proofs.Common.{◌≡◌, ◌≢◌, ℕ, ◌-◌, ◌^◌, ◌<◌, ◌≤◌, true, IsTrue, List, [], ◌∷◌, ◌++◌, map, length, take, drop, replicate, refl, sym, ap, subst, ◌∙◌, arith}
 use Rattle.std.specs.List.{list_all}
 use Rattle.std.proofs.lemmas.Bool.{and_from, and_parts, false≢true}
 use Rattle.std.proofs.lemmas.List.{append_assoc, append-nil, length-append, length-take-le, take-append-drop}
-use Rattle.ule_types.specs.Form.{default_settings, is_plain, is_built}
-use Rattle.ule_types.specs.Rules.{is_distinct, is_spec, keeps_rules, budget_from}
+use Rattle.ule_types.specs.Form.{default_settings, is_plain}
+use Rattle.ule_types.specs.Rules.{is_distinct, is_spec, keeps_rules}
 use Rattle.ule_types.specs.declared.command.Command.{Command}
 use Rattle.ule_types.specs.declared.setup.GroupLine.{GroupLine}
 use Rattle.ule_types.specs.declared.setup.Setup.{Setup}
 use Rattle.ule_types.specs.declared.setup.ThreadSpec.{ThreadSpec}
-use Rattle.ule_scenario.specs.Scenario.{Word, Line, thread_line, script_lines, end_line, lines_of, text, is_in_range, Spells, IsSame}
+use Rattle.ule_scenario.specs.Scenario.{Line, thread_line, script_lines, end_line, text, is_in_range, Spells, IsSame}
 use Rattle.ule_scenario.specs.Cut.{cut}
 use Rattle.ule_scenario.specs.Sections.{head_lines, is_thread, is_spellable, ids_of, TakesThreads, RepeatsThread, AreScripts, TakesScripts, HasNoScripts}
 use Rattle.ule_scenario.proofs.Clean.{clean_all}
@@ -18,7 +18,7 @@ use Rattle.ule_scenario.proofs.Numbers.{same_number}
 use Rattle.ule_scenario.proofs.Parts.{first_line, second_lines, second_word}
 use Rattle.ule_scenario.proofs.Rules.{all_weaker, budget_of_front, ticks_of_front, built_scripts, few_ticks, rules_of_form, parts_of_rules, spellable_front}
 use Rattle.ule_scenario.proofs.Runs.{longer, exact, cons_of, front_distinct}
-use Rattle.ule_scenario.proofs.Scripts.{NextLine, next_line, scripts_longer}
+use Rattle.ule_scenario.proofs.Scripts.{next_line, scripts_longer}
 use Rattle.ule_scenario.proofs.Text.{last_piece, cut-text, text_from_cut}
 use Rattle.ule_scenario.proofs.Threads.{thread_apart, thread_from, thread_parts}
 

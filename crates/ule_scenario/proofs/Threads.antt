@@ -1,5 +1,5 @@
 -- The lines of threads.
-use Rattle.std.proofs.Common.{◌≡◌, ◌≢◌, ℕ, ◌^◌, ◌<◌, ◌≤◌, Bool, true, false, ◌&&◌, ◌||◌, IsTrue, List, [], ◌∷◌, ◌++◌, refl, sym, ap, ◌∙◌, arith, ℤ, pos, negsuc, suc, ltb, get_or}
+use Rattle.std.proofs.Common.{◌≡◌, ◌≢◌, ℕ, ◌^◌, ◌<◌, ◌≤◌, Bool, true, false, ◌&&◌, ◌||◌, IsTrue, ◌∷◌, ◌++◌, refl, sym, ap, ◌∙◌, arith, ℤ, pos, negsuc, ltb, get_or}
 use Rattle.std.specs.Prelude.{codes}
 use Rattle.std.specs.Fmt.{decimal, signed_decimal}
 use Rattle.std.specs.Int.Signed.{mag}
@@ -10,7 +10,7 @@ use Rattle.ule_types.specs.Rules.{is_nice, is_form, is_spec}
 use Rattle.ule_types.specs.declared.setup.Form.{Form}
 use Rattle.ule_types.specs.declared.setup.Form.TheVariants.{Ts, Ithd, Rt, Fifo, Idle}
 use Rattle.ule_types.specs.declared.setup.ThreadSpec.{ThreadSpec}
-use Rattle.ule_scenario.specs.Scenario.{Word, Line, thread_line, script_line, end_line, form_words, bound_words, is_in_range}
+use Rattle.ule_scenario.specs.Scenario.{thread_line, script_line, end_line, form_words, bound_words, is_in_range}
 use Rattle.ule_scenario.specs.Sections.{is_thread}
 use Rattle.ule_scenario.proofs.Numbers.{same_number}
 use Rattle.ule_scenario.proofs.Parts.{first_word, line_parts}

@@ -123,6 +123,7 @@ fn reads_the_scripts_of_two_cpus(rt: HostRuntime) -> Result<(), Fail> {
 fn reads_a_bound_thread_on_one_cpu(rt: HostRuntime) -> Result<(), Fail> {
     let text = b"ule-scenario 1\njitter 1\ncpus 1\nthread 7 ts 0 0 bound\nscript 0\nend\n";
     let setup = read(rt.alloc(), text)?;
+    assert_eq!(rt; setup.threads.len(), 1);
     assert!(rt; setup.threads.at(0).bound);
     Ok(())
 }

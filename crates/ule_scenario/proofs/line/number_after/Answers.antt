@@ -1,5 +1,4 @@
-use Rattle.std.proofs.Common.{◌≡◌, sym, ◌∙◌, arith}
-use Rattle.std.specs.Fmt.{decimal}
+use Rattle.std.proofs.Common.{sym, ◌∙◌, arith}
 use Rattle.ule_scenario.proofs.Numbers.{same_number}
 use Rattle.ule_scenario.proofs.Parts.{second_of_two}
 use Rattle.ule_scenario.proofs.line.number_after.Goals as goal

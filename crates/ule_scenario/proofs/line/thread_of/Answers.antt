@@ -1,7 +1,4 @@
-use Rattle.std.proofs.Common.{[], ◌∷◌, sym, ◌∙◌, arith}
-use Rattle.std.specs.Prelude.{codes}
-use Rattle.std.specs.Fmt.{decimal, signed_decimal}
-use Rattle.ule_scenario.specs.Scenario.{bound_words}
+use Rattle.std.proofs.Common.{sym, ◌∙◌, arith}
 use Rattle.ule_scenario.proofs.Parts.{after_one, after_three, after_four}
 use Rattle.ule_scenario.proofs.Threads.{thread_words}
 use Rattle.ule_scenario.proofs.line.thread_of.Goals as goal

@@ -1,4 +1,4 @@
-use Rattle.std.proofs.Common.{◌≡◌, ◌+◌, ◌++◌, ◌∷◌, [], cond, slice_index_or, slice_set, refl, sym, ap, ◌∙◌, arith, rules}
+use Rattle.std.proofs.Common.{◌≡◌, ◌+◌, ◌++◌, ◌∷◌, [], slice_index_or, slice_set, refl, sym, ap, ◌∙◌, arith, rules}
 use Rattle.std.specs.Prelude.{count_by}
 use Rattle.std.proofs.lemmas.List.{length_push}
 use Rattle.ule_types.specs.Form.{is_tick}
@@ -16,17 +16,25 @@ returns-in_default-clause-refused c =
 
 pub returns-in_default-charged-clause-refused : goal.returns-in_default-charged-clause-refused
 returns-in_default-charged-clause-refused c =
-    let next = c.in-Some-next_command in
-    (refl, refl, refl, none_over_budget (ids_of c.args.threads.now) c.args.worker c.args.cpus c.args.spent c.loop-command.total (cut c.args.text.now) (cut c.in-Some.commands.now) (slice_index_or c.loop-command.scripts c.args.worker []) next.command (cut c.loop-command.rest.now) (cut next.after.now)
-    c.in-Some.ensures.found c.loop-command.invariant.begins next.ensures.found (next.ensures.within c.args.cpus) c.loop-command.invariant.sum c.in_default-charged.ensures.none)
+    let next = c.in-Some-next_command in (
+      refl,
+      refl,
+      refl,
+      none_over_budget (ids_of c.args.threads.now) c.args.worker c.args.cpus c.args.spent c.loop-command.total (cut c.args.text.now) (cut c.in-Some.commands.now) (slice_index_or c.loop-command.scripts c.args.worker []) next.command (cut c.loop-command.rest.now) (cut next.after.now)
+          c.in-Some.ensures.found c.loop-command.invariant.begins next.ensures.found (next.ensures.within c.args.cpus) c.loop-command.invariant.sum c.in_default-charged.ensures.none,
+    )
 
 pub returns-then-not-are_few-clause-refused : goal.returns-then-not-are_few-clause-refused
 returns-then-not-are_few-clause-refused c =
-    let next = c.in-Some-next_command in
-    (refl, refl, refl, none_over_ticks (ids_of c.args.threads.now) c.args.worker c.args.cpus c.args.spent (c.loop-command.ticks + c.ticks_of-ticks.result) (cut c.args.text.now) (cut c.in-Some.commands.now) (slice_index_or c.loop-command.scripts c.args.worker []) next.command (cut c.loop-command.rest.now) (cut next.after.now)
-    c.in-Some.ensures.found c.loop-command.invariant.begins next.ensures.found (next.ensures.within c.args.cpus)
-    (ap (λ n. n + c.ticks_of-ticks.result) c.loop-command.invariant.ticks ∙ ap (λ n. count_by is_tick (slice_index_or c.loop-command.scripts c.args.worker []) + n) c.ticks_of-ticks.ensures.ticks)
-    (sym c.are_few.ensures ∙ c.if-not-are_few.true))
+    let next = c.in-Some-next_command in (
+      refl,
+      refl,
+      refl,
+      none_over_ticks (ids_of c.args.threads.now) c.args.worker c.args.cpus c.args.spent (c.loop-command.ticks + c.ticks_of-ticks.result) (cut c.args.text.now) (cut c.in-Some.commands.now) (slice_index_or c.loop-command.scripts c.args.worker []) next.command (cut c.loop-command.rest.now) (cut next.after.now)
+          c.in-Some.ensures.found c.loop-command.invariant.begins next.ensures.found (next.ensures.within c.args.cpus)
+          (ap (λ n. n + c.ticks_of-ticks.result) c.loop-command.invariant.ticks ∙ ap (λ n. count_by is_tick (slice_index_or c.loop-command.scripts c.args.worker []) + n) c.ticks_of-ticks.ensures.ticks)
+          (sym c.are_few.ensures ∙ c.if-not-are_few.true),
+    )
 
 pub loop-command-preserved : goal.loop-command-preserved
 loop-command-preserved c =
