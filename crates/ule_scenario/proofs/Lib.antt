@@ -1,7 +1,14 @@
-pub mod Items
+pub mod Causes
+pub mod Charges
+pub mod Clean
+pub mod Commands
 pub mod Numbers
+pub mod Parts
 pub mod Pieces
-pub mod Runs
 pub mod Rules
+pub mod Runs
+pub mod Script
+pub mod Scripts
 pub mod Setups
 pub mod Text
+pub mod Threads

@@ -6,7 +6,7 @@ use Rattle.std.specs.Str.Parse.{AllDigits, digits_value}
 use Rattle.std.proofs.lemmas.Bool.{leb-true, ltb-true, cases_eq}
 use Rattle.std.proofs.lemmas.Fmt.{decimal-digits_value, digits_decimal, digits_value-decimal, decimal_nonempty, first_decimal, decimal_digit, decimal_injective}
 use Rattle.std.proofs.lemmas.Str.Parse.{numerals_by_value, tells_digits, digits_value-take-le, digit_at, IsNumeralModel}
-use Rattle.ule_scenario.specs.Scenario.{is_nice}
+use Rattle.ule_types.specs.Rules.{is_nice}
 
 pub none_then : {A : Type 0} (r : Option A) {P Q : Type 0} → IfNone r P → (P → Q) → IfNone r Q
 none_then None h f = f h
@@ -69,3 +69,7 @@ zero_is_none word m e some small f =
 
 pub same_number : (m n : ℕ) → m < 2 ^ 32 → n < 2 ^ 32 → decimal m ≡ decimal n → m ≡ n
 same_number m n fits fits' e = decimal_injective m n (omega arith) (omega arith) e
+
+-- the digits of a number have it as their value
+pub value_of_decimal : (n : ℕ) → n < 2 ^ 32 → digits_value 10 (decimal n) ≡ n
+value_of_decimal n fits = digits_value-decimal own n (omega arith)

@@ -50,7 +50,8 @@ distinct_front (x ∷ xs) ys all =
     let none = or_parts (is_among xs x) (is_among ys x) (sym (list_any-append (λ u. u == x) xs ys) ∙ not-true (is_among (xs ++ ys) x) parts.0) in
     and_from (not (is_among xs x)) (is_distinct xs) (ap not none.0) (distinct_front xs ys parts.1)
 
-any_is_among : (threads : List ThreadSpec) (id : ℕ) → list_any (λ spec. spec.id == id) threads ≡ is_among (ids_of threads) id
+-- a number among those of threads
+pub any_is_among : (threads : List ThreadSpec) (id : ℕ) → list_any (λ spec. spec.id == id) threads ≡ is_among (ids_of threads) id
 any_is_among [] id = refl
 any_is_among (spec ∷ threads) id = ap (λ b. (spec.id == id) || b) (any_is_among threads id)
 
@@ -60,11 +61,11 @@ distinct_more threads spec all none =
     ap is_distinct (map_push (λ (s : ThreadSpec). s.id) threads spec) ∙ distinct_push (ids_of threads) spec.id all (sym (any_is_among threads spec.id) ∙ none)
 
 -- one thread more, of a number that is there
-pub repeats_more : (lines : List Line) (threads : List ThreadSpec) (spec : ThreadSpec) (rest after : List Line) → Begins is_thread thread_line lines threads rest → rest ≡ thread_line spec ∷ after → IsTrue (is_thread spec) → list_any (λ other. other.id == spec.id) threads ≡ true → RepeatsThread lines
-repeats_more lines threads spec rest after begins e good some = (
+pub repeats_more : (cpus : ℕ) (lines : List Line) (threads : List ThreadSpec) (spec : ThreadSpec) (rest after : List Line) → Begins (is_thread cpus) thread_line lines threads rest → rest ≡ thread_line spec ∷ after → IsTrue (is_thread cpus spec) → list_any (λ other. other.id == spec.id) threads ≡ true → RepeatsThread cpus lines
+repeats_more cpus lines threads spec rest after begins e good some = (
   threads ++ spec ∷ [],
   after,
-  begins_more is_thread thread_line lines threads spec rest after begins e good,
+  begins_more (is_thread cpus) thread_line lines threads spec rest after begins e good,
   ap is_distinct (map_push (λ (s : ThreadSpec). s.id) threads spec) ∙ repeated_push (ids_of threads) spec.id (sym (any_is_among threads spec.id) ∙ some),
 )
 

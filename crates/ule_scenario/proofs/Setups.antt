@@ -1,292 +1,228 @@
 -- The lines of a setup that a text spells, and that no text spells two.
-use Rattle.std.proofs.Common.{◌≡◌, ◌≢◌, ℕ, ◌^◌, ◌<◌, ◌≤◌, ◌==◌, Bool, true, false, ◌&&◌, IsTrue, List, [], ◌∷◌, ◌++◌, map, length, take, refl, sym, ap, subst, ◌∙◌, arith, ℤ, pos, negsuc, suc, ltb, get_or}
-use Rattle.std.specs.Prelude.{codes}
+use Rattle.std.proofs.Common.{◌≡◌, ◌≢◌, ℕ, ◌-◌, ◌^◌, ◌<◌, ◌≤◌, true, IsTrue, List, [], ◌∷◌, ◌++◌, map, length, take, drop, replicate, refl, sym, ap, subst, ◌∙◌, arith}
 use Rattle.std.specs.List.{list_all}
-use Rattle.std.specs.Fmt.{decimal, signed_decimal}
-use Rattle.std.specs.Str.Parse.{AllDigits}
-use Rattle.std.proofs.lemmas.Bool.{and_from, and_parts, eqb-true, ne_eqb, leb-true, ltb-true, false≢true}
-use Rattle.std.proofs.lemmas.Fmt.{signed_decimal_injective}
-use Rattle.std.proofs.lemmas.List.{append_assoc, append-nil, nil_from_length, length-append}
-use Rattle.std.proofs.lemmas.Str.Parse.{digit_from_value}
-use Rattle.ule_types.specs.Form.{default_settings, is_plain, is_yield}
-use Rattle.ule_types.specs.Rules.{is_distinct, is_spec, is_form, keeps_rules}
+use Rattle.std.proofs.lemmas.Bool.{and_from, and_parts, false≢true}
+use Rattle.std.proofs.lemmas.List.{append_assoc, append-nil, length-append, length-take-le, take-append-drop}
+use Rattle.ule_types.specs.Form.{default_settings, is_plain}
+use Rattle.ule_types.specs.Rules.{is_distinct, is_spec, keeps_rules}
 use Rattle.ule_types.specs.declared.command.Command.{Command}
-use Rattle.ule_types.specs.declared.fault.ScenarioFault.{ScenarioFault}
-use Rattle.ule_types.specs.declared.fault.ScenarioFault.TheVariants.{Refused, Memory}
 use Rattle.ule_types.specs.declared.setup.GroupLine.{GroupLine}
 use Rattle.ule_types.specs.declared.setup.Setup.{Setup}
 use Rattle.ule_types.specs.declared.setup.ThreadSpec.{ThreadSpec}
-use Rattle.ule_types.specs.declared.setup.Form.{Form}
-use Rattle.ule_types.specs.declared.setup.Form.TheVariants.{Ts}
-use Rattle.ule_types.specs.declared.command.Command.TheVariants.{Yield}
-use Rattle.std.specs.Int.Signed.{mag}
-use Rattle.ule_scenario.specs.Scenario.{Word, Line, header_line, jitter_line, cpus_line, thread_line, script_line, script_lines, command_line, end_line, lines_of, text, is_nice, is_in_range, Spells, IsSame, IsCause}
+use Rattle.ule_scenario.specs.Scenario.{Line, thread_line, script_lines, end_line, text, is_in_range, Spells, IsSame}
 use Rattle.ule_scenario.specs.Cut.{cut}
-use Rattle.ule_scenario.specs.Sections.{head_lines, is_thread, ids_of, TakesThreads, RepeatsThread, TakesScript, PassesBudget, RefusedOnlyIf, one_script}
-use Rattle.ule_scenario.proofs.Items.{thread_words}
-use Rattle.ule_scenario.proofs.Numbers.{decimal_digits, same_number}
-use Rattle.ule_scenario.proofs.Rules.{all_weaker, yield_is, rules_of_form, parts_of_rules}
+use Rattle.ule_scenario.specs.Sections.{head_lines, is_thread, is_spellable, ids_of, TakesThreads, RepeatsThread, AreScripts, TakesScripts, HasNoScripts}
+use Rattle.ule_scenario.proofs.Clean.{clean_all}
+use Rattle.ule_scenario.proofs.Commands.{end_line_apart}
+use Rattle.ule_scenario.proofs.Numbers.{same_number}
+use Rattle.ule_scenario.proofs.Parts.{first_line, second_lines, second_word}
+use Rattle.ule_scenario.proofs.Rules.{all_weaker, budget_of_front, ticks_of_front, built_scripts, few_ticks, rules_of_form, parts_of_rules, spellable_front}
 use Rattle.ule_scenario.proofs.Runs.{longer, exact, cons_of, front_distinct}
-use Rattle.ule_scenario.proofs.Text.{is_clean_byte, CleanLine, CleanLines, last_piece, cut-text, text_from_cut}
+use Rattle.ule_scenario.proofs.Scripts.{next_line, scripts_longer}
+use Rattle.ule_scenario.proofs.Text.{last_piece, cut-text, text_from_cut}
+use Rattle.ule_scenario.proofs.Threads.{thread_apart, thread_from, thread_parts}
 
--- the lines from those of the threads, and from those of the commands
-abbrev pub after_head : List ThreadSpec → List Command → List Line → List Line
-after_head threads script rest = map thread_line threads ++ (script_line 0 ∷ (map command_line script ++ (end_line ∷ rest)))
+-- the lines from those of the threads on
+abbrev pub after_head : List ThreadSpec → List (List Command) → List Line → List Line
+after_head threads scripts rest = map thread_line threads ++ (script_lines 0 scripts ++ end_line ∷ rest)
 
 -- what the lines of a text are that spells a setup
 pub record Shape (lines : List Line) (t : Setup) : Type 0 where
-  pub script : List Command
-  pub scripts : t.scripts ≡ one_script script
+  pub least : 1 ≤ t.cpus
+  pub greatest : t.cpus ≤ 16
   pub groups : t.groups ≡ []
-  pub threads : list_all is_thread t.threads ≡ true
+  pub threads : list_all (is_thread t.cpus) t.threads ≡ true
   pub distinct : is_distinct (ids_of t.threads) ≡ true
-  pub yields : list_all is_yield script ≡ true
-  pub budget : length script ≤ 65536
-  pub lines_are : lines ≡ head_lines t.jitter (after_head t.threads script last_piece)
+  pub scripts : AreScripts (ids_of t.threads) t.cpus (take t.cpus t.scripts)
+  pub number : length t.scripts ≡ 16
+  pub others : drop t.cpus t.scripts ≡ replicate (16 - t.cpus) []
+  pub lines_are : lines ≡ head_lines t.jitter t.cpus (after_head t.threads (take t.cpus t.scripts) last_piece)
 
-clean_digits : (ds : List ℕ) → AllDigits 10 ds → list_all is_clean_byte ds ≡ true
-clean_digits [] all = refl
-clean_digits (c ∷ ds) all =
-    let range = digit_from_value c all.0 in
-    let other : (c == 10) ≡ false = ne_eqb c 10 (λ e. omega (arith, range, e)) in
-    let other' : (c == 32) ≡ false = ne_eqb c 32 (λ e. omega (arith, range, e)) in
-    and_from (is_clean_byte c) (list_all is_clean_byte ds) (rw (other, other') refl) (clean_digits ds all.1)
-
-clean_decimal : (n : ℕ) → n < 2 ^ 32 → list_all is_clean_byte (decimal n) ≡ true
-clean_decimal n fits = clean_digits (decimal n) (decimal_digits n fits)
-
-clean_nice : (n : ℤ) → IsTrue (is_nice n) → list_all is_clean_byte (signed_decimal n) ≡ true
-clean_nice (pos n) fits = clean_decimal n (omega (arith, leb-true n 20 fits))
-clean_nice (negsuc n) fits = clean_decimal (suc n) (omega (arith, ltb-true n 20 fits))
-
-clean_thread : (spec : ThreadSpec) → is_thread spec ≡ true → CleanLine (thread_line spec)
-clean_thread spec good =
-    let line = thread_words spec good in
-    subst CleanLine (sym line.words) (refl, (clean_decimal spec.id (omega (arith, line.id_fits)), (refl, (clean_nice line.nice line.nice_fits, (clean_decimal 0 (omega arith), tt)))))
-
-clean_command : (c : Command) → is_yield c ≡ true → CleanLine (command_line c)
-clean_command c good = rw (yield_is c good) (refl, tt)
-
-clean_map : {A : Type 0} (p : A → Bool) (f : A → Line) → ((x : A) → p x ≡ true → CleanLine (f x)) → (xs : List A) (rest : List Line) → list_all p xs ≡ true → CleanLines rest → CleanLines (map f xs ++ rest)
-clean_map p f each [] rest all clean = clean
-clean_map p f each (x ∷ xs) rest all clean =
-    let parts = and_parts (p x) (list_all p xs) all in
-    (each x parts.0, clean_map p f each xs rest parts.1 clean)
-
-clean_all : (jitter : ℕ) (threads : List ThreadSpec) (script : List Command) → jitter < 2 ^ 32 → list_all is_thread threads ≡ true → list_all is_yield script ≡ true → CleanLines (head_lines jitter (after_head threads script []))
-clean_all jitter threads script fits all yields =
-    let last : CleanLines (end_line ∷ []) = ((refl, tt), tt) in
-    let commands = clean_map is_yield command_line clean_command script (end_line ∷ []) yields last in
-    let scripts : CleanLines (script_line 0 ∷ (map command_line script ++ (end_line ∷ []))) = ((refl, (clean_decimal 0 (omega arith), tt)), commands) in
-    ((refl, (clean_decimal 1 (omega arith), tt)), ((refl, (clean_decimal jitter fits, tt)), ((refl, (clean_decimal 1 (omega arith), tt)), clean_map is_thread thread_line clean_thread threads (script_line 0 ∷ (map command_line script ++ (end_line ∷ []))) all scripts)))
-
--- the lines of a setup of the form
-lines_are_head : (jitter : ℕ) (threads : List ThreadSpec) (script : List Command) → header_line ∷ jitter_line jitter ∷ cpus_line 1 ∷ (map thread_line threads ++ (script_lines 0 (take 1 (one_script script)) ++ end_line ∷ [])) ≡ head_lines jitter (after_head threads script [])
-lines_are_head jitter threads script =
-    ap (λ rest. head_lines jitter (map thread_line threads ++ (script_line 0 ∷ rest))) (ap (λ commands. commands ++ end_line ∷ []) (append-nil (map command_line script)))
-
-last_after : (jitter : ℕ) (threads : List ThreadSpec) (script : List Command) → head_lines jitter (after_head threads script []) ++ last_piece ≡ head_lines jitter (after_head threads script last_piece)
-last_after jitter threads script =
-    ap (head_lines jitter) (append_assoc (map thread_line threads) (script_line 0 ∷ (map command_line script ++ end_line ∷ [])) last_piece
-    ∙ ap (λ rest. map thread_line threads ++ (script_line 0 ∷ rest)) (append_assoc (map command_line script) (end_line ∷ []) last_piece))
-
-lines_of-form : (t : Setup) (script : List Command) → t.cpus ≡ 1 → t.scripts ≡ one_script script → lines_of t ≡ head_lines t.jitter (after_head t.threads script [])
-lines_of-form t script one scripts = rw (one, scripts) (lines_are_head t.jitter t.threads script)
+last_after : (jitter cpus : ℕ) (threads : List ThreadSpec) (scripts : List (List Command)) → head_lines jitter cpus (after_head threads scripts []) ++ last_piece ≡ head_lines jitter cpus (after_head threads scripts last_piece)
+last_after jitter cpus threads scripts =
+    ap (head_lines jitter cpus) (append_assoc (map thread_line threads) (script_lines 0 scripts ++ end_line ∷ []) last_piece
+    ∙ ap (λ rest. map thread_line threads ++ rest) (append_assoc (script_lines 0 scripts) (end_line ∷ []) last_piece))
 
 -- plain threads in range that keep the rules
-all_threads : (threads : List ThreadSpec) → list_all is_plain threads ≡ true → list_all is_in_range threads ≡ true → list_all (is_spec 1) threads ≡ true → list_all is_thread threads ≡ true
-all_threads [] plain range specs = refl
-all_threads (spec ∷ threads) plain range specs =
-    let p = and_parts (is_plain spec) (list_all is_plain threads) plain in
+all_threads : (cpus : ℕ) (threads : List ThreadSpec) → list_all (is_plain cpus) threads ≡ true → list_all is_in_range threads ≡ true → list_all (is_spec cpus) threads ≡ true → list_all (is_thread cpus) threads ≡ true
+all_threads cpus [] plain range specs = refl
+all_threads cpus (spec ∷ threads) plain range specs =
+    let p = and_parts (is_plain cpus spec) (list_all (is_plain cpus) threads) plain in
     let r = and_parts (is_in_range spec) (list_all is_in_range threads) range in
-    let s = and_parts (is_spec 1 spec) (list_all (is_spec 1) threads) specs in
-    let cpu = and_parts (is_form spec.form) (ltb spec.cpu 1) s.0 in
-    and_from (is_thread spec) (list_all is_thread threads)
-    (and_from (is_plain spec && is_in_range spec) (ltb spec.cpu 1) (and_from (is_plain spec) (is_in_range spec) p.0 r.0) cpu.1)
-    (all_threads threads p.1 r.1 s.1)
-
-mag_small : (n : ℤ) → IsTrue (is_nice n) → mag n < 2 ^ 63
-mag_small (pos n) fits = omega (arith, leb-true n 20 fits)
-mag_small (negsuc n) fits = omega (arith, ltb-true n 20 fits)
-
--- words of equal lines
-first_word : {w x : Word} {ws xs : Line} {ls ms : List Line} → (w ∷ ws) ∷ ls ≡ (x ∷ xs) ∷ ms → w ≡ x
-first_word e = cc
-
-id_and_nice : {a b c d e a' b' c' d' e' : Word} → ◌≡◌ {A = Line} (a ∷ b ∷ c ∷ d ∷ e ∷ []) (a' ∷ b' ∷ c' ∷ d' ∷ e' ∷ []) → (b ≡ b') × (d ≡ d')
-id_and_nice e = (cc, cc)
-
--- a thread by its fields
-same_spec : (a b : ThreadSpec) → a.id ≡ b.id → a.form ≡ b.form → a.cpu ≡ b.cpu → a.bound ≡ b.bound → a ≡ b
-same_spec a b id form cpu bound =
-    let spec : ℕ → Form → ℕ → Bool → ThreadSpec = λ i f c d. record { id = i; form = f; cpu = c; bound = d } in
-    ap (λ i. spec i a.form a.cpu a.bound) id ∙ ap (λ f. spec b.id f a.cpu a.bound) form ∙ ap (λ c. spec b.id b.form c a.bound) cpu ∙ ap (spec b.id b.form b.cpu) bound
-
--- a thread's line tells it
-thread_apart : (a b : ThreadSpec) → is_thread a ≡ true → is_thread b ≡ true → thread_line a ≡ thread_line b → a ≡ b
-thread_apart a b good good' e =
-    let u = thread_words a good in
-    let v = thread_words b good' in
-    let words = sym u.words ∙ e ∙ v.words in
-    let numbers = id_and_nice words in
-    let nice = signed_decimal_injective u.nice v.nice (mag_small u.nice u.nice_fits) (mag_small v.nice v.nice_fits) numbers.1 in
-    same_spec a b (same_number a.id b.id (omega (arith, u.id_fits)) (omega (arith, v.id_fits)) numbers.0) (u.form ∙ ap Ts nice ∙ sym v.form) (u.cpu ∙ sym v.cpu) (u.free ∙ sym v.free)
-
-command_apart : (a b : Command) → is_yield a ≡ true → is_yield b ≡ true → command_line a ≡ command_line b → a ≡ b
-command_apart a b good good' e = yield_is a good ∙ sym (yield_is b good')
-
--- the script's line is no thread's, and the last line no command's
-no_thread_here : (rest : List Line) (spec : ThreadSpec) (more : List Line) → is_thread spec ≡ true → script_line 0 ∷ rest ≢ thread_line spec ∷ more
-no_thread_here rest spec more good e =
-    let words : codes "script" ≡ codes "thread" = first_word e in
-    omega (arith, ap (λ w. get_or w 0 0) words)
-
-no_command_here : (rest : List Line) (c : Command) (more : List Line) → is_yield c ≡ true → end_line ∷ rest ≢ command_line c ∷ more
-no_command_here rest c more good e =
-    let line : end_line ∷ rest ≡ command_line Yield ∷ more = e ∙ ap (λ command. command_line command ∷ more) (yield_is c good) in
-    let words : codes "end" ≡ codes "yield" = first_word line in
-    omega (arith, ap (λ w. get_or w 0 0) words)
+    let s = and_parts (is_spec cpus spec) (list_all (is_spec cpus) threads) specs in
+    and_from (is_thread cpus spec) (list_all (is_thread cpus) threads) (thread_from cpus spec p.0 r.0 s.0) (all_threads cpus threads p.1 r.1 s.1)
 
 pub shape_of : (bytes : List ℕ) (t : Setup) → Spells bytes t → Shape (cut bytes) t
 shape_of bytes t spells =
     let form = spells.form in
-    let script = form.script.0 in
-    let yields = form.script.2 in
-    let kept = rw (form.cpus, form.unborn, form.script.1) at t.rules in
-    let rules = parts_of_rules t.settings t.groups t.threads script t.turns yields kept in
-    let threads = all_threads t.threads form.threads spells.threads rules.specs in
+    let kept = rw form.unborn at t.rules in
+    let rules = parts_of_rules t.settings t.cpus t.groups t.threads t.scripts t.turns kept in
+    let threads = all_threads t.cpus t.threads form.threads spells.threads rules.specs in
+    let scripts = spellable_front t.cpus t.threads t.scripts spells.threads form.scripts rules.commands in
+    let number = length-take-le t.cpus t.scripts (omega (arith, rules.number, rules.greatest)) in
     record {
-      script = script;
-      scripts = form.script.1;
-      groups = nil_from_length t.groups (eqb-true (length t.groups) 0 rules.groups_none);
+      least = rules.least;
+      greatest = rules.greatest;
+      groups = rules.groups_none;
       threads = threads;
       distinct = rules.distinct;
-      yields = yields;
-      budget = rules.budget;
-      lines_are = ap cut (spells.spelled ∙ ap text (lines_of-form t script form.cpus form.script.1))
-          ∙ cut-text (head_lines t.jitter (after_head t.threads script [])) (clean_all t.jitter t.threads script spells.jitter threads yields)
-          ∙ last_after t.jitter t.threads script;
+      scripts = record {
+        each = scripts;
+        ticks = ticks_of_front t.cpus t.scripts rules.least ∙ form.ticks;
+        budget = omega (arith, rules.budget, budget_of_front t.cpus (16 - t.cpus) t.scripts (omega (arith, rules.number, rules.greatest)) rules.others);
+      };
+      number = rules.number;
+      others = rules.others;
+      lines_are = ap cut spells.spelled
+          ∙ cut-text (head_lines t.jitter t.cpus (after_head t.threads (take t.cpus t.scripts) [])) (clean_all (ids_of t.threads) t.jitter t.cpus t.threads (take t.cpus t.scripts) spells.jitter rules.greatest (omega (arith, number, rules.greatest)) threads scripts)
+          ∙ last_after t.jitter t.cpus t.threads (take t.cpus t.scripts);
     }
 
-second_line : {a b c a' b' c' : Line} {ls ms : List Line} → a ∷ b ∷ c ∷ ls ≡ a' ∷ b' ∷ c' ∷ ms → (b ≡ b') × (ls ≡ ms)
-second_line e = (cc, cc)
-
-second_word : {a b a' b' : Word} → ◌≡◌ {A = Line} (a ∷ b ∷ []) (a' ∷ b' ∷ []) → b ≡ b'
-second_word e = cc
-
-tail_of : {a b : Line} {ls ms : List Line} → a ∷ ls ≡ b ∷ ms → ls ≡ ms
-tail_of e = cc
-
 -- two lists of a head and what follows
-head_apart : {n m : ℕ} {ls ms : List Line} → n < 2 ^ 32 → m < 2 ^ 32 → head_lines n ls ≡ head_lines m ms → (n ≡ m) × (ls ≡ ms)
-head_apart {n} {m} fits fits' e =
-    let parts = second_line e in
-    (same_number n m fits fits' (second_word parts.0), parts.1)
-
--- what a text that spells a setup goes on with, after a head that was read
-pub rest_after_head : (bytes : List ℕ) (t : Setup) (jitter : ℕ) (rest : List Line) → Spells bytes t → jitter < 2 ^ 32 → cut bytes ≡ head_lines jitter rest → (shape : Shape (cut bytes) t) → (jitter ≡ t.jitter) × (rest ≡ after_head t.threads shape.script last_piece)
-rest_after_head bytes t jitter rest spells fits e shape = head_apart fits spells.jitter (sym e ∙ shape.lines_are)
+head_apart : {n m i j : ℕ} {ls ms : List Line} → n < 2 ^ 32 → m < 2 ^ 32 → i ≤ 16 → j ≤ 16 → head_lines n i ls ≡ head_lines m j ms → (n ≡ m) × (i ≡ j) × (ls ≡ ms)
+head_apart {n} {m} {i} {j} fits fits' few few' e =
+    let parts = second_lines e in
+    (same_number n m fits fits' (second_word parts.0), same_number i j (omega arith) (omega arith) (second_word parts.1), parts.2)
 
 -- a text with no head spells nothing
-pub no_head : (bytes : List ℕ) → ((n : ℕ) (next : Line) (more : List Line) → n < 2 ^ 32 → cut bytes ≢ head_lines n (next ∷ more)) → (t : Setup) → Spells bytes t → ⊥
+pub no_head : (bytes : List ℕ) → ((n cpus : ℕ) (next : Line) (more : List Line) → n < 2 ^ 32 → 1 ≤ cpus → cpus ≤ 16 → cut bytes ≢ head_lines n cpus (next ∷ more)) → (t : Setup) → Spells bytes t → ⊥
 no_head bytes none t spells =
     let shape = shape_of bytes t spells in
-    let tail = cons_of (map thread_line t.threads) (script_line 0) (map command_line shape.script ++ (end_line ∷ last_piece)) in
-    none t.jitter tail.0 tail.1 spells.jitter (shape.lines_are ∙ ap (head_lines t.jitter) tail.2)
+    let line = next_line (ids_of t.threads) t.cpus 0 (take t.cpus t.scripts) last_piece in
+    let tail = cons_of (map thread_line t.threads) line.next line.rest in
+    none t.jitter t.cpus tail.0 tail.1 spells.jitter shape.least shape.greatest
+    (shape.lines_are ∙ ap (λ rest. head_lines t.jitter t.cpus (map thread_line t.threads ++ rest)) line.is ∙ ap (head_lines t.jitter t.cpus) tail.2)
 
--- nor does one that repeats a thread
-pub no_repeat : (bytes : List ℕ) (jitter : ℕ) (rest : List Line) → jitter < 2 ^ 32 → cut bytes ≡ head_lines jitter rest → RepeatsThread rest → (t : Setup) → Spells bytes t → ⊥
-no_repeat bytes jitter rest fits e repeats t spells =
-    let shape = shape_of bytes t spells in
-    let follows = (rest_after_head bytes t jitter rest spells fits e shape).1 in
-    let front = repeats.2 in
-    let script = map command_line shape.script ++ (end_line ∷ last_piece) in
-    let run = longer is_thread thread_line thread_apart repeats.0 t.threads repeats.1 (script_line 0 ∷ script) front.each shape.threads (sym front.front ∙ follows) (λ spec more. no_thread_here script spec more) in
-    let distinct = front_distinct repeats.0 run.0 (ap (λ threads. is_distinct (ids_of threads)) (sym run.1) ∙ shape.distinct) in
-    false≢true (sym repeats.3 ∙ distinct)
+-- what a setup has that the text spells, where the head was read
+record Follows (cpus : ℕ) (rest : List Line) (t : Setup) : Type 0 where
+  same : t.cpus ≡ cpus
+  threads : list_all (is_thread cpus) t.threads ≡ true
+  distinct : is_distinct (ids_of t.threads) ≡ true
+  scripts : AreScripts (ids_of t.threads) cpus (take cpus t.scripts)
+  number : length (take cpus t.scripts) ≡ cpus
+  lines_are : rest ≡ after_head t.threads (take cpus t.scripts) last_piece
 
--- the threads that were read are those of the setup
-pub same_threads : (bytes : List ℕ) (jitter : ℕ) (rest : List Line) (threads : List ThreadSpec) (after : List Line) → jitter < 2 ^ 32 → cut bytes ≡ head_lines jitter rest → TakesThreads rest threads after → (t : Setup) → Spells bytes t → (shape : Shape (cut bytes) t) → (threads ≡ t.threads) × (after ≡ script_line 0 ∷ (map command_line shape.script ++ (end_line ∷ last_piece)))
-same_threads bytes jitter rest threads after fits e takes t spells shape =
-    let follows = (rest_after_head bytes t jitter rest spells fits e shape).1 in
-    let script = map command_line shape.script ++ (end_line ∷ last_piece) in
-    exact is_thread thread_line thread_apart threads t.threads after (script_line 0) script takes.begins.each shape.threads (sym takes.begins.front ∙ follows) (λ spec more. no_thread_here script spec more) takes.stops
+module _ (bytes : List ℕ) (jitter cpus : ℕ) (rest : List Line) (fits : jitter < 2 ^ 32) (few : cpus ≤ 16) (e : cut bytes ≡ head_lines jitter cpus rest) where
+  follows : (t : Setup) → Spells bytes t → Follows cpus rest t
+  follows t spells =
+      let shape = shape_of bytes t spells in
+      let head = head_apart fits spells.jitter few shape.greatest (sym e ∙ shape.lines_are) in
+      let same : t.cpus ≡ cpus = sym head.1 in
+      record {
+        same = same;
+        threads = ap (λ n. list_all (is_thread n) t.threads) (sym same) ∙ shape.threads;
+        distinct = shape.distinct;
+        scripts = subst (λ n. AreScripts (ids_of t.threads) n (take n t.scripts)) same shape.scripts;
+        number = length-take-le cpus t.scripts (omega (arith, shape.number));
+        lines_are = head.2 ∙ ap (λ n. after_head t.threads (take n t.scripts) last_piece) same;
+      }
 
--- a text in which no script begins after the threads spells nothing
-pub no_script : (bytes : List ℕ) (jitter : ℕ) (rest : List Line) (threads : List ThreadSpec) (after : List Line) → jitter < 2 ^ 32 → cut bytes ≡ head_lines jitter rest → TakesThreads rest threads after → ((next : Line) (more : List Line) → after ≢ script_line 0 ∷ next ∷ more) → (t : Setup) → Spells bytes t → ⊥
-no_script bytes jitter rest threads after fits e takes none t spells =
-    let shape = shape_of bytes t spells in
-    let tail = cons_of (map command_line shape.script) end_line last_piece in
-    none tail.0 tail.1 ((same_threads bytes jitter rest threads after fits e takes t spells shape).1 ∙ ap (λ lines. script_line 0 ∷ lines) tail.2)
+  -- a text that repeats a thread spells nothing
+  pub no_repeat : RepeatsThread cpus rest → (t : Setup) → Spells bytes t → ⊥
+  no_repeat repeats t spells =
+      let rest_of = follows t spells in
+      let front = repeats.2 in
+      let line = next_line (ids_of t.threads) cpus 0 (take cpus t.scripts) last_piece in
+      let run = longer (is_thread cpus) thread_line (thread_apart cpus few) repeats.0 t.threads repeats.1 (line.next ∷ line.rest) front.each rest_of.threads (sym front.front ∙ rest_of.lines_are ∙ ap (λ ls. map thread_line t.threads ++ ls) line.is) (λ spec more good over. line.no_thread spec (first_line over)) in
+      let distinct = front_distinct repeats.0 run.0 (ap (λ threads. is_distinct (ids_of threads)) (sym run.1) ∙ rest_of.distinct) in
+      false≢true (sym repeats.3 ∙ distinct)
 
--- what follows the script's line
-commands_left : (bytes : List ℕ) (jitter : ℕ) (rest : List Line) (threads : List ThreadSpec) (after commands : List Line) → jitter < 2 ^ 32 → cut bytes ≡ head_lines jitter rest → TakesThreads rest threads after → after ≡ script_line 0 ∷ commands → (t : Setup) → Spells bytes t → (shape : Shape (cut bytes) t) → commands ≡ map command_line shape.script ++ (end_line ∷ last_piece)
-commands_left bytes jitter rest threads after commands fits e takes begins t spells shape =
-    tail_of (sym begins ∙ (same_threads bytes jitter rest threads after fits e takes t spells shape).1)
+  module _ (threads : List ThreadSpec) (after : List Line) (takes : TakesThreads cpus rest threads after) where
+    -- the threads that were read are those of the setup
+    same_threads : (t : Setup) → Spells bytes t → (threads ≡ t.threads) × (after ≡ script_lines 0 (take cpus t.scripts) ++ end_line ∷ last_piece)
+    same_threads t spells =
+        let rest_of = follows t spells in
+        let line = next_line (ids_of t.threads) cpus 0 (take cpus t.scripts) last_piece in
+        let both = exact (is_thread cpus) thread_line (thread_apart cpus few) threads t.threads after line.next line.rest takes.begins.each rest_of.threads (sym takes.begins.front ∙ rest_of.lines_are ∙ ap (λ ls. map thread_line t.threads ++ ls) line.is) (λ spec more good over. line.no_thread spec (first_line over)) takes.stops in
+        (both.0, both.1 ∙ sym line.is)
 
--- a text that passes the budget spells nothing
-pub no_budget : (bytes : List ℕ) (jitter : ℕ) (rest : List Line) (threads : List ThreadSpec) (after commands : List Line) → jitter < 2 ^ 32 → cut bytes ≡ head_lines jitter rest → TakesThreads rest threads after → after ≡ script_line 0 ∷ commands → PassesBudget commands → (t : Setup) → Spells bytes t → ⊥
-no_budget bytes jitter rest threads after commands fits e takes begins passes t spells =
-    let shape = shape_of bytes t spells in
-    let follows = commands_left bytes jitter rest threads after commands fits e takes begins t spells shape in
-    let run = longer is_yield command_line command_apart passes.0 shape.script passes.1 (end_line ∷ last_piece) passes.2.each shape.yields (sym passes.2.front ∙ follows) (λ c more. no_command_here last_piece c more) in
-    omega (arith, passes.3, shape.budget, ap length run.1, length-append passes.0 run.0)
+    scripts_of : (t : Setup) → Spells bytes t → AreScripts (ids_of threads) cpus (take cpus t.scripts)
+    scripts_of t spells =
+        subst (λ specs. AreScripts (ids_of specs) cpus (take cpus t.scripts)) (sym (same_threads t spells).0) (follows t spells).scripts
 
--- nor does one whose last line doesn't follow the commands
-pub no_end : (bytes : List ℕ) (jitter : ℕ) (rest : List Line) (threads : List ThreadSpec) (after commands : List Line) (script : List Command) (over : List Line) → jitter < 2 ^ 32 → cut bytes ≡ head_lines jitter rest → TakesThreads rest threads after → after ≡ script_line 0 ∷ commands → TakesScript commands script over → over ≢ end_line ∷ last_piece → (t : Setup) → Spells bytes t → ⊥
-no_end bytes jitter rest threads after commands script over fits e takes begins script_taken none t spells =
-    let shape = shape_of bytes t spells in
-    let follows = commands_left bytes jitter rest threads after commands fits e takes begins t spells shape in
-    none (exact is_yield command_line command_apart script shape.script over end_line last_piece script_taken.begins.each shape.yields (sym script_taken.begins.front ∙ follows) (λ c more. no_command_here last_piece c more) script_taken.stops).1
+    -- a text without scripts spells nothing
+    pub no_scripts : HasNoScripts (ids_of threads) cpus after → (t : Setup) → Spells bytes t → ⊥
+    no_scripts none t spells =
+        none (take cpus t.scripts) last_piece (scripts_of t spells) (follows t spells).number (same_threads t spells).1
 
--- what was read is a setup that the text spells
-pub spelled : (bytes : List ℕ) (jitter : ℕ) (rest : List Line) (threads : List ThreadSpec) (after commands : List Line) (script : List Command) (over : List Line) → cut bytes ≡ head_lines jitter rest → TakesThreads rest threads after → after ≡ script_line 0 ∷ commands → TakesScript commands script over → over ≡ end_line ∷ last_piece → bytes ≡ text (head_lines jitter (after_head threads script []))
-spelled bytes jitter rest threads after commands script over e takes begins script_taken ends =
-    text_from_cut bytes (head_lines jitter (after_head threads script []))
-    (e ∙ ap (head_lines jitter) (takes.begins.front ∙ ap (λ lines. map thread_line threads ++ lines) (begins ∙ ap (λ lines. script_line 0 ∷ lines) (script_taken.begins.front ∙ ap (λ lines. map command_line script ++ lines) ends)))
-    ∙ sym (last_after jitter threads script))
+    -- nor does one whose last line doesn't follow the scripts
+    pub no_end : (scripts : List (List Command)) (over : List Line) → TakesScripts (ids_of threads) cpus cpus after scripts over → over ≢ end_line ∷ last_piece → (t : Setup) → Spells bytes t → ⊥
+    no_end scripts over taken none t spells =
+        let number = length-take-le cpus scripts (omega (arith, taken.number)) in
+        let run = scripts_longer (ids_of threads) cpus 0 cpus (take cpus scripts) (take cpus t.scripts) over last_piece taken.allowed.each (scripts_of t spells).each (omega (arith, number)) (λ some. taken.stops (omega (arith, number))) (sym taken.front ∙ (same_threads t spells).1) in
+        by_left run.0 run.1 run.2 number
+      where
+        by_left : (more : List (List Command)) → take cpus t.scripts ≡ take cpus scripts ++ more → over ≡ script_lines cpus more ++ end_line ∷ last_piece → length (take cpus scripts) ≡ cpus → ⊥
+        by_left [] joined ends number = none ends
+        by_left (v ∷ more) joined ends number =
+            omega (arith, (follows t spells).number, ap length joined, length-append (take cpus scripts) (v ∷ more), number)
 
--- threads and commands that were read are of the form and in range
-pub plain_threads : (threads : List ThreadSpec) → list_all is_thread threads ≡ true → (list_all is_plain threads ≡ true) × (list_all is_in_range threads ≡ true)
-plain_threads threads all = (
-  all_weaker is_thread is_plain (λ spec good. (and_parts (is_plain spec) (is_in_range spec) (and_parts (is_plain spec && is_in_range spec) (ltb spec.cpu 1) good).0).0) threads all,
-  all_weaker is_thread is_in_range (λ spec good. (and_parts (is_plain spec) (is_in_range spec) (and_parts (is_plain spec && is_in_range spec) (ltb spec.cpu 1) good).0).1) threads all,
-)
+    -- what was read is a setup that the text spells
+    pub spelled : (scripts : List (List Command)) (over : List Line) → TakesScripts (ids_of threads) cpus cpus after scripts over → over ≡ end_line ∷ last_piece → bytes ≡ text (head_lines jitter cpus (after_head threads (take cpus scripts) []))
+    spelled scripts over taken ends =
+        text_from_cut bytes (head_lines jitter cpus (after_head threads (take cpus scripts) []))
+        (e ∙ ap (head_lines jitter cpus) (takes.begins.front ∙ ap (λ lines. map thread_line threads ++ lines) (taken.front ∙ ap (λ lines. script_lines 0 (take cpus scripts) ++ lines) ends))
+        ∙ sym (last_after jitter cpus threads (take cpus scripts)))
+
+-- scripts of which the front is the same
+same_scripts : (cpus cpus' : ℕ) (ss ts : List (List Command)) → cpus ≡ cpus' → drop cpus ss ≡ replicate (16 - cpus) [] → drop cpus' ts ≡ replicate (16 - cpus') [] → take cpus ss ≡ take cpus' ts → ss ≡ ts
+same_scripts cpus cpus' ss ts same others others' front =
+    let back : drop cpus ss ≡ drop cpus' ts = others ∙ ap (λ n. replicate (16 - n) []) same ∙ sym others' in
+    sym (take-append-drop cpus ss) ∙ ap (λ xs. xs ++ drop cpus ss) front ∙ ap (λ ys. take cpus' ts ++ ys) back ∙ take-append-drop cpus' ts
 
 -- no text spells two setups
 pub one_setup : (bytes : List ℕ) (s t : Setup) → Spells bytes s → Spells bytes t → IsSame s t
 one_setup bytes s t spells other =
     let u = shape_of bytes s spells in
-    let v = shape_of bytes t other in
-    let head = head_apart spells.jitter other.jitter (sym u.lines_are ∙ v.lines_are) in
-    let script_s = map command_line u.script ++ (end_line ∷ last_piece) in
-    let script_t = map command_line v.script ++ (end_line ∷ last_piece) in
-    let threads = exact is_thread thread_line thread_apart s.threads t.threads (script_line 0 ∷ script_s) (script_line 0) script_t u.threads v.threads head.1 (λ spec more. no_thread_here script_t spec more) (λ spec next more good. no_thread_here script_s spec (next ∷ more) good) in
-    let scripts = exact is_yield command_line command_apart u.script v.script (end_line ∷ last_piece) end_line last_piece u.yields v.yields (tail_of threads.1) (λ c more. no_command_here last_piece c more) (λ c next more good. no_command_here last_piece c (next ∷ more) good) in
+    let v = follows bytes s.jitter s.cpus (after_head s.threads (take s.cpus s.scripts) last_piece) spells.jitter u.greatest u.lines_are t other in
+    let w = shape_of bytes t other in
+    let head = head_apart spells.jitter other.jitter u.greatest w.greatest (sym u.lines_are ∙ w.lines_are) in
+    let line = next_line (ids_of s.threads) s.cpus 0 (take s.cpus s.scripts) last_piece in
+    let line' = next_line (ids_of t.threads) s.cpus 0 (take s.cpus t.scripts) last_piece in
+    let both = exact (is_thread s.cpus) thread_line (thread_apart s.cpus u.greatest) s.threads t.threads (line.next ∷ line.rest) line'.next line'.rest u.threads v.threads
+    (sym (ap (λ ls. map thread_line s.threads ++ ls) line.is) ∙ v.lines_are ∙ ap (λ ls. map thread_line t.threads ++ ls) line'.is)
+    (λ spec more good over. line'.no_thread spec (first_line over)) (λ spec next more good over. line.no_thread spec (first_line over)) in
+    let scripts = scripts_equal (ids_of s.threads) s.cpus (take s.cpus s.scripts) (take s.cpus t.scripts) u.scripts.each (subst (λ specs. AreScripts (ids_of specs) s.cpus (take s.cpus t.scripts)) (sym both.0) v.scripts).each (length-take-le s.cpus s.scripts (omega (arith, u.number, u.greatest)) ∙ sym v.number) (line.is ∙ both.1 ∙ sym line'.is) in
     record {
       settings = spells.form.settings ∙ sym other.form.settings;
       jitter = head.0;
-      cpus = spells.form.cpus ∙ sym other.form.cpus;
-      groups = u.groups ∙ sym v.groups;
-      threads = threads.0;
+      cpus = head.1;
+      groups = u.groups ∙ sym w.groups;
+      threads = both.0;
       unborn = spells.form.unborn ∙ sym other.form.unborn;
-      scripts = u.scripts ∙ ap one_script scripts.0 ∙ sym v.scripts;
+      scripts = same_scripts s.cpus t.cpus s.scripts t.scripts head.1 u.others w.others (scripts ∙ ap (λ n. take n t.scripts) head.1);
       turns = spells.form.turns ∙ sym other.form.turns;
     }
+  where
+    by_left : (us vs more : List (List Command)) → vs ≡ us ++ more → length us ≡ length vs → us ≡ vs
+    by_left us vs [] joined same = sym (joined ∙ append-nil us)
+    by_left us vs (m ∷ more) joined same = absurd (omega (arith, same, ap length joined, length-append us (m ∷ more)))
+
+    scripts_equal : (ids : List ℕ) (cpus : ℕ) (us vs : List (List Command)) → list_all (list_all (is_spellable ids cpus)) us ≡ true → list_all (list_all (is_spellable ids cpus)) vs ≡ true → length us ≡ length vs → script_lines 0 us ++ end_line ∷ last_piece ≡ script_lines 0 vs ++ end_line ∷ last_piece → us ≡ vs
+    scripts_equal ids cpus us vs good good' same e =
+        let run = scripts_longer ids cpus 0 (length us) us vs (end_line ∷ last_piece) last_piece good good' (omega arith) (λ some c next more allowed over. end_line_apart ids cpus c allowed (first_line over)) e in
+        by_left us vs run.0 run.1 same
+
+-- threads that were read are plain and in range
+plain_threads : (cpus : ℕ) (threads : List ThreadSpec) → list_all (is_thread cpus) threads ≡ true → (list_all (is_plain cpus) threads ≡ true) × (list_all is_in_range threads ≡ true)
+plain_threads cpus threads all = (
+  all_weaker (is_thread cpus) (is_plain cpus) (λ spec good. (thread_parts cpus spec good).0) threads all,
+  all_weaker (is_thread cpus) is_in_range (λ spec good. (thread_parts cpus spec good).1) threads all,
+)
 
 -- what was read is spelled by the bytes
-pub found_setup : (bytes : List ℕ) (s : Setup) (rest after commands : List Line) (script : List Command) (over : List Line) → length bytes ≤ 1048576 → s.settings ≡ default_settings → s.cpus ≡ 1 → s.unborn ≡ [] → s.turns ≡ [] → s.scripts ≡ one_script script → s.jitter < 2 ^ 32 → cut bytes ≡ head_lines s.jitter rest → TakesThreads rest s.threads after → after ≡ script_line 0 ∷ commands → TakesScript commands script over → over ≡ end_line ∷ last_piece → Spells bytes s
-found_setup bytes s rest after commands script over limit settings one unborn turns scripts fits e takes begins script_taken ends =
-    let plain = plain_threads s.threads takes.begins.each in
+pub found_setup : (bytes : List ℕ) (s : Setup) (rest after over : List Line) → length bytes ≤ 1048576 → s.settings ≡ default_settings → s.unborn ≡ [] → s.turns ≡ [] → s.jitter < 2 ^ 32 → 1 ≤ s.cpus → s.cpus ≤ 16 → cut bytes ≡ head_lines s.jitter s.cpus rest → TakesThreads s.cpus rest s.threads after → TakesScripts (ids_of s.threads) s.cpus s.cpus after s.scripts over → over ≡ end_line ∷ last_piece → Spells bytes s
+found_setup bytes s rest after over limit settings unborn turns fits some few e takes taken ends =
+    let plain = plain_threads s.cpus s.threads takes.begins.each in
     record {
-      spelled = spelled bytes s.jitter rest s.threads after commands script over e takes begins script_taken ends ∙ ap text (sym (lines_of-form s script one scripts));
+      spelled = spelled bytes s.jitter s.cpus rest fits few e s.threads after takes s.scripts over taken ends;
       limit = limit;
       form = record {
         settings = settings;
-        cpus = one;
         threads = plain.0;
         unborn = unborn;
-        script = (script, scripts, script_taken.begins.each);
+        scripts = built_scripts s.cpus s.threads s.scripts some few taken.number taken.others taken.allowed;
+        ticks = few_ticks s.cpus s.threads s.scripts some few taken.number taken.others taken.allowed;
         turns = turns;
       };
       jitter = fits;
@@ -294,11 +230,6 @@ found_setup bytes s rest after commands script over limit settings one unborn tu
     }
 
 -- and keeps the rules
-pub found_rules : (groups : List GroupLine) (threads : List ThreadSpec) (unborn : List ℕ) (scripts : List (List Command)) (turns : List ℕ) (rest after commands : List Line) (script : List Command) (over : List Line) → groups ≡ [] → unborn ≡ [] → turns ≡ [] → scripts ≡ one_script script → TakesThreads rest threads after → TakesScript commands script over → IsTrue (keeps_rules default_settings 1 groups threads unborn scripts turns)
-found_rules groups threads unborn scripts turns rest after commands script over no_groups no_unborn no_turns one takes script_taken =
-    rw (no_groups, no_unborn, no_turns, one) (rules_of_form threads script takes.begins.each takes.distinct script_taken.begins.each script_taken.budget)
-
--- what a section's refusal says of the bytes
-pub cause_from : (bytes : List ℕ) (cause : Type 0) (e : ScenarioFault) → RefusedOnlyIf cause e → (cause → (t : Setup) → Spells bytes t → ⊥) → IsCause bytes e
-cause_from bytes cause (Refused line reason detail) said none = (said.0, said.1, said.2, none said.3)
-cause_from bytes cause Memory said none = tt
+pub found_rules : (cpus : ℕ) (groups : List GroupLine) (threads : List ThreadSpec) (unborn : List ℕ) (scripts : List (List Command)) (turns : List ℕ) (rest after over : List Line) → groups ≡ [] → unborn ≡ [] → turns ≡ [] → 1 ≤ cpus → cpus ≤ 16 → TakesThreads cpus rest threads after → TakesScripts (ids_of threads) cpus cpus after scripts over → IsTrue (keeps_rules default_settings cpus groups threads unborn scripts turns)
+found_rules cpus groups threads unborn scripts turns rest after over no_groups no_unborn no_turns some few takes taken =
+    rw (no_groups, no_unborn, no_turns) (rules_of_form cpus threads scripts some few taken.number taken.others taken.allowed takes.begins.each takes.distinct)

@@ -1,10 +1,10 @@
 -- Scenario text: the lines of a setup, each a list of words, and the bytes that spell it.
-use Rattle.std.specs.Prelude.{◌≡◌, ℕ, ◌+◌, ◌^◌, ◌<◌, ◌≤◌, ℤ, pos, negsuc, nat_lt, nat_le, Bool, true, false, ◌&&◌, List, [], ◌∷◌, ◌++◌, length, map, take, codes, IsTrue}
+use Rattle.std.specs.Prelude.{◌≡◌, ℕ, ◌+◌, ◌^◌, ◌<◌, ◌≤◌, nat_lt, Bool, true, false, List, [], ◌∷◌, ◌++◌, length, map, take, codes, IsTrue}
 use Rattle.std.specs.List.{flat_map, list_all, join_with_byte}
 use Rattle.std.specs.Fmt.{decimal, signed_decimal}
 use Rattle.ule_types.specs.Form.{IsOfForm}
 use Rattle.ule_types.specs.declared.command.Command.{Command}
-use Rattle.ule_types.specs.declared.command.Command.TheVariants.{Yield}
+use Rattle.ule_types.specs.declared.command.Command.TheVariants.{Tick, Time, Yield, Resched, Sleep, Wake}
 use Rattle.ule_types.specs.declared.fault.ScenarioFault.{ScenarioFault}
 use Rattle.ule_types.specs.declared.fault.ScenarioFault.TheVariants.{Refused, Memory}
 use Rattle.ule_types.specs.declared.setup.Form.{Form}
@@ -46,7 +46,12 @@ abbrev pub script_line : ℕ → Line
 script_line worker = codes "script" ∷ decimal worker ∷ []
 
 abbrev pub command_line : Command → Line
+command_line Tick = codes "tick" ∷ []
+command_line (Time k) = codes "time" ∷ decimal k ∷ []
 command_line Yield = codes "yield" ∷ []
+command_line Resched = codes "resched" ∷ []
+command_line (Sleep channel) = codes "sleep" ∷ decimal channel ∷ []
+command_line (Wake t) = codes "wake" ∷ decimal t ∷ []
 command_line _ = []
 
 -- the scripts of the workers from this one on, each below its line
@@ -67,19 +72,9 @@ lines_of s =
 abbrev pub text : List Line → List ℕ
 text lines = flat_map (λ line. join_with_byte 32 line ++ 10 ∷ []) lines
 
--- whether a nice value is one of -20..20
-abbrev pub is_nice : ℤ → Bool
-is_nice (pos n) = nat_le n 20
-is_nice (negsuc n) = nat_lt n 20
-
--- whether the nice value of a timeshare thread is in range
-abbrev pub has_nice : Form → Bool
-has_nice (Ts n) = is_nice n
-has_nice _ = true
-
--- whether a thread's number is one of 0..255, and its nice value in range
+-- whether a thread's number is one of 0..255
 abbrev pub is_in_range : ThreadSpec → Bool
-is_in_range spec = nat_lt spec.id 256 && has_nice spec.form
+is_in_range spec = nat_lt spec.id 256
 
 -- the bytes are the text of a setup of the form so far, 1,048,576 of them at most, and its numbers are in range
 pub record Spells (bytes : List ℕ) (s : Setup) : Type 0 where

@@ -1,9 +1,10 @@
 //! How bytes are cut: a text into lines, and a line into words.
 
-ghost use Rattle.std.specs.Prelude.{◌≡◌, ◌≢◌, ℕ, ◌<◌, ◌≤◌, ℤ, ◌==◌, List, [], ◌∷◌, length, position, IfSome, IfNone, IsTrue, ◌↔◌};
+ghost use Rattle.std.specs.Prelude.{◌≡◌, ◌≢◌, ℕ, ◌<◌, ◌≤◌, ℤ, ◌==◌, Bool, List, [], ◌∷◌, length, position, IfSome, IfNone, IsTrue, ◌↔◌};
 ghost use Rattle.std.specs.List.{slice_split};
 ghost use Rattle.std.specs.Fmt.{decimal, signed_decimal};
-ghost use Rattle.ule_scenario.specs.Scenario.{Word, is_nice};
+ghost use Rattle.ule_types.specs.Rules.{is_nice};
+ghost use Rattle.ule_scenario.specs.Scenario.{Word, bound_words};
 ghost use Rattle.ule_scenario.specs.Cut.{words_of, cut};
 
 use crate::number::{nice_value, number};
@@ -114,5 +115,22 @@ impl<'a> Words<'a> {
         let (next, words) = self.next()?;
         let n = nice_value(next)?;
         Some((n, words))
+    }
+
+    /// Whether the words are the one word `bound`, or none; absent where they are others.
+    pub(crate) fn bound(&self) -> Option<bool>
+        ensures found { IfSome result (λ bound. self.now ≡ bound_words bound) }
+        ensures none { IfNone result ((bound : Bool) → self.now ≢ bound_words bound) }
+    {
+        match self.next() {
+            None => Some(false),
+            Some((next, words)) => {
+                if next == b"bound".as_slice() && words.is_end() {
+                    Some(true)
+                } else {
+                    None
+                }
+            }
+        }
     }
 }

@@ -5,9 +5,7 @@ ghost use Rattle.std.specs.Prelude.{◌≤◌, length, IfOk, IfErr};
 ghost use Rattle.ule_types.specs.declared.setup.Setup.{Setup};
 ghost use Rattle.ule_scenario.specs.Scenario.{Spells, IsSame, IsCause};
 
-use crate::section::{
-    REFUSED, after_script_line, is_last_line, read_head, read_script, read_threads,
-};
+use crate::section::{REFUSED, is_last_line, read_head, read_scripts, read_threads};
 use std::alloc::Global;
 use ule_score::Settings;
 use ule_types::{Groups, ScenarioFault, Setup, Turns, Unborn};
@@ -51,14 +49,11 @@ fn read_within(alloc: Global, bytes: &[u8]) -> Result<Setup, ScenarioFault>
     ensures ok { IfOk result (λ s. Spells bytes.now s) }
     ensures refused { IfErr result (λ e. IsCause bytes.now e) }
 {
-    let Some((jitter, text)) = read_head(bytes) else {
+    let Some((jitter, cpus, text)) = read_head(bytes) else {
         return Err(REFUSED);
     };
-    let (threads, text) = read_threads(alloc, text)?;
-    let Some(text) = after_script_line(text) else {
-        return Err(REFUSED);
-    };
-    let (scripts, text) = read_script(alloc, text)?;
+    let (threads, text) = read_threads(alloc, text, cpus)?;
+    let (scripts, text) = read_scripts(alloc, text, cpus, threads.as_slice())?;
     if !is_last_line(text) {
         return Err(REFUSED);
     }
@@ -74,7 +69,7 @@ fn read_within(alloc: Global, bytes: &[u8]) -> Result<Setup, ScenarioFault>
     Ok(Setup {
         settings: DEFAULT_SETTINGS,
         jitter,
-        cpus: 1,
+        cpus,
         groups,
         threads,
         unborn,

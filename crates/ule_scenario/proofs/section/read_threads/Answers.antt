@@ -12,7 +12,7 @@ pub returns-then-is_declared-clause-refused : goal.returns-then-is_declared-clau
 returns-then-is_declared-clause-refused c =
     let threads = c.loop-spec.threads in
     let some = ap (λ (specs : List ThreadSpec). list_any (λ other. other.id == c.in-Some.spec.id) specs) (sym c.as_slice.ensures) ∙ sym c.is_declared.ensures ∙ c.if-is_declared.true in
-    (refl, refl, refl, repeats_more _ threads c.in-Some.spec _ (cut c.in-Some.after.now) c.loop-spec.invariant.begins c.in-Some.ensures.found c.in-Some.ensures.within some)
+    (refl, refl, refl, repeats_more c.args.cpus _ threads c.in-Some.spec _ (cut c.in-Some.after.now) c.loop-spec.invariant.begins c.in-Some.ensures.found c.in-Some.ensures.within some)
 
 pub loop-spec-preserved : goal.loop-spec-preserved
 loop-spec-preserved c =
@@ -21,7 +21,7 @@ loop-spec-preserved c =
     let none = ap (λ (specs : List ThreadSpec). list_any (λ other. other.id == spec.id) specs) (sym c.as_slice.ensures) ∙ sym c.is_declared.ensures ∙ c.if-is_declared.false in
     let pushed : c.push.new.self ≡ threads ++ spec ∷ [] = search rules in
     record {
-      begins = rw pushed (begins_more is_thread thread_line _ threads spec _ (cut c.in-Some.after.now) c.loop-spec.invariant.begins c.in-Some.ensures.found c.in-Some.ensures.within);
+      begins = rw pushed (begins_more (is_thread c.args.cpus) thread_line _ threads spec _ (cut c.in-Some.after.now) c.loop-spec.invariant.begins c.in-Some.ensures.found c.in-Some.ensures.within);
       distinct = rw pushed (distinct_more threads spec c.loop-spec.invariant.distinct none);
       room = rw pushed (omega (arith, length_push threads spec, c.in-Some.ensures.shorter, c.loop-spec.invariant.room));
     }

@@ -8,7 +8,7 @@ use Rattle.ule_scenario.proofs.section.read_threads.Given as goal
 -- the threads so far, of which no two have one number, and room for one from each byte that is left
 abbrev pub invariant-loop-spec : goal.invariant-loop-spec
 invariant-loop-spec l = record {
-  begins : Begins is_thread thread_line (cut l.text) l.threads (cut l.rest);
+  begins : Begins (is_thread l.cpus) thread_line (cut l.text) l.threads (cut l.rest);
   distinct : IsTrue (is_distinct (ids_of l.threads));
   room : length l.threads + length l.rest ≤ 1048576;
 }
