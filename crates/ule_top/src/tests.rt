@@ -17,6 +17,29 @@ const ONE_THREAD: &[u8] = b"ule-scenario 1\njitter 1\ncpus 1\nthread 0 ts 0 0\ns
 const STAYS_QUEUED: &[u8] =
     b"ule-trace 1\nt 0 q0.batch.17.0 ts 0 172 - 172 0 0 0 20000 20000 0 0 0 20000 - - 0\nc 0 0 0 0 0 0 0 64\nnow 20000\ndone 0\n";
 
+/// One CPU and no thread, with a worker that lets a tick come and yields.
+const TICK_AND_YIELD: &[u8] = b"ule-scenario 1\njitter 1\ncpus 1\nscript 0\ntick\nyield\nend\n";
+
+/// The trace in which the calendar turned.
+const TURNED: &[u8] =
+    b"ule-trace 1\n1 w0 20000 tick 0 -> ticked - 0 0\n2 w0 20000 switch 0 yield -> nothing\nc 0 1 1 0 0 0 0 63\nnow 20000\ndone 2\n";
+
+/// One CPU and a thread that runs, sleeps for a second and is woken.
+const SLEEP_AND_WAKE: &[u8] =
+    b"ule-scenario 1\njitter 1\ncpus 1\nthread 0 ts 0 0\nscript 0\nyield\ntick\nsleep 3\ntime 1000\nwake 0\nend\n";
+
+/// The trace of the thread, which is interactive when it lands.
+const LANDS_INTERACTIVE: &[u8] =
+    b"ule-trace 1\n1 w0 20000 switch 0 yield -> switched - 0 0\n2 w0 20000 tick 0 -> ticked 0 0 0\n3 w0 20000 drop 0 3 -> dropped 0 -\n4 w0 20000 bed 0 3 -> bedded\n5 w0 21000 wake 0 -> woken 120 - 0 20000\n6 w0 21000 land 0 0 -> landed real 30 1\nt 0 q0.real.30.0 ts 0 120 - 120 8062 1024000 0 21000 20000 0 0 0 20000 - - 0\nc 0 1 1 1 0 2 0 63\nnow 21000\ndone 6\n";
+
+/// Two CPUs, and a worker that seeks a thread while it is in the other worker's hand.
+const TWO_WORKERS: &[u8] =
+    b"ule-scenario 1\njitter 1\ncpus 2\nthread 0 ts 0 0 bound\nscript 0\nyield\nsleep 3\nscript 1\ntime 1\nwake 0\nend\n";
+
+/// The trace of the two workers: worker 1 lost its turn of the second round.
+const TURN_LOST: &[u8] =
+    b"ule-trace 1\n1 w0 20000 switch 0 yield -> switched - 0 0\n2 w0 20001 drop 0 3 -> dropped 0 -\n3 w0 20001 bed 0 3 -> bedded\n4 w1 20001 wake 0 -> woken 172 0 0 20001\n5 w1 20001 land 0 0 -> landed batch 17 1\nt 0 q0.batch.17.0 ts 0 172 - 172 0 0 1024 20001 20000 0 0 0 20001 0 - 0\nc 0 0 0 1 0 1 0 64\nc 1 0 0 0 0 0 0 0\nnow 20001\ndone 5\n";
+
 /// The status that `top` gives for these words.
 fn status(
     alloc: Global,
@@ -33,14 +56,17 @@ fn status(
 
 #[test]
 fn run_writes_a_trace_or_a_refusal(rt: HostRuntime) -> Result<(), Fail> {
-    let cases: [(&[u8], u8, &[u8]); 3] = [
+    let cases: [(&[u8], u8, &[u8]); 6] = [
         (TWO_YIELDS, 0, NOTHING_RAN),
         (ONE_THREAD, 0, STAYS_QUEUED),
+        (TICK_AND_YIELD, 0, TURNED),
+        (SLEEP_AND_WAKE, 0, LANDS_INTERACTIVE),
+        (TWO_WORKERS, 0, TURN_LOST),
         (b"", 3, b"refused 0 0 0\n"),
     ];
     for (input, want, text) in cases {
         let mut src = MemSource::start(rt.alloc(), input, 7, &[])?;
-        let mut out = MemSink::start(rt.alloc(), 200, 5, &[])?;
+        let mut out = MemSink::start(rt.alloc(), 500, 5, &[])?;
         assert_eq!(rt; status(rt.alloc(), &["run"], &mut src, &mut out)?, want);
         assert!(rt; src.left().is_empty(), "the whole input is read");
         assert_eq!(rt; out.bytes(), text);
