@@ -29,7 +29,7 @@ use Rattle.ule_model.specs.World.{Member, Side, current_of, moved_to, thread_of,
 use Rattle.ule_laws.proofs.Buckets.{empty_shown, shows-changed_out}
 use Rattle.ule_laws.proofs.ChoosingLaws.{AreChosen, choosing_stands, chosen_index, recorded_stands}
 use Rattle.ule_laws.proofs.CpuLaws.{AreSwitched, IsJoined, StandsBeside, beside_load, beside_off, inserted_stands, off_out, ordinary_bucket_small, with_line_stands, running_out}
-use Rattle.ule_laws.proofs.RecordLaws.{after_tick_id, after_tick_within}
+use Rattle.ule_members.proofs.RecordLaws.{after_tick_id, after_tick_within}
 use Rattle.ule_laws.proofs.WellMade.{well_made-with_record, well_made_off}
 use Rattle.ule_members.proofs.Loads.{load-changed}
 use Rattle.ule_members.proofs.Threads.{current_of-changed, current_runs, thread_of-changed, thread_on-changed, thread_on-changed_other, thread_on_within, within_current}

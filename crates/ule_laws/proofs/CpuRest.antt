@@ -24,7 +24,7 @@ use Rattle.ule_model.specs.Tick.{after_tick, clocked, is_due, load_of, ticked, t
 use Rattle.ule_model.specs.World.{Member, Side, World, current_of, is_thread, moved_to, side_of, thread_of, with_record, with_side}
 use Rattle.ule_model.specs.WorldValue.{held_member}
 use Rattle.ule_laws.proofs.Elsewhere.{AllStay, AreAt, IsMoved, IsOff, IsOn, IsSideOn, Stays, are_at_stay, choosing_moves, off_other, off_stands, queued_rest, side_elsewhere, stay_along, stay_further, stay_moved, stay_queued, stay_recorded, stay_same, stays_number, together_made}
-use Rattle.ule_laws.proofs.RecordLaws.{after_tick_id}
+use Rattle.ule_members.proofs.RecordLaws.{after_tick_id}
 use Rattle.ule_laws.proofs.WellMade.{apart_off, well_made_off}
 use Rattle.ule_members.proofs.Membership.{has_thread_of, has_within, same_from_number}
 use Rattle.ule_members.proofs.Threads.{changed_further, current_runs, thread_of-changed_apart, thread_of-changed_same, thread_of-queued_other, thread_of_within, within_current}

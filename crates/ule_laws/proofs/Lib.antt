@@ -8,7 +8,6 @@ pub mod Positions
 pub mod ChoosingLaws
 pub mod CpuLaws
 pub mod Elsewhere
-pub mod RecordLaws
 pub mod CpuEvents
 pub mod CpuRest
 pub mod ValueLaws

@@ -27,7 +27,7 @@ use Rattle.ule_laws.proofs.CpuRest.{moved_off, moved_off_alone, moved_off_made, 
 use Rattle.ule_laws.proofs.Elsewhere.{IsOn}
 use Rattle.ule_laws.proofs.FinalLaws.{place_among_is, places_told}
 use Rattle.ule_laws.proofs.LookUps.{one_asleep, sleeper_shown, thread_on_none, thread_on_off, told_off, told_on}
-use Rattle.ule_laws.proofs.RecordLaws.{after_sleep_id, after_sleep_within}
+use Rattle.ule_members.proofs.RecordLaws.{after_sleep_id, after_sleep_within}
 use Rattle.ule_laws.proofs.ValueLaws.{MovesOne, ShowsThreads, asleep_shown, hand_emptied, hand_filled, held_shown, one_place, stays_same, threads_move, threads_shown}
 use Rattle.ule_laws.proofs.WorldLaws.{Agree}
 use Rattle.ule_members.proofs.Lists.{slice_get-set_other, slice_get-set_same}

@@ -26,7 +26,8 @@ use Rattle.ule_model.specs.World.{Member, Side, World, current_of, moved_to, sid
 use Rattle.ule_members.proofs.Membership.{Has, has_filtered, has_thread_of}
 use Rattle.ule_rounds.proofs.Numbers.{placed, recorded, found_again, found_by_number, thread_of-change, thread_of-change_other}
 use Rattle.ule_rounds.proofs.Orderly.{put_by, put_by_first}
-use Rattle.ule_rounds.proofs.StepKeeps.{AreDistinct, distinct_kept, given_way_keeps, taken_keeps, ticked_number, woken_number}
+use Rattle.ule_rounds.proofs.StepKeeps.{AreDistinct, distinct_kept, given_way_keeps, taken_keeps}
+use Rattle.ule_members.proofs.RecordLaws.{after_sleep_id, after_tick_id}
 
 -- ---- one thread changed
 
@@ -176,7 +177,7 @@ ticked_hands c now s = at_current (current_of c s.members)
     at_current : (o : Option Member) → SameHands s.members (ticked_with o (load_of c s.members) (is_due c s.line.balance) now (clocked c s)).0.members
     at_current None u = refl
     at_current (Some m) u =
-        record_hands m.thread.id (λ r. (after_tick s.settings now (load_of c s.members) r).0) s.members (ticked_number s.settings now (load_of c s.members)) u
+        record_hands m.thread.id (λ r. (after_tick s.settings now (load_of c s.members) r).0) s.members (after_tick_id s.settings now (load_of c s.members)) u
 
 -- a switch does nothing
 pub switched_hands : (c : ℕ) (why : Why) (now : ℕ) (s : Side) → AreDistinct s.members → SameHands s.members (switched c why now s).0.members
@@ -243,8 +244,8 @@ woken_hands t worker now settings ms = at_thread (thread_of t ms) refl
         let own : thread_of m.thread.id ms ≡ Some m = subst (λ v. thread_of v ms ≡ Some m) (sym is) found in
         subst (λ v. HandsMove worker ms (woken_at (Asleep channel) worker now settings m ms).0 None (Some v)) is
         (fills m.thread.id refl refl (ap hand_in own ∙ ap hand_of place)
-        (moved_hand m.thread.id (Hand worker) (pos 0) (recorded (after_sleep settings now) m) noted (thread_of-change m.thread.id (recorded (after_sleep settings now)) ms (λ n. woken_number settings now n.thread) ∙ ap (option_map (recorded (after_sleep settings now))) own))
-        (λ v other. moved_others m.thread.id (Hand worker) (pos 0) noted v other ∙ record_hands m.thread.id (after_sleep settings now) ms (woken_number settings now) v))
+        (moved_hand m.thread.id (Hand worker) (pos 0) (recorded (after_sleep settings now) m) noted (thread_of-change m.thread.id (recorded (after_sleep settings now)) ms (λ n. after_sleep_id settings now n.thread) ∙ ap (option_map (recorded (after_sleep settings now))) own))
+        (λ v other. moved_others m.thread.id (Hand worker) (pos 0) noted v other ∙ record_hands m.thread.id (after_sleep settings now) ms (after_sleep_id settings now) v))
 
     at_place : (m : Member) → thread_of t ms ≡ Some m → (place : Place) → m.place ≡ place → HandsMove worker ms (woken_at place worker now settings m ms).0 None (put_by_first (following (event.Wake t) (woken_at place worker now settings m ms).1))
     at_place m found (Asleep channel) is = asleep m channel t is (has_thread_of t m ms found).1 found

@@ -1,13 +1,6 @@
 -- What each event keeps of the threads: that which each change of a record and each move keeps.
-use Rattle.std.proofs.Common.{◌≡◌, ℕ, ◌-◌, ◌*◌, ◌==◌, ℤ, pos, Bool, true, false, List, length, Option, Some, None, if◌then◌else◌, refl, sym, ◌∙◌, subst}
-use Rattle.std.proofs.lemmas.Bool.{cond_both}
+use Rattle.std.proofs.Common.{◌≡◌, ℕ, ℤ, pos, Bool, true, false, List, length, Option, Some, None, if◌then◌else◌, refl, sym, subst}
 use Rattle.std.proofs.lemmas.List.{length-set}
-use Rattle.ule_prio.specs.declared.class.Class.{Class}
-use Rattle.ule_prio.specs.declared.class.Class.TheVariants.{Ts, Ithd, Rt, Fifo}
-use Rattle.ule_prio.specs.declared.class.Class.TheVariants as class
-use Rattle.ule_history.specs.CpuUseUpdate.{updated_use}
-use Rattle.ule_history.specs.HistoryUpdate.{charged_history, rested_history}
-use Rattle.ule_score.specs.Bounds.{with_history, with_use}
 use Rattle.ule_score.specs.declared.place.Place.{Place}
 use Rattle.ule_score.specs.declared.place.Place.TheVariants.{Running, Queued, Asleep, Unborn, Gone, Hand}
 use Rattle.ule_score.specs.declared.record.Settings.{Settings}
@@ -23,11 +16,12 @@ use Rattle.ule_model.specs.declared.insertion.Insertion.TheVariants.{Ordinary}
 use Rattle.ule_model.specs.Insertion.{order_of_insertion, place_of_insertion, queued, with_queued}
 use Rattle.ule_model.specs.Landing.{landed, landed_with, placed_on}
 use Rattle.ule_model.specs.Shows.{ids_of}
-use Rattle.ule_model.specs.Sleep.{after_sleep, before_sleep, dropped, dropped_with, rested, taken, woken, woken_at, woken_with}
+use Rattle.ule_model.specs.Sleep.{after_sleep, before_sleep, dropped, dropped_with, taken, woken, woken_at, woken_with}
 use Rattle.ule_model.specs.Step.{step}
 use Rattle.ule_model.specs.Switch.{after_running, before_running, choosing_next, counted, given_way, insertion_of, is_preemption, is_unasked, running_chosen, switched, switched_from, unmarked}
-use Rattle.ule_model.specs.Tick.{after_tick, charged_in, clocked, is_due, load_of, rebased, rebased_in, tick_length, ticked, ticked_with}
+use Rattle.ule_model.specs.Tick.{after_tick, clocked, is_due, load_of, ticked, ticked_with}
 use Rattle.ule_model.specs.World.{Member, Side, World, current_of, moved_to, side_of, thread_of, with_record}
+use Rattle.ule_members.proofs.RecordLaws.{after_sleep_id, after_tick_id}
 use Rattle.ule_rounds.proofs.Numbers.{ids_of-changed, placed, recorded}
 
 -- ---- what the parts of an event keep
@@ -162,47 +156,15 @@ step_count w worker _ now = refl
 
 -- ---- the numbers
 
--- a record with its base priority computed anew is that of the same thread
-pub rebased_number : (settings : Settings) (r : ThreadRecord) → (rebased settings r).id ≡ r.id
-rebased_number settings r = of_class r.class
-  where
-    of_class : (k : Class) → (rebased_in k settings r).id ≡ r.id
-    of_class Ts = refl
-    of_class Ithd = refl
-    of_class Rt = refl
-    of_class Fifo = refl
-    of_class class.Idle = refl
-
--- so is one after a tick
-pub ticked_number : (settings : Settings) (now load : ℕ) (r : ThreadRecord) → (after_tick settings now load r).0.id ≡ r.id
-ticked_number settings now load r = charged r.class
-  where
-    charged : (k : Class) → (charged_in k settings load (with_use r (updated_use r.usage now true))).0.id ≡ r.id
-    charged Ts = rebased_number settings (with_history (with_use r (updated_use r.usage now true)) (charged_history r.hist tick_length))
-    charged Ithd = refl
-    charged Rt = refl
-    charged Fifo = refl
-    charged class.Idle = refl
-
--- so is one that rested
-pub rested_number : (now : ℕ) (r : ThreadRecord) → (rested now r).id ≡ r.id
-rested_number now r =
-    cond_both (now == r.slept_at) r (with_use (with_history r (rested_history r.hist (1024 * (now - r.slept_at)))) (updated_use r.usage now false)) (λ q. q.id ≡ r.id) (λ is. refl) (λ is. refl)
-
--- and one that was woken
-pub woken_number : (settings : Settings) (now : ℕ) (r : ThreadRecord) → (after_sleep settings now r).id ≡ r.id
-woken_number settings now r =
-    rebased_number settings (record (rested now r) { slice_count = 0; slept_at = 0 }) ∙ rested_number now r
-
 -- what holds of the threads' numbers is kept
 pub numbers_kept : (settings : Settings) (now : ℕ) (P : List ℕ → Type 0) → IsKept settings now (λ ms. P (ids_of ms))
 numbers_kept settings now P = record {
   moves = λ t place order ms holds. subst P (sym (ids_of-changed t (placed place order) ms (λ m. refl))) holds;
-  ticks = λ t load ms holds. changed_record t (λ r. (after_tick settings now load r).0) ms (ticked_number settings now load) holds;
+  ticks = λ t load ms holds. changed_record t (λ r. (after_tick settings now load r).0) ms (after_tick_id settings now load) holds;
   ran = λ t ms holds. changed_record t (after_running now) ms (λ r. refl) holds;
   runs = λ t ms holds. changed_record t (before_running now) ms (λ r. refl) holds;
   sleeps = λ t ms holds. changed_record t (before_sleep now) ms (λ r. refl) holds;
-  wakes = λ t ms holds. changed_record t (after_sleep settings now) ms (woken_number settings now) holds;
+  wakes = λ t ms holds. changed_record t (after_sleep settings now) ms (after_sleep_id settings now) holds;
   lands = λ t c ms holds. changed_record t (placed_on c) ms (λ r. refl) holds;
 }
   where
