@@ -1,9 +1,9 @@
 -- From what each part comes to, the answer of the whole.
-use Rattle.std.proofs.Common.{◌≡◌, ◌≢◌, ℕ, ◌<◌, List, [], ◌∷◌, map, length, get_or, Option, Some, None, Result, Ok, Err, ◌⊎◌, inl, inr, ⊎_elim, refl, sym, ◌∙◌, ap, subst, arith}
+use Rattle.std.proofs.Common.{◌≡◌, ℕ, List, [], ◌∷◌, map, length, get_or, Option, Some, None, Ok, Err, ◌⊎◌, inl, inr, ⊎_elim, refl, sym, ◌∙◌, ap, arith}
 use Rattle.std.specs.List.{AllByRecursion, cons_option, filter_map, range_with_len}
 use Rattle.std.specs.Option.{option_map}
 use Rattle.ule_io.specs.Counter.{Rose}
-use Rattle.ule_io.specs.Sink.{Appends, SinkState, WroteWhole}
+use Rattle.ule_io.specs.Sink.{SinkState, WroteWhole}
 use Rattle.ule_io.specs.Source.{ReadsWhole, SourceState}
 use Rattle.ule_io.specs.declared.writing.WriteFault.{WriteFault}
 use Rattle.ule_io.specs.declared.writing.WriteFault.TheVariants.{Failed, TookNothing}
@@ -12,15 +12,14 @@ use Rattle.ule_model.specs.Places.{lock_of}
 use Rattle.ule_model.specs.Rounds.{play_of}
 use Rattle.ule_model.specs.World.{Member, thread_of}
 use Rattle.ule_rounds.proofs.HistoryLaws.{history_of_rounds}
-use Rattle.ule_scenario.specs.Scenario.{Spells}
 use Rattle.ule_score.specs.declared.record.CpuLine.{CpuLine}
-use Rattle.ule_seq.specs.Outcomes.{HasLines, IsOutcomeOf}
+use Rattle.ule_seq.specs.Outcomes.{IsOutcomeOf}
 use Rattle.ule_trace.specs.Trace.{trace_text}
 use Rattle.ule_types.specs.Outcome.{OutcomeValue}
 use Rattle.ule_types.specs.declared.event.Entry.{Entry}
 use Rattle.ule_types.specs.declared.outcome.ThreadLine.{ThreadLine}
 use Rattle.ule_types.specs.declared.setup.Setup.{Setup}
-use Rattle.ule_top.specs.Run.{Answers, AnswersInput, AnswersRefusal, AnswersSetup, HasRun, IsRefused, SpellsNone, TookFront, Wrote, no_memory, outcome_of, refused, refusal_text, run_words, scenario_limit, traced}
+use Rattle.ule_top.specs.Run.{Answers, AnswersInput, HasRun, IsRefused, TookFront, Wrote, no_memory, outcome_of, refused, refusal_text, run_words, scenario_limit, traced}
 
 -- ---- the text of an outcome
 

@@ -3,7 +3,7 @@
 #![tactic(auto, using(ule_io::proofs::Written::writes))]
 
 pub use command::top;
-pub use example::one_yield_is_traced;
+pub use example::{lost_turn_is_traced, one_yield_is_traced};
 
 pub mod command;
 pub mod example;
