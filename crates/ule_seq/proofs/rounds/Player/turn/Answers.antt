@@ -1,6 +1,6 @@
 -- A turn with no further item changes nothing; any other is the turn of the item that the worker's
 -- course gives.
-use Rattle.std.proofs.Common.{◌≡◌, length, Some, sym, ◌∙◌, ap, subst, arith}
+use Rattle.std.proofs.Common.{length, Some, sym, ◌∙◌, ap, subst, arith}
 use Rattle.ule_types.specs.declared.event.Item.{Item}
 use Rattle.ule_seq.specs.Playing.{IsPlay, PlayerValue, course_at}
 use Rattle.ule_seq.proofs.PlayLaws.{advance_fits, can_attempt, course_read, courses_count, has_room, turn_advanced, turn_attempted, turn_ended}

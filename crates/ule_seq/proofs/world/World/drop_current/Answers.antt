@@ -1,5 +1,5 @@
 -- The current thread of the CPU that the event names left to the hand, or there was none.
-use Rattle.std.proofs.Common.{◌≡◌, ◌<◌, length, Some, IsTrue, sym, ◌∙◌, ap, subst}
+use Rattle.std.proofs.Common.{◌<◌, length, IsTrue, sym, ◌∙◌, ap, subst}
 use Rattle.std.specs.Prelude.{nat_lt, slice_get}
 use Rattle.std.specs.Option.{option_map}
 use Rattle.std.proofs.lemmas.Bool.{ltb-true}

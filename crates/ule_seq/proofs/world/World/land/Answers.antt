@@ -1,5 +1,5 @@
 -- The hand's thread came to the CPU that the event names.
-use Rattle.std.proofs.Common.{◌≡◌, ◌<◌, ◌==◌, ℕ, length, not, Some, IsTrue, sym, ◌∙◌, ap, subst}
+use Rattle.std.proofs.Common.{◌<◌, ◌==◌, ℕ, length, not, IsTrue, sym, ◌∙◌, ap, subst}
 use Rattle.std.specs.Prelude.{nat_lt, slice_get}
 use Rattle.std.proofs.lemmas.Bool.{ltb-true}
 use Rattle.ule_model.specs.CpuValue.{value_added}
