@@ -1,10 +1,10 @@
 -- The world at the start: fresh CPUs, on which the declared threads are laid one after another.
-use Rattle.std.proofs.Common.{◌≡◌, ℕ, ◌+◌, ◌%◌, ◌^◌, ◌<◌, ◌≤◌, Bool, true, false, ◌&&◌, ◌==◌, List, [], ◌∷◌, ◌++◌, length, map, fold, take, Option, Some, None, IfSome, slice_get, refl, sym, ◌∙◌, ap, subst, ⊎_elim, nat_lt, arith}
+use Rattle.std.proofs.Common.{◌≡◌, ℕ, ◌+◌, ◌%◌, ◌^◌, ◌<◌, ◌≤◌, Bool, true, false, ◌&&◌, List, [], ◌∷◌, ◌++◌, length, map, fold, take, Option, Some, None, IfSome, slice_get, refl, sym, ◌∙◌, ap, subst, ⊎_elim, nat_lt, arith}
 use Rattle.std.proofs.lemmas.List.{length-set, length_push}
 use Rattle.std.proofs.lemmas.Option.{get_or_from_slice_get, none-some, slice_get_cases, slice_get_within}
 use Rattle.std.proofs.lemmas.List.Sums.{AllPass-from_list_all, fold_more}
-use Rattle.std.proofs.lemmas.Bool.{ltb-true}
-use Rattle.std.specs.List.{AllByRecursion, list_all}
+use Rattle.std.proofs.lemmas.Bool.{and_parts, ltb-true}
+use Rattle.std.specs.List.{AllByRecursion}
 use Rattle.std.specs.Option.{option_map}
 use Rattle.ule_model.specs.CpuValue.{CpuValue, thread_in, thread_on, value_laid}
 use Rattle.ule_model.specs.Places.{is_on}
@@ -13,6 +13,7 @@ use Rattle.ule_model.specs.World.{World, is_thread, thread_of}
 use Rattle.ule_model.specs.WorldValue.{IsPart, Shows, WorldValue}
 use Rattle.ule_laws.proofs.StartLaws.{declared_distinct, empty_shows, laid_shows, new_after}
 use Rattle.ule_members.proofs.Lists.{push_each}
+use Rattle.ule_rounds.proofs.Setups.{setup_specs}
 use Rattle.ule_members.proofs.Threads.{find_nowhere, none_passes}
 use Rattle.ule_seq.specs.Outcomes.{AreFresh, laid_part, with_laid}
 use Rattle.ule_types.specs.declared.setup.ThreadSpec.{ThreadSpec}
@@ -20,8 +21,7 @@ use Rattle.ule_model.specs.CpuStart.{StartsAs}
 use Rattle.ule_score.specs.TimesharePriority.{IsNice}
 use Rattle.ule_seq.specs.Chains.{AreEmptyChains}
 use Rattle.ule_seq.specs.Hands.{AreEmptyHands}
-use Rattle.ule_types.specs.Rules.{are_settings, are_scripts, are_turns, declared_ids, is_distinct, is_form, is_spec}
-use Rattle.ule_prio.specs.Class.{is_within}
+use Rattle.ule_types.specs.Rules.{is_distinct, is_form, is_spec}
 use Rattle.ule_types.specs.declared.setup.Setup.{Setup}
 
 -- ---- fresh CPUs
@@ -59,33 +59,9 @@ absent_on v w c t u shows found none =
     (both_fail (is_thread t) (λ m. is_on u.cpu m.place) w.members (none_passes (is_thread t) w.members none)) in
     part.stands.threads t ∙ ap (option_map (λ m. m.thread)) off
 
--- ---- what the rules of a setup say of its threads
-
-and_parts : (a b : Bool) → (a && b) ≡ true → (a ≡ true) × (b ≡ true)
-and_parts true b h = (refl, h)
-and_parts false b h = cc
-
-pub record HasThreads (s : Setup) : Type 0 where
-  pub settings : are_settings s.settings ≡ true
-  pub specs : list_all (is_spec s.cpus) s.threads ≡ true
-  pub distinct : is_distinct (map (λ spec. spec.id) s.threads) ≡ true
-  pub cpus : is_within 1 16 s.cpus ≡ true
-
-rules_parts : (a b c d e f g : Bool) → (a && b && c && d && e && f && g) ≡ true → (a ≡ true) × (b ≡ true) × (d ≡ true) × (e ≡ true)
-rules_parts a b c d e f g all =
-    let six = (and_parts (a && b && c && d && e && f) g all).0 in
-    let five = (and_parts (a && b && c && d && e) f six).0 in
-    let four = and_parts (a && b && c && d) e five in
-    let three = and_parts (a && b && c) d four.0 in
-    let two = and_parts a b (and_parts (a && b) c three.0).0 in
-    (two.0, two.1, three.1, four.1)
-
--- every setup keeps this
-pub setup_threads : (s : Setup) → HasThreads s
-setup_threads s =
-    let ids = declared_ids s.threads s.unborn in
-    let parts = rules_parts (are_settings s.settings) (is_within 1 16 s.cpus) (length s.groups == 0) (list_all (is_spec s.cpus) s.threads) (is_distinct ids) (are_scripts s.cpus ids s.unborn s.scripts) (are_turns s.cpus s.turns) s.rules in
-    record { settings = parts.0; specs = parts.2; cpus = parts.1; distinct = declared_distinct s.threads s.unborn parts.3 }
+-- no number of the declared threads stands twice
+pub setup_distinct : (s : Setup) → is_distinct (map (λ spec. spec.id) s.threads) ≡ true
+setup_distinct s = declared_distinct s.threads s.unborn (setup_specs s).distinct
 
 -- ---- one thread after another
 
@@ -127,7 +103,7 @@ next_shows s v specs k spec shows distinct at within number priority nice =
 -- the CPU of a declared thread is one of the setup's
 pub spec_cpu : (s : Setup) (k : ℕ) (spec : ThreadSpec) → slice_get s.threads k ≡ Some spec → spec.cpu < s.cpus
 spec_cpu s k spec at =
-    let all = AllPass-from_list_all (is_spec s.cpus) s.threads (setup_threads s).specs k spec (slice_get_within s.threads k spec at) in
+    let all = AllPass-from_list_all (is_spec s.cpus) s.threads (setup_specs s).specs k spec (slice_get_within s.threads k spec at) in
     let this : is_spec s.cpus spec ≡ true = subst (λ (x : ThreadSpec). is_spec s.cpus x ≡ true) (get_or_from_slice_get s.threads k spec spec at) all in
     ltb-true spec.cpu s.cpus (and_parts (is_form spec.form) (nat_lt spec.cpu s.cpus) this).1
 

@@ -1,5 +1,5 @@
 -- From what each part comes to, the answer of the whole.
-use Rattle.std.proofs.Common.{◌≡◌, ℕ, List, [], ◌∷◌, map, length, get_or, Option, Some, None, Ok, Err, ◌⊎◌, inl, inr, ⊎_elim, refl, sym, ◌∙◌, ap, arith}
+use Rattle.std.proofs.Common.{◌≡◌, ◌<◌, ℕ, List, [], ◌∷◌, map, length, get_or, Option, Some, None, Ok, Err, ◌⊎◌, inl, inr, ⊎_elim, refl, sym, ◌∙◌, ap, arith}
 use Rattle.std.specs.List.{AllByRecursion, cons_option, filter_map, range_with_len}
 use Rattle.std.specs.Option.{option_map}
 use Rattle.ule_io.specs.Counter.{Rose}
@@ -19,7 +19,7 @@ use Rattle.ule_types.specs.Outcome.{OutcomeValue}
 use Rattle.ule_types.specs.declared.event.Entry.{Entry}
 use Rattle.ule_types.specs.declared.outcome.ThreadLine.{ThreadLine}
 use Rattle.ule_types.specs.declared.setup.Setup.{Setup}
-use Rattle.ule_top.specs.Run.{Answers, AnswersInput, HasRun, IsRefused, TookFront, Wrote, no_memory, outcome_of, refused, refusal_text, run_words, scenario_limit, traced}
+use Rattle.ule_top.specs.Run.{Answers, AnswersInput, AnswersRefusal, HasRun, IsRefused, SpellsNone, TookFront, Wrote, no_memory, outcome_of, refused, refusal_text, run_words, scenario_limit, traced}
 
 -- ---- the text of an outcome
 
@@ -143,6 +143,18 @@ answers_no_memory s0 s1 k0 k1 status is same read = record {
 took_front : (k0 k1 : SinkState) (text : List ℕ) (good status : ℕ) → Wrote k0 k1 text good status → status ≡ 4 → TookFront k0 k1
 took_front k0 k1 text good status w is = let parts = w.fault is in record { text = text; front = parts.0; cause = parts.1 }
 
+-- a refusal is the answer where the input spells no setup
+pub answers_refusal : (s0 s1 : SourceState) (k0 k1 : SinkState) (status : ℕ) → SpellsNone s0.left → s1.faults ≡ s0.faults → AnswersRefusal k0 k1 status → Answers run_words s0 s1 k0 k1 status
+answers_refusal s0 s1 k0 k1 status none faults w =
+    ⊎_elim
+    (λ (is : status ≡ 3). answers_refused s0 s1 k0 k1 status is (record { cause = none; written = w.whole is }) faults (w.kept (λ e. omega arith)))
+    (λ (is : status ≡ 4). answers_fault s0 s1 k0 k1 status is (took_front k0 k1 refusal_text 3 status w is) faults)
+    w.known
+
+-- an input that is too long spells none
+pub too_long_spells_none : (s0 : SourceState) → ((left : List ℕ) → s0.left ≡ Some left → scenario_limit < length left) → SpellsNone s0.left
+too_long_spells_none s0 more left told s spells = let limit = spells.limit in let longer = more left told in omega arith
+
 -- what the whole input comes to is the answer
 pub answers_input : (s0 s1 : SourceState) (k0 k1 : SinkState) (input : List ℕ) (status : ℕ) → ReadsWhole s0 s1 scenario_limit input → s1.faults ≡ s0.faults →
     AnswersInput input k0 k1 status → Answers run_words s0 s1 k0 k1 status
@@ -162,12 +174,7 @@ answers_input s0 s1 k0 k1 input status reads faults (traced s spells w) =
     (λ (is : status ≡ 4). answers_fault s0 s1 k0 k1 status is (took_front k0 k1 (trace_text (outcome_of s)) 0 status w is) faults)
     w.known
 answers_input s0 s1 k0 k1 input status reads faults (refused none w) =
-    ⊎_elim
-    (λ (is : status ≡ 3). answers_refused s0 s1 k0 k1 status is
-    (record { cause = λ left told s spells. none s (rw (reads.all left told) spells); written = w.whole is })
-    faults (w.kept (λ e. omega arith)))
-    (λ (is : status ≡ 4). answers_fault s0 s1 k0 k1 status is (took_front k0 k1 refusal_text 3 status w is) faults)
-    w.known
+    answers_refusal s0 s1 k0 k1 status (λ left told s spells. none s (rw (reads.all left told) spells)) faults w
 answers_input s0 s1 k0 k1 input status reads faults (no_memory is same) = answers_no_memory s0 s1 k0 k1 status is same faults
 
 -- a list of one item

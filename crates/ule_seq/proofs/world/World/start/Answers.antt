@@ -3,7 +3,7 @@ use Rattle.std.proofs.lemmas.Option.{slice_get_read}
 use Rattle.ule_model.specs.WorldValue.{WorldValue}
 use Rattle.ule_types.specs.Rules.{is_distinct}
 use Rattle.ule_types.specs.declared.setup.ThreadSpec.{ThreadSpec}
-use Rattle.ule_seq.proofs.Starting.{fresh_shows, laid_rest, next_absent, next_shows, setup_threads, spec_cpu}
+use Rattle.ule_seq.proofs.Starting.{fresh_shows, laid_rest, next_absent, next_shows, setup_distinct, spec_cpu}
 use Rattle.ule_seq.proofs.world.World.start.Goals as goal
 
 pub loop-spec-init : goal.loop-spec-init
@@ -22,7 +22,7 @@ lay-requires-clause-absent c =
     let s = c.args.s.now in
     let specs = c.as_slice-specs.result.now in
     let at = slice_get_read specs (length specs) c.loop-spec.spec-index c.spec-item.result refl c.loop-spec-test.true c.spec-item.is in
-    let distinct = subst (λ (xs : List ThreadSpec). is_distinct (map (λ x. x.id) xs) ≡ true) (sym c.as_slice-specs.ensures) (setup_threads s).distinct in
+    let distinct = subst (λ (xs : List ThreadSpec). is_distinct (map (λ x. x.id) xs) ≡ true) (sym c.as_slice-specs.ensures) (setup_distinct s) in
     next_absent s c.loop-spec.world specs c.loop-spec.spec-index c.spec-item.result c.loop-spec.invariant.shows distinct at
 
 pub loop-spec-preserved : goal.loop-spec-preserved
@@ -35,7 +35,7 @@ loop-spec-preserved c =
     let specs = c.as_slice-specs.result.now in
     let at : slice_get specs k ≡ Some spec = slice_get_read specs (length specs) k spec refl c.loop-spec-test.true c.spec-item.is in
     let here : slice_get s.threads k ≡ Some spec = subst (λ (xs : List ThreadSpec). slice_get xs k ≡ Some spec) c.as_slice-specs.ensures at in
-    let distinct = subst (λ (xs : List ThreadSpec). is_distinct (map (λ x. x.id) xs) ≡ true) (sym c.as_slice-specs.ensures) (setup_threads s).distinct in
+    let distinct = subst (λ (xs : List ThreadSpec). is_distinct (map (λ x. x.id) xs) ≡ true) (sym c.as_slice-specs.ensures) (setup_distinct s) in
     let within : spec.cpu < length v.cpus = let cpu = spec_cpu s k spec here in let count = kept.count in omega arith in
     let rest = laid_rest v spec in
     record {
