@@ -1,25 +1,30 @@
 -- One CPU as a value: records by thread number, lists of numbers, and the CPU's own numbers. Each
 -- step is a plain function of the value; StandsFor says of which side of a world it is the value.
-use Rattle.std.specs.Prelude.{◌≡◌, ℕ, ◌+◌, ◌-◌, Bool, false, ◌&&◌, List, find, length, slice_index_or, slice_set, Option, Some, None, option_and_then, if◌then◌else◌}
+use Rattle.std.specs.Prelude.{◌≡◌, ℕ, ◌+◌, ◌-◌, ◌<◌, ◌≤◌, Bool, false, ◌==◌, ◌&&◌, List, find, length, slice_index_or, slice_set, Option, Some, None, IfSome, option_and_then, if◌then◌else◌}
 use Rattle.std.specs.Option.{option_map}
 use Rattle.ule_prio.specs.Kind.{kind_at}
 use Rattle.ule_prio.specs.Preemption.{takes_over}
 use Rattle.ule_prio.specs.declared.kind.Kind.{Kind}
 use Rattle.ule_prio.specs.declared.kind.Kind.TheVariants.{Real, Batch, Idle}
-use Rattle.ule_runq.specs.Runq.{is_empty_at, with_tail, with_head, without, first_from}
+use Rattle.ule_runq.specs.Runq.{is_empty_at, place_in, with_tail, with_head, without, first_from}
+use Rattle.ule_score.specs.Changes.{RecordChange, after_tick, placed, ran, record_after, runs, ticked}
+use Rattle.ule_score.specs.declared.place.Place.{Place}
+use Rattle.ule_score.specs.declared.place.Place.TheVariants.{Running, Queued}
 use Rattle.ule_score.specs.declared.record.CpuLine.{CpuLine}
 use Rattle.ule_score.specs.declared.record.Settings.{Settings}
 use Rattle.ule_score.specs.declared.record.ThreadRecord.{ThreadRecord}
 use Rattle.ule_score.specs.declared.record.Why.{Why}
 use Rattle.ule_types.specs.declared.event.Reply.{Reply}
 use Rattle.ule_types.specs.declared.event.Reply.TheVariants.{Unmarked, Switched, Ticked}
+use Rattle.ule_types.specs.declared.outcome.ThreadLine.{ThreadLine}
 use Rattle.ule_model.specs.CalendarIndexes.{ridx_after_removal}
+use Rattle.ule_model.specs.Finals.{line_of}
 use Rattle.ule_model.specs.Insertion.{Insertion, Ordinary, Borrowing, Preempted, bucket_of}
-use Rattle.ule_model.specs.Landing.{current_priority, marked_if, placed_on}
+use Rattle.ule_model.specs.Landing.{current_priority, marked_if}
 use Rattle.ule_model.specs.Places.{is_on}
 use Rattle.ule_model.specs.Shows.{ShowsQueue}
-use Rattle.ule_model.specs.Switch.{one_more, after_running, before_running, insertion_of, is_preemption, is_unasked, started_reply}
-use Rattle.ule_model.specs.Tick.{after_tick, is_due, line_after_tick, load_of, marked_at_end, word_after_tick}
+use Rattle.ule_model.specs.Switch.{one_more, insertion_of, is_preemption, is_unasked, started_reply}
+use Rattle.ule_model.specs.Tick.{is_due, line_after_tick, load_of, marked_at_end, word_after_tick}
 use Rattle.ule_model.specs.World.{Member, Side, current_of, is_thread}
 
 -- a CPU: the record of each thread number on it, its current thread, its three queues, its numbers
@@ -39,9 +44,28 @@ pub record CpuValue : Type 0 where
 abbrev pub thread_in : CpuValue → ℕ → Option ThreadRecord
 thread_in v t = slice_index_or v.threads t None
 
--- the CPU with thread t's record changed
-abbrev pub with_thread : ℕ → (ThreadRecord → ThreadRecord) → CpuValue → CpuValue
-with_thread t change v = record v { threads = slice_set v.threads t (option_map change (thread_in v t)) }
+-- the CPU with thread t's record changed by an event at this time
+abbrev pub with_thread_after : ℕ → ℕ → RecordChange → CpuValue → CpuValue
+with_thread_after now t change v =
+    record v { threads = slice_set v.threads t (option_map (record_after v.settings now change) (thread_in v t)) }
+
+-- no record of a CPU has a later CPU-use update
+abbrev pub IsNoEarlier : CpuValue → ℕ → Type 0
+IsNoEarlier v now = (t : ℕ) → IfSome (thread_in v t) (λ r. r.usage.ltick ≤ now)
+
+-- ---- the queues by kind
+
+-- the queue of a kind
+abbrev pub queue_of : Kind → CpuValue → List (List ℕ)
+queue_of Real v = v.real
+queue_of Batch v = v.batch
+queue_of Idle v = v.idle
+
+-- the CPU with another queue of a kind
+abbrev pub with_queue : Kind → List (List ℕ) → CpuValue → CpuValue
+with_queue Real q v = record v { real = q }
+with_queue Batch q v = record v { batch = q }
+with_queue Idle q v = record v { idle = q }
 
 -- a queue with thread t in bucket b: a preempted one at the head, every other at the tail
 abbrev pub with_inserted : Insertion → List (List ℕ) → ℕ → ℕ → List (List ℕ)
@@ -51,9 +75,7 @@ with_inserted Preempted q b t = with_head q b t
 
 -- the CPU with thread t in bucket b of its queue of this kind
 abbrev pub inserted_in : Kind → Insertion → ℕ → ℕ → CpuValue → CpuValue
-inserted_in Real how b t v = record v { real = with_inserted how v.real b t }
-inserted_in Batch how b t v = record v { batch = with_inserted how v.batch b t }
-inserted_in Idle how b t v = record v { idle = with_inserted how v.idle b t }
+inserted_in k how b t v = with_queue k (with_inserted how (queue_of k v) b t) v
 
 -- the CPU with thread t of priority p queued
 abbrev pub inserted : Insertion → ℕ → ℕ → CpuValue → CpuValue
@@ -64,18 +86,15 @@ abbrev pub inserted_thread : Insertion → ℕ → Option ThreadRecord → CpuVa
 inserted_thread how t None v = v
 inserted_thread how t (Some r) v = inserted how r.priority t v
 
--- the calendar without thread t, and its removal index
-abbrev pub without_batch : ℕ → CpuValue → CpuValue
-without_batch t v = record v {
-  batch = without t v.batch;
-  line = record v.line { ridx = ridx_after_removal v.line.idx v.line.ridx (is_empty_at (without t v.batch) v.line.ridx) };
-}
+-- the CPU's numbers after a thread left its queue of a kind, by the index rule
+abbrev pub with_index_after : Kind → CpuValue → CpuValue
+with_index_after Real v = v
+with_index_after Batch v = record v { line = record v.line { ridx = ridx_after_removal v.line.idx v.line.ridx (is_empty_at v.batch v.line.ridx) } }
+with_index_after Idle v = v
 
 -- the CPU without thread t in its queue of this kind
 abbrev pub removed_from : Kind → ℕ → CpuValue → CpuValue
-removed_from Real t v = record v { real = without t v.real }
-removed_from Batch t v = without_batch t v
-removed_from Idle t v = record v { idle = without t v.idle }
+removed_from k t v = with_index_after k (with_queue k (without t (queue_of k v)) v)
 
 -- the kind of the queue and the number of the thread whose turn comes first
 abbrev pub in_kind : Kind → Option (ℕ × ℕ) → Option (Kind × ℕ)
@@ -91,7 +110,7 @@ first_in v = first_of (in_kind Real (first_from v.real 0))
 
 -- the CPU with this queued thread running
 abbrev pub with_current : ℕ → Kind → ℕ → CpuValue → CpuValue
-with_current now k t v = with_thread t (before_running now) (record (removed_from k t v) { current = Some t })
+with_current now k t v = with_thread_after now t runs (record (removed_from k t v) { current = Some t })
 
 -- what choosing comes to: the CPU, and the thread that runs now
 abbrev pub current_chosen : ℕ → Option (Kind × ℕ) → CpuValue → CpuValue × Option ℕ
@@ -108,7 +127,7 @@ without_marks v = record v { line = record v.line { resched = false; slice_end =
 -- the CPU whose current thread t gave way and is queued
 abbrev pub with_given_way : Bool → ℕ → ℕ → CpuValue → CpuValue
 with_given_way preempted now t v =
-    let left = with_thread t (after_running now) (record v { current = None; line = record v.line { switches = one_more v.line.switches } }) in
+    let left = with_thread_after now t ran (record v { current = None; line = record v.line { switches = one_more v.line.switches } }) in
     inserted_thread (insertion_of preempted) t (thread_in left t) left
 
 -- the switch from the current thread, if there is one
@@ -140,9 +159,9 @@ abbrev pub takes_over_in : ℕ → Bool → CpuValue → Bool
 takes_over_in p remote v = takes_over p (current_priority (current_in v)) remote v.settings.preempt
 
 -- the CPU with a thread that comes to it, marked where it takes over
-abbrev pub value_added : ThreadRecord → Bool → CpuValue → CpuValue
-value_added r remote v =
-    let next = value_laid (placed_on v.cpu r) v in
+abbrev pub value_added : ℕ → ThreadRecord → Bool → CpuValue → CpuValue
+value_added now r remote v =
+    let next = value_laid (record_after v.settings now (placed v.cpu) r) v in
     record next { line = marked_if (takes_over_in r.priority remote v) next.line }
 
 -- ---- one thread less
@@ -162,17 +181,18 @@ pub record Taken : Type 0 where
   pub into : Option ℕ
 
 -- the CPU whose current thread t left with this record, and what came of it
-abbrev pub value_taken_with : Option ThreadRecord → (ThreadRecord → ThreadRecord) → ℕ → ℕ → CpuValue → CpuValue × Option Taken
+abbrev pub value_taken_with : Option ThreadRecord → RecordChange → ℕ → ℕ → CpuValue → CpuValue × Option Taken
 value_taken_with None change now t v = (v, None)
 value_taken_with (Some r) change now t v =
-    let next = chosen_next now (without_current t v) in (next.0, Some (record { thread = change r; into = next.1 }))
+    let next = chosen_next now (without_current t v) in
+    (next.0, Some (record { thread = record_after v.settings now change r; into = next.1 }))
 
 -- the current thread leaves its CPU, its record changed, and the next is chosen
-abbrev pub value_taken_from : Option ℕ → (ThreadRecord → ThreadRecord) → ℕ → CpuValue → CpuValue × Option Taken
+abbrev pub value_taken_from : Option ℕ → RecordChange → ℕ → CpuValue → CpuValue × Option Taken
 value_taken_from None change now v = (v, None)
 value_taken_from (Some t) change now v = value_taken_with (thread_in v t) change now t v
 
-abbrev pub value_taken : (ThreadRecord → ThreadRecord) → ℕ → CpuValue → CpuValue × Option Taken
+abbrev pub value_taken : RecordChange → ℕ → CpuValue → CpuValue × Option Taken
 value_taken change now v = value_taken_from v.current change now v
 
 -- ---- a tick
@@ -189,13 +209,41 @@ abbrev pub value_ticked_with : Option ThreadRecord → Bool → ℕ → CpuValue
 value_ticked_with None due now v = (v, Ticked None due false)
 value_ticked_with (Some r) due now v =
     let ended = (after_tick v.settings now v.load r).1 in (
-      record (with_thread r.id (λ x. (after_tick v.settings now v.load x).0) v) { line = marked_at_end ended v.line },
+      record (with_thread_after now r.id (ticked v.load) v) { line = marked_at_end ended v.line },
       Ticked (Some r.id) due ended,
     )
 
 -- the step of a tick
 abbrev pub value_ticked : ℕ → CpuValue → CpuValue × Reply
 value_ticked now v = value_ticked_with (current_in v) (is_due v.cpu v.line.balance) now (value_clocked v)
+
+-- ---- where a thread stands
+
+-- the first of two that there is
+abbrev pub first_found : {A : Type 0} → Option A → Option A → Option A
+first_found None other = other
+first_found (Some found) other = Some found
+
+-- a thread's place in one queue of a CPU, with its position there
+abbrev pub queued_place : ℕ → Kind → Option (ℕ × ℕ) → Option (Place × ℕ)
+queued_place c k found = option_map (λ f. (Queued c k f.0, f.1)) found
+
+-- the place of a CPU's current thread
+abbrev pub current_place : ℕ → Option ℕ → ℕ → Option (Place × ℕ)
+current_place c None t = None
+current_place c (Some u) t = if u == t then Some (Running c, 0) else None
+
+-- where a CPU has thread t, with its position
+abbrev pub value_place : CpuValue → ℕ → Option (Place × ℕ)
+value_place v t = first_found (current_place v.cpu v.current t)
+    (first_found (queued_place v.cpu Real (place_in v.real t))
+    (first_found (queued_place v.cpu Batch (place_in v.batch t)) (queued_place v.cpu Idle (place_in v.idle t))))
+
+-- the line of thread t, if it is on the CPU
+abbrev pub value_line : CpuValue → ℕ → Option ThreadLine
+value_line v t = option_and_then (λ r. option_map (λ at. line_of r at.0 at.1) (value_place v t)) (thread_in v t)
+
+-- ---- the world that a value stands for
 
 -- thread t, if it runs or waits on CPU c
 abbrev pub thread_on : ℕ → ℕ → List Member → Option Member
@@ -212,6 +260,5 @@ pub record StandsFor (v : CpuValue) (s : Side) : Type 0 where
   pub slots : length v.threads ≡ 256
   -- the records are those of the threads that run or wait on the CPU
   pub threads : (t : ℕ) → thread_in v t ≡ option_map (λ m. m.thread) (thread_on v.cpu t s.members)
-  pub real : ShowsQueue v.real v.cpu Real s.members
-  pub batch : ShowsQueue v.batch v.cpu Batch s.members
-  pub idle : ShowsQueue v.idle v.cpu Idle s.members
+  pub queues : (k : Kind) → ShowsQueue (queue_of k v) v.cpu k s.members
+  pub index : v.line.ridx < 64

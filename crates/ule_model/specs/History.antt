@@ -1,33 +1,47 @@
--- What the history of rounds is: a legal and whole history of its setup.
+-- What the history of rounds is: a legal and whole history of its setup's scripts.
 use Rattle.std.specs.Prelude.{◌≡◌, ◌≢◌, ℕ, ◌<◌, ◌≤◌, ◌⊎◌, List, [], ◌∷◌, length, slice_get, Some, None}
 use Rattle.std.specs.List.{AllByRecursion}
 use Rattle.ule_score.specs.Bounds.{KeepsBounds}
 use Rattle.ule_types.specs.Form.{IsOfForm}
 use Rattle.ule_types.specs.declared.event.Entry.{Entry}
 use Rattle.ule_types.specs.declared.setup.Setup.{Setup}
-use Rattle.ule_model.specs.Legal.{IsLegal, IsWhole, after_entry, end_time, replayed}
+use Rattle.ule_model.specs.Ends.{end_time, end_world}
+use Rattle.ule_model.specs.Legal.{IsLegal, IsWhole, after_entry}
+use Rattle.ule_model.specs.Places.{hand_of}
 use Rattle.ule_model.specs.Program.{Course, next_step}
 use Rattle.ule_model.specs.Rounds.{Play, greatest_rounds, opening, play_of, round, rounds}
 use Rattle.ule_model.specs.Start.{world_at_start}
+use Rattle.ule_model.specs.WellMade.{IsWellMade}
 use Rattle.ule_model.specs.World.{World}
+
+-- ---- every world of a history
+
+-- what holds of a world, and of the world after each of these entries
+unfoldable pub HoldsThroughout : (World → Type 0) → World → List Entry → Type 0
+HoldsThroughout P w [] = P w
+HoldsThroughout P w (e ∷ es) = P w × HoldsThroughout P (after_entry w e) es
 
 -- each record of a world keeps its bounds
 abbrev pub KeepsRecords : World → Type 0
 KeepsRecords w = AllByRecursion (λ m. KeepsBounds m.thread) w.members
 
--- so it is in a world and after each of these entries
-unfoldable pub KeepsAllRecords : World → List Entry → Type 0
-KeepsAllRecords w [] = KeepsRecords w
-KeepsAllRecords w (e ∷ es) = KeepsRecords w × KeepsAllRecords (after_entry w e) es
+-- no thread of a world is in a hand
+abbrev pub HasEmptyHands : World → Type 0
+HasEmptyHands w = AllByRecursion (λ m. hand_of m.place ≡ None) w.members
 
--- the entries of a play are a legal and whole history of a setup, and its world and time are those at its end
+-- ---- the history of rounds
+
+-- the entries of a play are a legal and whole history of a setup's scripts, and its world and time are those at
+-- their end, where no thread is in a hand
 pub record IsHistoryOf (s : Setup) (p : Play) : Type 0 where
-  pub legal : IsLegal s p.entries
-  pub whole : IsWhole s p.entries
-  pub world : replayed (world_at_start s) p.entries ≡ p.world
-  pub time : p.now ≡ end_time s
+  pub legal : IsLegal s s.scripts p.entries
+  pub whole : IsWhole s s.scripts p.entries
+  pub world : end_world s p.entries ≡ p.world
+  pub time : p.now ≡ end_time s.scripts
   pub count : length p.entries ≤ greatest_rounds
-  pub bounds : KeepsAllRecords (world_at_start s) p.entries
+  pub bounds : HoldsThroughout KeepsRecords (world_at_start s) p.entries
+  pub made : HoldsThroughout (λ w. IsWellMade w.members) (world_at_start s) p.entries
+  pub hands : HasEmptyHands p.world
 
 -- the rounds of a setup that a scenario can spell so far make a legal and whole history of it
 abbrev pub RoundsAreLegal : Type 0

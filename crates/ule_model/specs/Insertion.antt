@@ -11,7 +11,7 @@ use Rattle.ule_model.specs.CalendarIndexes.{calendar_bucket}
 pub use Rattle.ule_model.specs.declared.insertion.Insertion.{Insertion}
 pub use Rattle.ule_model.specs.declared.insertion.Insertion.TheVariants.{Ordinary, Borrowing, Preempted}
 use Rattle.ule_model.specs.Places.{waits_in}
-use Rattle.ule_model.specs.World.{Member, Side, thread_of, moved_to}
+use Rattle.ule_model.specs.World.{Member, Side, moved_to, others, thread_of}
 
 -- the bucket in the calendar: by priority and index where it is ordinary, the next to be taken otherwise
 abbrev pub batch_bucket : Insertion → CpuLine → ℕ → ℕ
@@ -54,13 +54,13 @@ abbrev pub order_of_insertion : Insertion → ℕ → CpuLine → ℕ → List M
 order_of_insertion how c line p members =
     order_of how (map (λ m. m.order) (members_in c (kind_at p) (bucket_of (kind_at p) how line p) members))
 
--- the side with this thread queued on CPU c
+-- the side with this thread queued on CPU c; its order is by the other threads there
 abbrev pub with_queued : Insertion → ℕ → Option Member → Side → Side
 with_queued how c None s = s
 with_queued how c (Some m) s = record s {
   members =
       moved_to m.thread.id (place_of_insertion how c s.line m.thread.priority)
-      (order_of_insertion how c s.line m.thread.priority s.members) s.members;
+      (order_of_insertion how c s.line m.thread.priority (others m.thread.id s.members)) s.members;
 }
 
 -- insertion: the side with thread t queued on CPU c

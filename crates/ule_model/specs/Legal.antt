@@ -1,17 +1,20 @@
--- Legal histories: which lists of entries the sequential scheduler can make.
-use Rattle.std.specs.Prelude.{◌≡◌, ℕ, ◌+◌, ◌<◌, ◌≤◌, Bool, true, ◌==◌, ◌||◌, List, [], ◌∷◌, filter, map, sum, slice_get, Some, None}
-use Rattle.std.specs.List.{AllByRecursion, list_any, flat_map}
+-- Legal histories of a setup and a list of commands for each worker: which lists of entries the
+-- sequential scheduler can make. What each says of replies, of programs and of times stands alone.
+use Rattle.std.specs.Prelude.{◌≡◌, ℕ, ◌+◌, ◌<◌, ◌≤◌, Bool, true, ◌==◌, ◌||◌, List, [], ◌∷◌, filter, map, slice_index_or, sum_by, Some, None}
+use Rattle.std.specs.List.{AllByRecursion, list_any}
 use Rattle.ule_types.specs.Commands.{is_among}
 use Rattle.ule_types.specs.declared.command.Command.{Command}
 use Rattle.ule_types.specs.declared.command.Command.TheVariants as command
 use Rattle.ule_types.specs.declared.event.Entry.{Entry}
 use Rattle.ule_types.specs.declared.event.Item.TheVariants as item
 use Rattle.ule_types.specs.declared.setup.Setup.{Setup}
-use Rattle.ule_model.specs.Program.{Course, next_step}
-use Rattle.ule_model.specs.Rounds.{opening_courses}
+use Rattle.ule_model.specs.Events.{has_thread, is_ready, locks_of}
+use Rattle.ule_model.specs.Program.{Course, course_of, next_step, own_of}
 use Rattle.ule_model.specs.Start.{world_at_start, starting_time}
-use Rattle.ule_model.specs.Step.{has_thread, is_ready, locks_of, step}
+use Rattle.ule_model.specs.Step.{step}
 use Rattle.ule_model.specs.World.{World}
+
+-- ---- replies
 
 -- the world after an entry
 abbrev pub after_entry : World → Entry → World
@@ -33,34 +36,45 @@ unfoldable pub IsReplayed : World → List Entry → Type 0
 IsReplayed w [] = Unit {0}
 IsReplayed w (e ∷ es) = IsEntryOf w e × IsReplayed (after_entry w e) es
 
--- a worker that stands at a course, when its time has gone on by an amount, makes these entries and stands
--- at another course then; each of them no earlier than its own time
-pub data Follows : Course → ℕ → List Entry → Course → ℕ → Type 0 where
-  stays : (course : Course) (amount : ℕ) → Follows course amount [] course amount
-  advances : (course after end : Course) (amount k total : ℕ) (es : List Entry) →
-      next_step course ≡ Some (item.Advance k, after) → Follows after (amount + k) es end total →
-      Follows course amount es end total
-  acts : (course after end : Course) (amount total : ℕ) (e : Entry) (es : List Entry) →
-      next_step course ≡ Some (item.Event e.event, after) → starting_time + amount ≤ e.now →
-      Follows (record after { last = Some (e.reply, e.now) }) amount es end total →
-      Follows course amount (e ∷ es) end total
+-- ---- programs
+
+-- an entry, with the time that its worker's list added before it
+pub record Timed : Type 0 where
+  pub entry : Entry
+  pub amount : ℕ
+
+-- a worker that stands at a course, when its list has added an amount of time, makes these entries and
+-- stands at another course then, when its list has added a total
+pub data Performs : Course → ℕ → List Timed → Course → ℕ → Type 0 where
+  stays : (course : Course) (amount : ℕ) → Performs course amount [] course amount
+  advances : (course after end : Course) (amount k total : ℕ) (es : List Timed) →
+      next_step course ≡ Some (item.Advance k, after) → Performs after (amount + k) es end total →
+      Performs course amount es end total
+  acts : (course after end : Course) (amount total : ℕ) (e : Entry) (es : List Timed) →
+      next_step course ≡ Some (item.Event e.event, after) →
+      Performs (record after { last = Some (e.reply, e.now) }) amount es end total →
+      Performs course amount (record { entry = e; amount = amount } ∷ es) end total
 
 -- one worker's entries
-abbrev pub entries_of : ℕ → List Entry → List Entry
-entries_of worker es = filter (λ e. e.worker == worker) es
+abbrev pub entries_of : ℕ → List Timed → List Timed
+entries_of worker es = filter (λ x. x.entry.worker == worker) es
 
--- a worker's entries are the first of its program
-pub record Begins (s : Setup) (es : List Entry) (worker : ℕ) : Type 0 where
-  pub start : Course
+-- a worker before the first command of its list
+abbrev pub opening_of : Setup → List (List Command) → ℕ → Course
+opening_of s lists worker = course_of (own_of s.jitter s.cpus worker) (slice_index_or lists worker [])
+
+-- a worker's entries are the first of the program of its list
+pub record Begins (s : Setup) (lists : List (List Command)) (es : List Timed) (worker : ℕ) : Type 0 where
   pub end : Course
   pub total : ℕ
-  pub first : slice_get (opening_courses s) worker ≡ Some start
-  pub follows : Follows start 0 (entries_of worker es) end total
+  pub performs : Performs (opening_of s lists worker) 0 (entries_of worker es) end total
 
--- a worker's entries are those of its whole program
-pub record Completes (s : Setup) (es : List Entry) (worker : ℕ) : Type 0 where
-  pub begins : Begins s es worker
+-- a worker's entries are those of the whole program of its list
+pub record Completes (s : Setup) (lists : List (List Command)) (es : List Timed) (worker : ℕ) : Type 0 where
+  pub begins : Begins s lists es worker
   pub finished : next_step begins.end ≡ None
+
+-- ---- times
 
 -- an entry with the locks of its event
 pub record Locked : Type 0 where
@@ -81,23 +95,49 @@ unfoldable pub IsInTime : List Locked → Type 0
 IsInTime [] = Unit {0}
 IsInTime (x ∷ xs) = AllByRecursion (λ y. share x y ≡ true → x.entry.now ≤ y.entry.now) xs × IsInTime xs
 
+-- the three rules of time, over entries with the amounts before them and the total of all amounts
+pub record KeepsTime (w : World) (es : List Timed) (total : ℕ) : Type 0 where
+  pub in_order : IsInTime (with_locks w (map (λ x. x.entry) es))
+  pub after_own : AllByRecursion (λ x. starting_time + x.amount ≤ x.entry.now) es
+  pub by_the_end : AllByRecursion (λ x. x.entry.now ≤ starting_time + total) es
+
 -- the time that a command adds
 abbrev pub amount_of : Command → ℕ
 amount_of (command.Time k) = k
-amount_of _ = 0
+amount_of command.Tick = 0
+amount_of command.Yield = 0
+amount_of command.Resched = 0
+amount_of (command.Sleep channel) = 0
+amount_of (command.Wake t) = 0
+amount_of (command.Lend t p) = 0
+amount_of (command.Unlend t) = 0
+amount_of (command.Renice t n) = 0
+amount_of (command.Fork t) = 0
+amount_of command.Exit = 0
+amount_of command.Idle = 0
+amount_of command.Balance = 0
+amount_of (command.Look c) = 0
 
--- the time at which all scripts end
-abbrev pub end_time : Setup → ℕ
-end_time s = starting_time + sum (map amount_of (flat_map (λ script. script) s.scripts))
+-- the time that a list of commands adds, and that all lists add
+abbrev pub amount_in : List Command → ℕ
+amount_in list = sum_by amount_of list
 
--- a legal history of a setup
-pub record IsLegal (s : Setup) (es : List Entry) : Type 0 where
+abbrev pub amount_in_all : List (List Command) → ℕ
+amount_in_all lists = sum_by amount_in lists
+
+-- ---- histories
+
+-- a legal history of a setup and a list of commands for each worker
+pub record IsLegal (s : Setup) (lists : List (List Command)) (es : List Entry) : Type 0 where
+  pub timed : List Timed
+  pub entries : map (λ x. x.entry) timed ≡ es
   pub workers : AllByRecursion (λ e. e.worker < s.cpus) es
-  pub replayed : IsReplayed (world_at_start s) es
-  pub programs : (worker : ℕ) → worker < s.cpus → Begins s es worker
-  pub in_time : IsInTime (with_locks (world_at_start s) es)
-  pub by_the_end : AllByRecursion (λ e. e.now ≤ end_time s) es
+  pub replies : IsReplayed (world_at_start s) es
+  pub programs : (worker : ℕ) → worker < s.cpus → Begins s lists timed worker
+  pub times : KeepsTime (world_at_start s) timed (amount_in_all lists)
 
--- a whole history of a setup: every worker's program is at its end
-abbrev pub IsWhole : Setup → List Entry → Type 0
-IsWhole s es = (worker : ℕ) → worker < s.cpus → Completes s es worker
+-- a whole history: every worker's list is done to its end
+pub record IsWhole (s : Setup) (lists : List (List Command)) (es : List Entry) : Type 0 where
+  pub timed : List Timed
+  pub entries : map (λ x. x.entry) timed ≡ es
+  pub programs : (worker : ℕ) → worker < s.cpus → Completes s lists timed worker

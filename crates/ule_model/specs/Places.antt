@@ -63,3 +63,16 @@ lock_of (Asleep channel) = Some (16 + channel % 8)
 lock_of Unborn = Some 24
 lock_of Gone = Some 24
 lock_of (Hand w) = None
+
+-- whether an optional number is this one
+abbrev pub is_number : ℕ → Option ℕ → Bool
+is_number n None = false
+is_number n (Some m) = n == m
+
+-- whether a place lies under lock l
+abbrev pub is_under : ℕ → Place → Bool
+is_under l place = is_number l (lock_of place)
+
+-- whether a place is worker w's hand
+abbrev pub is_hand_of : ℕ → Place → Bool
+is_hand_of w place = is_number w (hand_of place)

@@ -1,91 +1,155 @@
--- The program of a worker: the items of its commands, one after another.
-use Rattle.std.specs.Prelude.{ℕ, List, [], ◌∷◌, ◌++◌, Option, Some, None}
+-- The program of a worker as a machine: where it stands in a command says its next item, and the
+-- reply to that says where it stands then.
+use Rattle.std.specs.Prelude.{ℕ, ◌+◌, ◌%◌, ◌^◌, List, [], ◌∷◌, Option, Some, None}
+use Rattle.ule_score.specs.declared.record.Why.{Why}
 use Rattle.ule_score.specs.declared.record.Why.TheVariants as why
 use Rattle.ule_types.specs.declared.command.Command.{Command}
 use Rattle.ule_types.specs.declared.command.Command.TheVariants as command
-use Rattle.ule_types.specs.declared.event.Event.{Event}
 use Rattle.ule_types.specs.declared.event.Event.TheVariants as event
 use Rattle.ule_types.specs.declared.event.Item.{Item}
 use Rattle.ule_types.specs.declared.event.Item.TheVariants as item
 use Rattle.ule_types.specs.declared.event.Reply.{Reply}
 use Rattle.ule_types.specs.declared.event.Reply.TheVariants as reply
+use Rattle.ule_types.specs.declared.look.Summary.{Summary}
+pub use Rattle.ule_types.specs.declared.stage.Stage.{Stage}
+pub use Rattle.ule_types.specs.declared.stage.Stage.TheVariants as stage
 
--- where a worker stands inside a command: the items that are still to come, and the event given
--- last, whose reply may add some
-pub record Progress : Type 0 where
+-- all that a worker's next item depends on
+pub record Own : Type 0 where
   pub worker : ℕ
-  pub todo : List Item
-  pub given : Option Event
+  -- how many CPUs there are
+  pub cpus : ℕ
+  pub stage : Stage
+  -- what the looks of the command saw, as they were seen
+  pub looks : List Summary
+  -- the jitter word
+  pub jitter : ℕ
 
--- the items that a command begins with
-abbrev pub items_of : ℕ → Command → List Item
-items_of worker command.Tick = item.Event (event.Tick worker) ∷ []
-items_of worker (command.Time k) = item.Advance k ∷ []
-items_of worker command.Yield = item.Event (event.Switch worker why.Yield) ∷ []
-items_of worker command.Resched = item.Event (event.Switch worker why.Resched) ∷ []
-items_of worker (command.Sleep channel) = item.Event (event.Drop worker channel) ∷ []
-items_of worker (command.Wake t) = item.Event (event.Wake t) ∷ []
-items_of worker _ = []
+-- a worker before its first command; its jitter word begins at the scenario's number and its own
+abbrev pub own_of : ℕ → ℕ → ℕ → Own
+own_of jitter cpus worker = record { worker = worker; cpus = cpus; stage = stage.Ended; looks = []; jitter = (jitter + worker) % 2 ^ 32 }
+
+-- a command that has no items yet; no scenario that is accepted has one
+abbrev pub not_built : Stage
+not_built = stage.Ended
+
+-- where a command begins
+abbrev pub first_stage : Command → Stage
+first_stage command.Tick = stage.Ticks
+first_stage (command.Time k) = stage.Advances k
+first_stage command.Yield = stage.Switches why.Yield
+first_stage command.Resched = stage.Switches why.Resched
+first_stage (command.Sleep channel) = stage.Drops channel
+first_stage (command.Wake t) = stage.Wakes t
+first_stage (command.Lend t p) = not_built
+first_stage (command.Unlend t) = not_built
+first_stage (command.Renice t n) = not_built
+first_stage (command.Fork t) = not_built
+first_stage command.Exit = not_built
+first_stage command.Idle = not_built
+first_stage command.Balance = not_built
+first_stage (command.Look c) = not_built
 
 -- the command begun
-abbrev pub begun : Command → Progress → Progress
-begun c p = record p { todo = items_of p.worker c; given = None }
+abbrev pub begun : Command → Own → Own
+begun c own = record own { stage = first_stage c; looks = [] }
+
+-- the item at a stage; none where the command has no further one
+abbrev pub item_at : ℕ → Stage → Option Item
+item_at worker stage.Ended = None
+item_at worker stage.Ticks = Some (item.Event (event.Tick worker))
+item_at worker (stage.Advances k) = Some (item.Advance k)
+item_at worker (stage.Switches why) = Some (item.Event (event.Switch worker why))
+item_at worker (stage.Drops channel) = Some (item.Event (event.Drop worker channel))
+item_at worker (stage.Beds t channel) = Some (item.Event (event.Bed t channel))
+item_at worker (stage.Wakes t) = Some (item.Event (event.Wake t))
+item_at worker (stage.Lands t c) = Some (item.Event (event.Land t c))
 
 -- the CPU that a thread lands on: the one that it is bound to, or CPU 0 where there is no other
 abbrev pub landing_cpu : Option ℕ → ℕ
 landing_cpu None = 0
 landing_cpu (Some c) = c
 
--- what follows a drop: the thread that left is put to sleep
-abbrev pub after_drop : ℕ → Reply → List Item
-after_drop channel (reply.Dropped out into) = item.Event (event.Bed out channel) ∷ []
-after_drop channel _ = []
+-- after a drop the thread that left is put to sleep
+abbrev pub after_drop : ℕ → Reply → Stage
+after_drop channel (reply.Dropped out into) = stage.Beds out channel
+after_drop channel _ = stage.Ended
 
--- what follows a wake: the woken thread lands
-abbrev pub after_wake : ℕ → Reply → List Item
-after_wake t (reply.Woken p bound last last_run) = item.Event (event.Land t (landing_cpu bound)) ∷ []
-after_wake t _ = []
+-- after a wake the woken thread lands
+abbrev pub after_wake : ℕ → Reply → Stage
+after_wake t (reply.Woken p bound last last_run) = stage.Lands t (landing_cpu bound)
+after_wake t _ = stage.Ended
 
--- the items that follow an event by its reply
-abbrev pub following : Event → Reply → List Item
-following (event.Drop c channel) r = after_drop channel r
-following (event.Wake t) r = after_wake t r
-following _ r = []
+-- where the reply to the event at a stage leads
+abbrev pub stage_after : Reply → Stage → Stage
+stage_after r stage.Ended = stage.Ended
+stage_after r stage.Ticks = stage.Ended
+stage_after r (stage.Advances k) = stage.Ended
+stage_after r (stage.Switches why) = stage.Ended
+stage_after r (stage.Drops channel) = after_drop channel r
+stage_after r (stage.Beds t channel) = stage.Ended
+stage_after r (stage.Wakes t) = after_wake t r
+stage_after r (stage.Lands t c) = stage.Ended
 
--- the items that the reply of the event given last adds
-abbrev pub added : Option Event → Option (Reply × ℕ) → List Item
-added None last = []
-added (Some e) None = []
-added (Some e) (Some told) = following e told.0
+-- the thread that the worker has in hand at a stage
+abbrev pub in_hand : Stage → Option ℕ
+in_hand stage.Ended = None
+in_hand stage.Ticks = None
+in_hand (stage.Advances k) = None
+in_hand (stage.Switches why) = None
+in_hand (stage.Drops channel) = None
+in_hand (stage.Beds t channel) = Some t
+in_hand (stage.Wakes t) = None
+in_hand (stage.Lands t c) = Some t
 
--- the event that an item is
-abbrev pub event_of : Item → Option Event
-event_of (item.Event e) = Some e
-event_of (item.Advance k) = None
+-- the most items from a stage on, its own among them
+abbrev pub most_from : Stage → ℕ
+most_from stage.Ended = 0
+most_from stage.Ticks = 1
+most_from (stage.Advances k) = 1
+most_from (stage.Switches why) = 1
+most_from (stage.Drops channel) = 2
+most_from (stage.Beds t channel) = 1
+most_from (stage.Wakes t) = 2
+most_from (stage.Lands t c) = 1
 
--- the next of these items, and what is to come after it
-abbrev pub next_item : List Item → Progress → Option Item × Progress
-next_item [] p = (None, record p { todo = []; given = None })
-next_item (i ∷ is) p = (Some i, record p { todo = is; given = event_of i })
+-- an advance of time is answered by nothing, so it is left as it is given
+abbrev pub after_giving : Stage → Stage
+after_giving stage.Ended = stage.Ended
+after_giving stage.Ticks = stage.Ticks
+after_giving (stage.Advances k) = stage.Ended
+after_giving (stage.Switches why) = stage.Switches why
+after_giving (stage.Drops channel) = stage.Drops channel
+after_giving (stage.Beds t channel) = stage.Beds t channel
+after_giving (stage.Wakes t) = stage.Wakes t
+after_giving (stage.Lands t c) = stage.Lands t c
+
+-- a worker told the reply and the time of the event given before, if one was given
+abbrev pub told_last : Option (Reply × ℕ) → Own → Own
+told_last None own = own
+told_last (Some told) own = record own { stage = stage_after told.0 own.stage }
 
 -- the next item of a command, told the reply and the time of the event before, if one was given
-abbrev pub next_of : Option (Reply × ℕ) → Progress → Option Item × Progress
-next_of last p = next_item (added p.given last ++ p.todo) p
+abbrev pub next_of : Option (Reply × ℕ) → Own → Option Item × Own
+next_of last own =
+    let told = told_last last own in (item_at told.worker told.stage, record told { stage = after_giving told.stage })
 
--- where a worker stands in its script: the commands not begun, the command begun, and what the last event told
+-- ---- lists of commands
+
+-- where a worker stands in its list: the commands not begun, its own part, and what the last event told
 pub record Course : Type 0 where
   pub script : List Command
-  pub progress : Progress
+  pub own : Own
   pub last : Option (Reply × ℕ)
 
--- a worker before its first command
-abbrev pub course_of : ℕ → List Command → Course
-course_of worker script = record { script = script; progress = record { worker = worker; todo = []; given = None }; last = None }
+-- a worker before the first command of its list
+abbrev pub course_of : Own → List Command → Course
+course_of own script = record { script = script; own = own; last = None }
 
 -- a step of a program: its item, and the course after it
-abbrev pub stepped : List Command → Option Item → Progress → Option (Item × Course)
-stepped script None p = None
-stepped script (Some i) p = Some (i, record { script = script; progress = p; last = None })
+abbrev pub stepped : List Command → Option Item → Own → Option (Item × Course)
+stepped script None own = None
+stepped script (Some i) own = Some (i, record { script = script; own = own; last = None })
 
 -- the first of two that there is
 abbrev pub or_else : Option (Item × Course) → Option (Item × Course) → Option (Item × Course)
@@ -93,11 +157,11 @@ or_else None other = other
 or_else (Some found) other = Some found
 
 -- the next item of a command begun, or of the commands not begun
-unfoldable pub next_in : List Command → Progress → Option (Reply × ℕ) → Option (Item × Course)
-next_in [] p last = stepped [] (next_of last p).0 (next_of last p).1
-next_in (c ∷ cs) p last =
-    or_else (stepped (c ∷ cs) (next_of last p).0 (next_of last p).1) (next_in cs (begun c (next_of last p).1) None)
+unfoldable pub next_in : List Command → Own → Option (Reply × ℕ) → Option (Item × Course)
+next_in [] own last = stepped [] (next_of last own).0 (next_of last own).1
+next_in (c ∷ cs) own last =
+    or_else (stepped (c ∷ cs) (next_of last own).0 (next_of last own).1) (next_in cs (begun c (next_of last own).1) None)
 
 -- the next item of a program; none where it is at its end
 abbrev pub next_step : Course → Option (Item × Course)
-next_step course = next_in course.script course.progress course.last
+next_step course = next_in course.script course.own course.last

@@ -1,12 +1,11 @@
--- The switch of a CPU, after sched_switch and choosethread.
-use Rattle.std.specs.Prelude.{ℕ, ◌+◌, ◌-◌, ◌^◌, min, Bool, true, false, not, ◌==◌, pos, List, length, Option, Some, None, if◌then◌else◌}
-use Rattle.ule_history.specs.CpuUseUpdate.{updated_use}
+-- The switch of a CPU, after sched_switch and choosethread; and how a thread leaves its place on a CPU.
+use Rattle.std.specs.Prelude.{ℕ, ◌+◌, ◌-◌, ◌^◌, min, Bool, false, not, ◌==◌, pos, List, length, Option, Some, None, if◌then◌else◌}
 use Rattle.ule_prio.specs.declared.kind.Kind.{Kind}
 use Rattle.ule_prio.specs.declared.kind.Kind.TheVariants.{Real, Batch, Idle}
+use Rattle.ule_score.specs.Changes.{RecordChange, ran, runs}
 use Rattle.ule_score.specs.declared.place.Place.{Place}
 use Rattle.ule_score.specs.declared.place.Place.TheVariants.{Running, Queued, Asleep, Unborn, Gone, Hand}
 use Rattle.ule_score.specs.declared.record.CpuLine.{CpuLine}
-use Rattle.ule_score.specs.declared.record.ThreadRecord.{ThreadRecord}
 use Rattle.ule_score.specs.declared.record.Why.{Why}
 use Rattle.ule_score.specs.declared.record.Why.TheVariants.{Yield, Resched}
 use Rattle.ule_types.specs.declared.event.Reply.{Reply}
@@ -14,54 +13,55 @@ use Rattle.ule_types.specs.declared.event.Reply.TheVariants.{Unmarked, Nothing, 
 use Rattle.ule_model.specs.CalendarIndexes.{ridx_after_removal}
 use Rattle.ule_model.specs.Choice.{choice_of}
 use Rattle.ule_model.specs.Insertion.{Insertion, Ordinary, Preempted, members_in, queued}
-use Rattle.ule_model.specs.World.{Member, Side, current_of, moved_to, with_record}
+use Rattle.ule_model.specs.World.{Member, Side, current_of, moved_to, others, with_change}
 
 -- a count after one more; it stands still at its type's end
 abbrev pub one_more : ℕ → ℕ
 one_more n = min (n + 1) (2 ^ 64 - 1)
 
--- a record whose thread has just left the processor
-abbrev pub after_running : ℕ → ThreadRecord → ThreadRecord
-after_running now r = record r { usage = updated_use r.usage now true; last_run = now }
+-- ---- leaving a place
 
--- a record whose thread has just got the processor
-abbrev pub before_running : ℕ → ThreadRecord → ThreadRecord
-before_running now r = record r { usage = updated_use r.usage now false }
-
--- the numbers of CPU c after a thread left the calendar for good
+-- the numbers of CPU c after a thread left the calendar, where these threads are left
 abbrev pub after_batch_removal : ℕ → CpuLine → List Member → CpuLine
-after_batch_removal c line members =
-    record line { ridx = ridx_after_removal line.idx line.ridx (length (members_in c Batch line.ridx members) == 0) }
+after_batch_removal c line left =
+    record line { ridx = ridx_after_removal line.idx line.ridx (length (members_in c Batch line.ridx left) == 0) }
 
 -- the numbers of CPU c after a thread left its queue of this kind
 abbrev pub after_removal : Kind → ℕ → CpuLine → List Member → CpuLine
-after_removal Real c line members = line
-after_removal Batch c line members = after_batch_removal c line members
-after_removal Idle c line members = line
+after_removal Real c line left = line
+after_removal Batch c line left = after_batch_removal c line left
+after_removal Idle c line left = line
 
 -- the numbers of CPU c after a thread left this place
 abbrev pub after_leaving : Place → ℕ → CpuLine → List Member → CpuLine
-after_leaving (Queued d k b) c line members = after_removal k c line members
-after_leaving (Running d) c line members = line
-after_leaving (Asleep channel) c line members = line
-after_leaving Unborn c line members = line
-after_leaving Gone c line members = line
-after_leaving (Hand w) c line members = line
+after_leaving (Queued d k b) c line left = after_removal k c line left
+after_leaving (Running d) c line left = line
+after_leaving (Asleep channel) c line left = line
+after_leaving Unborn c line left = line
+after_leaving Gone c line left = line
+after_leaving (Hand w) c line left = line
 
--- the side with this queued thread running on CPU c
-abbrev pub with_running : ℕ → ℕ → Member → Side → Side
-with_running c now m s =
-    let members = moved_to m.thread.id (Running c) (pos 0) s.members in
-    record s { members = with_record m.thread.id (before_running now) members; line = after_leaving m.place c s.line members }
+-- the side of CPU c where this thread has left its place, by the index rule
+abbrev pub lifted : ℕ → Member → Side → Side
+lifted c m s = record s { line = after_leaving m.place c s.line (others m.thread.id s.members) }
+
+-- ---- the next thread
+
+-- the side with this thread running on CPU c
+abbrev pub put_running : ℕ → ℕ → Member → Side → Side
+put_running c now m s =
+    record s { members = with_change s.settings now m.thread.id runs (moved_to m.thread.id (Running c) (pos 0) s.members) }
 
 -- what choosing comes to: the side, and the thread that runs now
 abbrev pub running_chosen : ℕ → ℕ → Option Member → Side → Side × Option ℕ
 running_chosen c now None s = (s, None)
-running_chosen c now (Some m) s = (with_running c now m s, Some m.thread.id)
+running_chosen c now (Some m) s = (put_running c now m (lifted c m s), Some m.thread.id)
 
 -- the next thread of CPU c is chosen, and runs
 abbrev pub choosing_next : ℕ → ℕ → Side → Side × Option ℕ
 choosing_next c now s = running_chosen c now (choice_of c s.line.ridx s.members) s
+
+-- ---- the switch
 
 -- the side without marks
 abbrev pub unmarked : Side → Side
@@ -79,7 +79,7 @@ insertion_of preempted = if preempted then Preempted else Ordinary
 abbrev pub given_way : ℕ → Bool → ℕ → ℕ → Side → Side
 given_way c preempted now t s =
     queued (insertion_of preempted) c t
-    (counted (record s { members = with_record t (after_running now) s.members }))
+    (counted (record s { members = with_change s.settings now t ran s.members }))
 
 -- the reply where there was no current thread
 abbrev pub started_reply : Option ℕ → Reply

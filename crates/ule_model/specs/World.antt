@@ -1,5 +1,6 @@
 -- The world of the sequential scheduler: one list of threads, and the numbers of each CPU.
-use Rattle.std.specs.Prelude.{ℕ, ℤ, Bool, ◌==◌, Option, List, find, map, slice_set, slice_index_or, if◌then◌else◌}
+use Rattle.std.specs.Prelude.{ℕ, ℤ, Bool, not, ◌==◌, Option, List, filter, find, map, slice_set, slice_index_or, if◌then◌else◌}
+use Rattle.ule_score.specs.Changes.{RecordChange, record_after}
 use Rattle.ule_score.specs.declared.place.Place.{Place}
 use Rattle.ule_score.specs.declared.record.CpuLine.{CpuLine}
 use Rattle.ule_score.specs.declared.record.Settings.{Settings}
@@ -59,3 +60,11 @@ moved_to t place order members =
 abbrev pub with_record : ℕ → (ThreadRecord → ThreadRecord) → List Member → List Member
 with_record t change members =
     map (λ m. if is_thread t m then record m { thread = change m.thread } else m) members
+
+-- the threads with thread t's record changed by an event at this time
+abbrev pub with_change : Settings → ℕ → ℕ → RecordChange → List Member → List Member
+with_change settings now t change members = with_record t (record_after settings now change) members
+
+-- the threads but thread t
+abbrev pub others : ℕ → List Member → List Member
+others t members = filter (λ m. not (is_thread t m)) members

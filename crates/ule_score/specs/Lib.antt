@@ -1,3 +1,4 @@
 pub mod Bounds
 pub mod Score
 pub mod TimesharePriority
+pub mod Changes

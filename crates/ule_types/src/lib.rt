@@ -6,14 +6,18 @@ pub use command::{Command, greatest};
 pub use event::{Entry, Event, Item, MoveWhy, Reply};
 pub use fault::ScenarioFault;
 pub use items::Items;
+pub use look::Summary;
 pub use outcome::{Outcome, ThreadLine};
 pub use scripts::Scripts;
 pub use setup::{Form, GroupLine, Groups, Setup, Specs, ThreadSpec, Turns, Unborn};
+pub use stage::Stage;
 
 pub mod command;
 pub mod event;
 pub mod fault;
 pub mod items;
+pub mod look;
 pub mod outcome;
 pub mod scripts;
 pub mod setup;
+pub mod stage;

@@ -1,0 +1,85 @@
+-- What a step may touch, and what it leaves: said once for all events.
+use Rattle.std.specs.Prelude.{◌≡◌, ◌≢◌, ℕ, Bool, true, false, ◌==◌, ◌&&◌, List, [], ◌∷◌, find, length, slice_index_or, Option, Some, None, if◌then◌else◌}
+use Rattle.ule_score.specs.Changes.{GoesThrough}
+use Rattle.ule_types.specs.Commands.{is_among}
+use Rattle.ule_types.specs.declared.event.Event.{Event}
+use Rattle.ule_model.specs.Conditions.{IsPossible}
+use Rattle.ule_model.specs.Events.{is_reached, locks_of}
+use Rattle.ule_model.specs.Places.{is_hand_of, is_under, lock_of}
+use Rattle.ule_model.specs.Step.{step}
+use Rattle.ule_model.specs.WellMade.{IsWellMade}
+use Rattle.ule_model.specs.Words.{WordChange, block, change_of, point}
+use Rattle.ule_model.specs.World.{Member, World, fresh_line, is_thread}
+
+-- ---- look-ups
+
+-- thread t, if its place lies under lock l
+abbrev pub thread_under : ℕ → ℕ → List Member → Option Member
+thread_under l t ms = find (λ m. is_thread t m && is_under l m.place) ms
+
+-- thread t, if it is in worker h's hand
+abbrev pub thread_in_hand : ℕ → ℕ → List Member → Option Member
+thread_in_hand h t ms = find (λ m. is_thread t m && is_hand_of h m.place) ms
+
+-- ---- the threads
+
+-- a thread before and after a step: the step leaves it, or it was and is within the event's reach and
+-- its record went through changes at that time
+pub data IsTouched (w : World) (worker : ℕ) (e : Event) (now : ℕ) (m n : Member) : Type 0 where
+  left : m ≡ n → IsTouched w worker e now m n
+  reached : is_reached w worker e m.place ≡ true → is_reached w worker e n.place ≡ true →
+      GoesThrough w.settings now m.thread n.thread → IsTouched w worker e now m n
+
+-- so each thread of two lists, one after another
+abbrev pub AreTouched : World → ℕ → Event → ℕ → List Member → List Member → Type 0
+AreTouched w worker e now [] [] = Unit {0}
+AreTouched w worker e now [] (n ∷ ns) = ⊥
+AreTouched w worker e now (m ∷ ms) [] = ⊥
+AreTouched w worker e now (m ∷ ms) (n ∷ ns) = IsTouched w worker e now m n × AreTouched w worker e now ms ns
+
+-- the lock that a thread's word names after this change, where it named the lock of the thread's place
+abbrev pub word_after : Option WordChange → Member → Option ℕ
+word_after None m = lock_of m.place
+word_after (Some (block t)) m = if is_thread t m then None else lock_of m.place
+word_after (Some (point t l)) m = if is_thread t m then Some l else lock_of m.place
+
+-- each thread's lock afterwards is the one that its word names then
+abbrev pub HaveWords : Option WordChange → List Member → List Member → Type 0
+HaveWords change [] [] = Unit {0}
+HaveWords change [] (n ∷ ns) = ⊥
+HaveWords change (m ∷ ms) [] = ⊥
+HaveWords change (m ∷ ms) (n ∷ ns) = (lock_of n.place ≡ word_after change m) × HaveWords change ms ns
+
+-- ---- the numbers of CPUs
+
+-- what a step leaves beside the threads: the settings, how many CPUs there are, the numbers of each CPU
+-- whose queue lock the event doesn't take, and the balance word where it doesn't take that of CPU 0
+pub record LeavesRest (w : World) (e : Event) (n : World) : Type 0 where
+  pub settings : n.settings ≡ w.settings
+  pub count : length n.lines ≡ length w.lines
+  pub lines : (c : ℕ) → is_among (locks_of w e) c ≡ false → slice_index_or n.lines c fresh_line ≡ slice_index_or w.lines c fresh_line
+  pub balance_word : is_among (locks_of w e) 0 ≡ false → n.balance_word ≡ w.balance_word
+
+-- ---- the laws
+
+-- a step touches what is within the event's reach alone
+abbrev pub StepTouches : Type 0
+StepTouches =
+    (w : World) (worker : ℕ) (e : Event) (now : ℕ) → IsWellMade w.members → IsPossible w worker e now →
+    AreTouched w worker e now w.members (step w worker e now).0.members
+
+-- the one thread whose lock changes is the one whose word the event and its reply change
+abbrev pub StepMovesWord : Type 0
+StepMovesWord =
+    (w : World) (worker : ℕ) (e : Event) (now : ℕ) → IsWellMade w.members → IsPossible w worker e now →
+    HaveWords (change_of e (step w worker e now).1) w.members (step w worker e now).0.members
+
+-- a step leaves what its locks don't guard
+abbrev pub StepLeavesRest : Type 0
+StepLeavesRest = (w : World) (worker : ℕ) (e : Event) (now : ℕ) → LeavesRest w e (step w worker e now).0
+
+-- a world stays well made
+abbrev pub StepIsMade : Type 0
+StepIsMade =
+    (w : World) (worker : ℕ) (e : Event) (now : ℕ) → IsWellMade w.members → IsPossible w worker e now →
+    IsWellMade (step w worker e now).0.members
