@@ -23,4 +23,6 @@ pub mod CpuValue
 pub mod CpuStart
 pub mod Conditions
 pub mod Frames
+pub mod LockValue
+pub mod WorldValue
 pub mod History

@@ -1,8 +1,10 @@
-//! A table of thread records by number.
+//! Tables by thread number: of records, and of records with places.
 #![tactic(auto)]
 
+pub use standing::{Standing, Standings};
 pub use threads::Threads;
 
+pub mod standing;
 #[cfg(test)]
 mod tests;
 pub mod threads;
