@@ -77,7 +77,7 @@ thread_of-changed t m ms w f same =
     ap (thread_of t) (changed_within t m ms w f) ∙ find_here (is_thread t) w.before (f m) w.after w.lacks_before (eq-eqb (f m).thread.id t (same ∙ w.number))
 
 -- a thread of one number has no other
-number_fails : (u t : ℕ) (m : Member) → u ≢ t → m.thread.id ≡ t → is_thread u m ≡ false
+pub number_fails : (u t : ℕ) (m : Member) → u ≢ t → m.thread.id ≡ t → is_thread u m ≡ false
 number_fails u t m apart is = ne_eqb m.thread.id u (λ e. apart (sym e ∙ is))
 
 -- ---- by number, in any list

@@ -1,9 +1,9 @@
 -- The whole scheduler as a value: what each lock guards, by its number, and what each worker has in hand.
 -- Shows says of which world it is the value.
-use Rattle.std.specs.Prelude.{◌≡◌, ℕ, suc, ◌+◌, ◌%◌, ◌<◌, ◌≤◌, ◌==◌, List, [], ◌∷◌, length, position, slice_get, slice_index_or, slice_set, Option, Some, None, IfSome, option_and_then, if◌then◌else◌}
+use Rattle.std.specs.Prelude.{◌≡◌, ℕ, suc, ◌+◌, ◌%◌, ◌<◌, ◌≤◌, ◌==◌, List, [], ◌∷◌, length, position, slice_get, slice_index_or, slice_set, Option, Some, None, IfSome, ◌⊎◌, option_and_then, if◌then◌else◌}
 use Rattle.std.specs.List.{filter_map, range_with_len}
 use Rattle.std.specs.Option.{option_map}
-use Rattle.ule_score.specs.declared.place.Place.TheVariants.{Hand}
+use Rattle.ule_score.specs.declared.place.Place.TheVariants.{Asleep, Unborn, Gone, Hand}
 use Rattle.ule_score.specs.declared.record.Settings.{Settings}
 use Rattle.ule_score.specs.declared.record.ThreadRecord.{ThreadRecord}
 use Rattle.ule_sleep.specs.Chain.{ChainValue, standing_in}
@@ -20,7 +20,7 @@ use Rattle.ule_model.specs.Finals.{line_of}
 use Rattle.ule_model.specs.Frames.{thread_in_hand, thread_under}
 use Rattle.ule_model.specs.LockValue.{LockValue, Stepped, chain, has_under, limbo, line_under, lock_step, nothing, queue}
 use Rattle.ule_model.specs.Step.{step}
-use Rattle.ule_model.specs.WellMade.{IsWellMade}
+use Rattle.ule_model.specs.WellMade.{HaveIndexes, IsWellMade}
 use Rattle.ule_model.specs.World.{Member, World, side_of}
 
 -- lock l's value at place l, worker w's hand at place w
@@ -121,25 +121,43 @@ pub record IsQueueOf (w : World) (l : ℕ) (v : CpuValue) : Type 0 where
 abbrev pub AreUnder : World → ℕ → List (Option Standing) → Type 0
 AreUnder w l slots = (t : ℕ) → standing_in slots t ≡ option_map standing_of (thread_under l t w.members)
 
+-- a thread that sleeps on a channel of the chain of this number
+pub record IsAsleepOn (number : ℕ) (s : Standing) : Type 0 where
+  pub channel : ℕ
+  pub place : s.place ≡ Asleep channel
+  pub chain : channel % 8 ≡ number
+
 -- the value of the chain of lock l
 pub record IsChainOf (w : World) (l : ℕ) (v : ChainValue) : Type 0 where
   pub number : 16 + v.number ≡ l
   pub small : v.number < 8
   pub slots : length v.slots ≡ 256
   pub under : AreUnder w l v.slots
+  pub asleep : (t : ℕ) → IfSome (standing_in v.slots t) (IsAsleepOn v.number)
 
 -- the value of limbo
 pub record IsLimboOf (w : World) (l : ℕ) (v : LimboValue) : Type 0 where
   pub number : l ≡ 24
   pub slots : length v.slots ≡ 256
   pub under : AreUnder w l v.slots
+  pub still : (t : ℕ) → IfSome (standing_in v.slots t) (λ s. (s.place ≡ Unborn) ⊎ (s.place ≡ Gone))
+
+-- no thread of a world is under lock l
+abbrev pub HasNoneUnder : World → ℕ → Type 0
+HasNoneUnder w l = (t : ℕ) → thread_under l t w.members ≡ None
+
+-- lock l is that of a CPU that there isn't
+pub record IsNothingOf (w : World) (l : ℕ) : Type 0 where
+  pub past : length w.lines ≤ l
+  pub queue : l < 16
+  pub none : HasNoneUnder w l
 
 -- a value stands for the threads of a world under lock l, and for a CPU's numbers there
 abbrev pub StandsUnder : World → ℕ → LockValue → Type 0
 StandsUnder w l (queue v) = IsQueueOf w l v
 StandsUnder w l (chain v) = IsChainOf w l v
 StandsUnder w l (limbo v) = IsLimboOf w l v
-StandsUnder w l nothing = (length w.lines ≤ l) × (l < 16)
+StandsUnder w l nothing = IsNothingOf w l
 
 -- a hand has the threads of a world that are in worker h's
 abbrev pub IsHandOf : World → ℕ → Option ThreadRecord → Type 0
@@ -150,11 +168,13 @@ IsHandOf w h held = (t : ℕ) → if_thread t held ≡ option_map (λ m. m.threa
 pub record Shows (v : WorldValue) (w : World) : Type 0 where
   pub settings : v.settings ≡ w.settings
   pub made : IsWellMade w.members
+  pub indexes : HaveIndexes w.lines
   pub locks : length v.values ≡ 25
   pub cpus : length w.lines ≤ 16
   pub workers : length v.hands ≡ length w.lines
   pub under : (l : ℕ) → IfSome (slice_get v.values l) (StandsUnder w l)
-  pub hands : (h : ℕ) → h < length v.hands → IsHandOf w h (held_by v h)
+  pub past : (l : ℕ) → 25 ≤ l → HasNoneUnder w l
+  pub hands : (h : ℕ) → IsHandOf w h (held_by v h)
 
 -- the step from one scheduler to the next is that of each world that the first is the value of and in which
 -- the worker can perform the event
