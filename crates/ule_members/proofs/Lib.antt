@@ -3,4 +3,4 @@ pub mod Within
 pub mod Threads
 pub mod Loads
 pub mod Lists
-pub mod RecordLaws
+pub mod Owed

@@ -10,8 +10,8 @@ use Rattle.ule_model.specs.CpuValue.{thread_on}
 use Rattle.ule_model.specs.Insertion.{with_queued, queued, place_of_insertion, order_of_insertion}
 use Rattle.ule_model.specs.declared.insertion.Insertion.{Insertion}
 use Rattle.ule_model.specs.Places.{runs_on, is_on}
-use Rattle.ule_model.specs.Shows.{AreApart, IsWellMade}
-use Rattle.ule_model.specs.World.{Member, Side, is_thread, thread_of, current_of, moved_to}
+use Rattle.ule_model.specs.WellMade.{AreApart, IsWellMade}
+use Rattle.ule_model.specs.World.{Member, Side, current_of, is_thread, moved_to, others, thread_of}
 use Rattle.ule_members.proofs.Membership.{has_thread_of}
 use Rattle.ule_members.proofs.Within.{Lacks, Within, found_at, within_found, changed, changed_within, all_front, all_back, all_along}
 
@@ -113,7 +113,7 @@ thread_of-queued_other how c u t s apart = split (thread_of t s.members) refl
     split : (o : Option Member) → thread_of t s.members ≡ o → thread_of u (with_queued how c o s).members ≡ thread_of u s.members
     split None found = refl
     split (Some m) found =
-        thread_of-moved_other u m.thread.id (place_of_insertion how c s.line m.thread.priority) (order_of_insertion how c s.line m.thread.priority s.members) s.members
+        thread_of-moved_other u m.thread.id (place_of_insertion how c s.line m.thread.priority) (order_of_insertion how c s.line m.thread.priority (others m.thread.id s.members)) s.members
         (λ e. apart (e ∙ (has_thread_of t m s.members found).1))
 
 -- two changes of one thread are one change

@@ -4,7 +4,7 @@ use Rattle.std.proofs.Common.{◌≡◌, ℕ, Bool, true, false, List, [], ◌�
 use Rattle.std.specs.List.{AllByRecursion, find}
 use Rattle.std.proofs.lemmas.Bool.{eqb-true, eq-eqb, ne_eqb}
 use Rattle.std.proofs.lemmas.Option.{none-some, same_Some}
-use Rattle.ule_model.specs.Shows.{IsMade, AreApart, AllApart, IsWellMade}
+use Rattle.ule_model.specs.WellMade.{IsMade, AreApart, AllApart, IsWellMade}
 use Rattle.ule_model.specs.World.{Member, is_thread, thread_of}
 
 -- ---- what holds of each element
