@@ -5,17 +5,3 @@ pub mod WellMade
 pub mod Rising
 pub mod ChoiceLaws
 pub mod Positions
-pub mod ChoosingLaws
-pub mod CpuLaws
-pub mod Elsewhere
-pub mod CpuEvents
-pub mod CpuRest
-pub mod ValueLaws
-pub mod WorldLaws
-pub mod LookUps
-pub mod FinalLaws
-pub mod SleepLaws
-pub mod CpuSteps
-pub mod StepLaws
-pub mod StartLaws
-pub mod ConditionLaws
