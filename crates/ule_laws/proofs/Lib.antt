@@ -1,3 +1,10 @@
+pub mod Orders
+pub mod Buckets
+pub mod PlaceLaws
+pub mod WellMade
+pub mod Rising
+pub mod ChoiceLaws
+pub mod Positions
 pub mod CpuPlaces
 pub mod LockLaws
 pub mod WorldLaws

@@ -4,3 +4,4 @@ pub mod Threads
 pub mod PlaceFinds
 pub mod Loads
 pub mod Lists
+pub mod Owed
