@@ -7,7 +7,8 @@ use Rattle.ule_score.specs.declared.record.Why.{Why}
 use Rattle.ule_types.specs.declared.event.Reply.{Reply}
 use Rattle.ule_types.specs.declared.event.Reply.TheVariants.{Dropped, Landed, Nothing}
 use Rattle.ule_model.specs.CpuValue.{CpuValue, StandsFor, Taken, takes_over_in, value_added, value_switched, value_taken, value_ticked}
-use Rattle.ule_model.specs.Insertion.{Ordinary, bucket_of}
+use Rattle.ule_model.specs.Insertion.{bucket_of}
+use Rattle.ule_model.specs.declared.insertion.Insertion.TheVariants.{Ordinary}
 use Rattle.ule_model.specs.Landing.{landed}
 use Rattle.ule_model.specs.Places.{is_hand_of, is_on}
 use Rattle.ule_model.specs.Sleep.{dropped}

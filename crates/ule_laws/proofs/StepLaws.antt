@@ -1,9 +1,9 @@
 -- A step of the whole scheduler is that of the world that it shows: each event on the value under its lock and
 -- on the worker's hand.
-use Rattle.std.proofs.Common.{◌≡◌, ◌≢◌, ℕ, ◌+◌, ◌%◌, ◌<◌, ◌≤◌, Bool, true, false, not, ◌==◌, pos, List, [], ◌∷◌, length, slice_get, slice_index_or, slice_set, Option, Some, None, IfSome, IsSome, IsTrue, is_some, nat_lt, if◌then◌else◌, option_and_then, ⊎_elim, refl, sym, ◌∙◌, ap, subst, arith, mod-lt}
+use Rattle.std.proofs.Common.{◌≡◌, ◌≢◌, ℕ, ◌+◌, ◌%◌, ◌<◌, ◌≤◌, Bool, true, false, not, ◌==◌, pos, List, [], ◌∷◌, length, slice_get, slice_index_or, slice_set, Option, Some, None, IfSome, IsSome, IsTrue, is_some, nat_lt, if◌then◌else◌, option_and_then, ◌⊎◌, inl, inr, ⊎_elim, refl, sym, ◌∙◌, ap, subst, arith, mod-lt}
 use Rattle.std.specs.Option.{option_map, option_to_list}
-use Rattle.std.proofs.lemmas.Bool.{both_ways, cond-true, eq-eqb, eqb-true, ltb-true, true≢false}
-use Rattle.std.proofs.lemmas.List.{get_or-set_same, length-set, set-get_or}
+use Rattle.std.proofs.lemmas.Bool.{both_ways, cases_eq, cases_lt, cond-true, eq-eqb, eqb-true, ltb-true, true≢false}
+use Rattle.std.proofs.lemmas.List.{get_or-set_other, get_or-set_same, length-set, set-get_or, set_past}
 use Rattle.std.proofs.lemmas.Option.{none-some}
 use Rattle.ule_score.specs.Changes.{RecordChange, after_sleep, before_sleep, record_after, sleeps, woken}
 use Rattle.ule_score.specs.declared.place.Place.{Place}
@@ -18,19 +18,24 @@ use Rattle.ule_threads.specs.declared.standing.Standing.{Standing}
 use Rattle.ule_types.specs.declared.event.Event.{Event}
 use Rattle.ule_types.specs.declared.event.Event.TheVariants.{Tick, Switch, Drop, Bed, Wake, Look, Land, Move, Lend, Unlend, Renice, Hatch, Fork, Return, Exit, Bury, Inherit}
 use Rattle.ule_types.specs.declared.event.Reply.{Reply}
-use Rattle.ule_types.specs.declared.event.Reply.TheVariants.{Nothing, NotAsleep}
+use Rattle.ule_types.specs.declared.event.Reply.TheVariants.{Bedded, Buried, Hatched, Nothing, NotAsleep, Returned}
 use Rattle.ule_model.specs.Conditions.{HasEmptyHand, IsPossible}
-use Rattle.ule_model.specs.CpuValue.{CpuValue, StandsFor, Taken, value_taken}
-use Rattle.ule_model.specs.Events.{holder_of, is_no_others, is_unborn_thread, locking, locks_of, sought_by}
+use Rattle.ule_model.specs.CpuValue.{CpuValue, StandsFor, Taken, value_added, value_switched, value_taken, value_ticked}
+use Rattle.ule_model.specs.Events.{holder_of, is_no_others, is_unborn, is_unborn_thread, lock_of_thread, locking, locks_of, sought_by}
 use Rattle.ule_model.specs.Frames.{thread_in_hand, thread_under}
-use Rattle.ule_model.specs.LockValue.{LockValue, Stepped, chain, found_in, found_on, kept, limbo, lock_step, not_asleep, nothing, queue, queue_dropped}
-use Rattle.ule_model.specs.Places.{hand_of, is_hand_of, is_number, is_under, lock_of, runs_on}
-use Rattle.ule_model.specs.Step.{step}
+use Rattle.ule_model.specs.LockValue.{LockValue, Stepped, chain, chain_bedded, chain_woken, found_in, found_on, kept, limbo_buried, limbo_hatched, limbo_returned, queue_landed, limbo, lock_step, not_asleep, nothing, queue, queue_dropped}
+use Rattle.ule_model.specs.Places.{hand_of, is_hand_of, is_number, is_on, is_under, lock_of, runs_on}
+use Rattle.ule_model.specs.Landing.{landed}
+use Rattle.ule_model.specs.Sleep.{dropped, put_in_hand, woken_at, woken_reply, woken_thread, woken_with}
+use Rattle.ule_model.specs.Step.{on_side, step}
+use Rattle.ule_model.specs.Switch.{switched}
+use Rattle.ule_model.specs.Tick.{ticked}
 use Rattle.ule_model.specs.WellMade.{IsWellMade}
 use Rattle.ule_model.specs.World.{Member, Side, World, current_of, fresh_line, moved_to, side_of, thread_of, with_record, with_side}
-use Rattle.ule_model.specs.WorldValue.{IsAsleepOn, IsChainOf, IsHandOf, IsLimboOf, IsQueueOf, Shows, StandsUnder, WorldValue, held_by, if_thread, lock_for, standing_of, value_step}
+use Rattle.ule_model.specs.WorldValue.{IsAsleepOn, IsChainOf, IsHandOf, IsLimboOf, IsQueueOf, Shows, StandsUnder, WorldValue, held_by, if_thread, lock_for, lock_with, put_back, standing_of, value_step, value_step_at}
 use Rattle.ule_members.proofs.Membership.{has_thread_of}
 use Rattle.ule_members.proofs.PlaceFinds.{thread_at_is, thread_at_stands, thread_at_within}
+use Rattle.ule_members.proofs.Threads.{thread_of_within}
 use Rattle.ule_members.proofs.Within.{Within, changed, within_thread}
 use Rattle.ule_laws.proofs.ChainSteps.{IsInHand, IsPutDown, IsTakenUp, holder_holds, place_from_hand_of, put_down, take_up, taken_up, taken_up_is}
 use Rattle.ule_laws.proofs.CpuSteps.{IsCpuEvent, IsDropOf, IsLandOf, drop_hand, drop_nothing, drop_stands, land_hand, land_stands, switch_hand, switch_stands, tick_hand, tick_stands}
@@ -83,6 +88,40 @@ limbo_at w (chain v) few stands = absurd (let e = stands.number in let small = s
 limbo_at w (limbo v) few stands = (v, refl, stands)
 limbo_at w nothing few stands = absurd (let e = stands.queue in omega arith)
 
+-- ---- threads with places
+
+-- the slot of a thread that the world has under the lock
+slot_of : (w : World) (l t : ℕ) (m : Member) (slots : List (Option Standing)) → AreThese l w.members slots → IsWellMade w.members → thread_of t w.members ≡ Some m →
+    is_under l m.place ≡ true → standing_in slots t ≡ Some (standing_of m)
+slot_of w l t m slots these made found under =
+    these t ∙ ap (option_map standing_of) (thread_at_within (is_under l) t m w.members (within_thread t w.members m made found) ∙ cond-true (is_under l m.place) (Some m) None under)
+
+-- what each slot keeps, each keeps with one thread more
+put_each : (P : Standing → Type 0) (slots : List (Option Standing)) (t : ℕ) (s : Standing) → ((u : ℕ) → IfSome (standing_in slots u) P) → P s →
+    (u : ℕ) → IfSome (standing_in (slice_set slots t (Some s)) u) P
+put_each P slots t s each here u =
+    ⊎_elim
+    (λ (within : t < length slots).
+    ⊎_elim
+    (λ (same : u ≡ t). subst (λ o. IfSome o P) (sym (ap (standing_in (slice_set slots t (Some s))) same ∙ get_or-set_same slots t (Some s) None within)) here)
+    (λ (other : u ≡ t → ⊥). subst (λ o. IfSome o P) (sym (get_or-set_other slots t u (Some s) None other)) (each u))
+    (cases_eq u t))
+    (λ (past : length slots ≤ t). subst (λ xs. IfSome (standing_in xs u) P) (sym (set_past slots t (Some s) past)) (each u))
+    (cases_lt t (length slots))
+
+-- what each slot keeps, each keeps with one thread less
+take_each : (P : Standing → Type 0) (slots : List (Option Standing)) (t : ℕ) → ((u : ℕ) → IfSome (standing_in slots u) P) →
+    (u : ℕ) → IfSome (standing_in (slice_set slots t None) u) P
+take_each P slots t each u =
+    ⊎_elim
+    (λ (within : t < length slots).
+    ⊎_elim
+    (λ (same : u ≡ t). subst (λ o. IfSome o P) (sym (ap (standing_in (slice_set slots t None)) same ∙ get_or-set_same slots t None None within)) tt)
+    (λ (other : u ≡ t → ⊥). subst (λ o. IfSome o P) (sym (get_or-set_other slots t u None None other)) (each u))
+    (cases_eq u t))
+    (λ (past : length slots ≤ t). subst (λ xs. IfSome (standing_in xs u) P) (sym (set_past slots t None past)) (each u))
+    (cases_lt t (length slots))
+
 -- ---- one event
 
 -- what is known where an event is performed
@@ -91,9 +130,13 @@ pub record IsAtEvent (v : WorldValue) (w : World) (worker : ℕ) (e : Event) (no
   pub possible : IsPossible w worker e now
   pub frame : IsFrame w worker e (step w worker e now).0
 
+-- what a step makes shows a world, and is answered so
+abbrev pub Agrees : World → Reply → WorldValue × Reply → Type 0
+Agrees n reply done = Shows done.0 n × (done.1 ≡ reply)
+
 -- what a step of an event is to come to
 abbrev pub IsStepOf : WorldValue → World → ℕ → Event → ℕ → Type 0
-IsStepOf v w worker e now = Shows (value_step v worker e now).0 (step w worker e now).0 × ((value_step v worker e now).1 ≡ (step w worker e now).1)
+IsStepOf v w worker e now = Agrees (step w worker e now).0 (step w worker e now).1 (value_step v worker e now)
 
 -- what an event makes of its lock's value and the worker's hand is what the world has there
 abbrev pub IsMade : WorldValue → World → ℕ → Event → ℕ → ℕ → LockValue → Type 0
@@ -103,13 +146,13 @@ IsMade v w worker e now l value = IsMadeFor (step w worker e now).0 worker l (st
 pub step_from : (v : WorldValue) (w : World) (worker : ℕ) (e : Event) (now l : ℕ) → IsAtEvent v w worker e now → lock_for v.values (locking e) ≡ Some l →
     locks_of w e ≡ l ∷ [] → l < 25 → ((at : HasValue v w l) → IsMade v w worker e now l at.value) → IsStepOf v w worker e now
 step_from v w worker e now l at lock locks within made =
+    let n : World = (step w worker e now).0 in
+    let reply : Reply = (step w worker e now).1 in
     let has : HasValue v w l = value_at v w l at.shows within in
-    subst (λ (o : Option ℕ). Agree (Rattle.ule_model.specs.WorldValue.value_step_at o worker e now v)) (sym lock)
-    (subst (λ (o : Option LockValue). Agree (Rattle.ule_model.specs.WorldValue.put_back l worker (option_map (lock_step v.settings worker e now (held_by v worker)) o) v)) (sym has.found)
-    (put_back_shows v w worker l e (step w worker e now).0 (step w worker e now).1 (lock_step v.settings worker e now (held_by v worker) has.value) at.shows at.frame locks within at.possible.worker_is (made has)))
-  where
-    abbrev Agree : WorldValue × Reply → Type 0
-    Agree done = Shows done.0 (step w worker e now).0 × (done.1 ≡ (step w worker e now).1)
+    let stepped : Stepped = lock_step v.settings worker e now (held_by v worker) has.value in
+    subst (λ (o : Option ℕ). Agrees n reply (value_step_at o worker e now v)) (sym lock)
+    (subst (λ (o : Option LockValue). Agrees n reply (put_back l worker (option_map (lock_step v.settings worker e now (held_by v worker)) o) v)) (sym has.found)
+    (put_back_shows v w worker l e n reply stepped at.shows at.frame locks within at.possible.worker_is (made has)))
 
 -- ---- the events of a CPU
 
@@ -119,6 +162,10 @@ side_own c s w within settings =
     ap (λ (line : CpuLine). record { settings = w.settings; members = s.members; line = line; balance_word = s.balance_word }) (get_or-set_same w.lines c s.line fresh_line within) ∙
     ap (λ x. record { settings = x; members = s.members; line = s.line; balance_word = s.balance_word }) (sym settings)
 
+-- the value of CPU c, by its own number
+own_queue : (w : World) (c : ℕ) (u : CpuValue) → IsQueueOf w c u → IsQueueOf w u.cpu u
+own_queue w c u is = subst (λ (d : ℕ). IsQueueOf w d u) (sym is.cpu) is
+
 -- an event of CPU c, on its value and on its side, is what stands under its lock afterwards
 pub queue_stands : (w : World) (c : ℕ) (v new : CpuValue) (made : Side) → IsQueueOf w c v → IsCpuEvent v new (side_of c w) made → IsQueueOf (with_side c made w) c new
 queue_stands w c v new made is event = record {
@@ -126,3 +173,415 @@ queue_stands w c v new made is event = record {
   there = subst (λ (i : ℕ). c < i) (sym (length-set w.lines c made.line)) is.there;
   stands = subst (StandsFor new) (sym (side_own c made w is.there event.settings)) event.stands;
 }
+
+-- a tick
+tick_made : (v : WorldValue) (w : World) (worker c now : ℕ) (u : CpuValue) → Shows v w → IsQueueOf w c u → IsMade v w worker (Tick c) now c (queue u)
+tick_made v w worker c now u shows is =
+    subst (λ (d : ℕ). IsMadeFor (on_side d (ticked d now) w).0 worker c (on_side d (ticked d now) w).1 (lock_step v.settings worker (Tick c) now (held_by v worker) (queue u))) is.cpu
+    (let both = tick_stands now u (side_of u.cpu w) (subst (λ (d : ℕ). StandsFor u (side_of d w)) (sym is.cpu) is.stands) shows.made in record {
+      value = subst (λ (d : ℕ). IsQueueOf (with_side u.cpu (ticked u.cpu now (side_of u.cpu w)).0 w) d (value_ticked now u).0) is.cpu
+          (queue_stands w u.cpu u (value_ticked now u).0 (ticked u.cpu now (side_of u.cpu w)).0 (own_queue w c u is) both.0);
+      hand = tick_hand u.cpu now worker (side_of u.cpu w) (held_by v worker) shows.made (shows.hands worker);
+      answer = both.1;
+    })
+
+-- a switch
+switch_made : (v : WorldValue) (w : World) (worker c : ℕ) (why : Why) (now : ℕ) (u : CpuValue) → Shows v w → IsQueueOf w c u → IsMade v w worker (Switch c why) now c (queue u)
+switch_made v w worker c why now u shows is =
+    subst (λ (d : ℕ). IsMadeFor (on_side d (switched d why now) w).0 worker c (on_side d (switched d why now) w).1 (lock_step v.settings worker (Switch c why) now (held_by v worker) (queue u))) is.cpu
+    (let both = switch_stands why now u (side_of u.cpu w) (subst (λ (d : ℕ). StandsFor u (side_of d w)) (sym is.cpu) is.stands) shows.made in record {
+      value = subst (λ (d : ℕ). IsQueueOf (with_side u.cpu (switched u.cpu why now (side_of u.cpu w)).0 w) d (value_switched why now u).0) is.cpu
+          (queue_stands w u.cpu u (value_switched why now u).0 (switched u.cpu why now (side_of u.cpu w)).0 (own_queue w c u is) both.0);
+      hand = switch_hand u.cpu why now worker (side_of u.cpu w) (held_by v worker) shows.made (shows.hands worker);
+      answer = both.1;
+    })
+
+-- a drop, where thread m runs
+drop_runs : (v : WorldValue) (w : World) (worker c channel now : ℕ) (m : Member) (u : CpuValue) → Shows v w → IsQueueOf w c u → held_by v worker ≡ None →
+    current_of u.cpu w.members ≡ Some m → IsMadeFor (on_side u.cpu (dropped u.cpu worker now) w).0 worker u.cpu (on_side u.cpu (dropped u.cpu worker now) w).1 (queue_dropped (held_by v worker) (value_taken sleeps now u))
+drop_runs v w worker c channel now m u shows is empty runs =
+    let drop : IsDropOf worker now m u (side_of u.cpu w) = drop_stands worker now m u (side_of u.cpu w) (own_queue w c u is).stands shows.made runs in
+    let made : Side = (dropped u.cpu worker now (side_of u.cpu w)).0 in
+    subst (λ (o : Option Taken). IsMadeFor (with_side u.cpu made w) worker u.cpu (dropped u.cpu worker now (side_of u.cpu w)).1 (queue_dropped (held_by v worker) ((value_taken sleeps now u).0, o))) (sym drop.out)
+    (record {
+      value = queue_stands w u.cpu u (value_taken sleeps now u).0 made (own_queue w c u is) drop.event;
+      hand = drop_hand u.cpu worker now m (side_of u.cpu w) shows.made runs (subst (IsThis worker w.members) empty (shows.hands worker));
+      answer = sym drop.answer;
+    })
+
+-- a drop, where no thread runs
+drop_idles : (v : WorldValue) (w : World) (worker c channel now : ℕ) (u : CpuValue) → Shows v w → IsQueueOf w c u →
+    current_of u.cpu w.members ≡ None → IsMadeFor (on_side u.cpu (dropped u.cpu worker now) w).0 worker u.cpu (on_side u.cpu (dropped u.cpu worker now) w).1 (queue_dropped (held_by v worker) (value_taken sleeps now u))
+drop_idles v w worker c channel now u shows is idle =
+    let none = drop_nothing worker now u (side_of u.cpu w) (own_queue w c u is).stands idle in
+    subst (λ (done : CpuValue × Option Taken). IsMadeFor (on_side u.cpu (dropped u.cpu worker now) w).0 worker u.cpu (on_side u.cpu (dropped u.cpu worker now) w).1 (queue_dropped (held_by v worker) done)) (sym none.0)
+    (subst (λ (done : Side × Reply). IsMadeFor (with_side u.cpu done.0 w) worker u.cpu done.1 (kept (held_by v worker) (queue u) Nothing)) (sym none.1)
+    (subst (λ (lines : List CpuLine). IsMadeFor (record w { lines = lines }) worker u.cpu Nothing (kept (held_by v worker) (queue u) Nothing)) (sym (set-get_or w.lines u.cpu fresh_line))
+    (record { value = own_queue w c u is; hand = shows.hands worker; answer = refl })))
+
+-- a drop
+drop_made : (v : WorldValue) (w : World) (worker c channel now : ℕ) (u : CpuValue) → Shows v w → IsQueueOf w c u → held_by v worker ≡ None → IsMade v w worker (Drop c channel) now c (queue u)
+drop_made v w worker c channel now u shows is empty =
+    subst (λ (d : ℕ). IsMadeFor (on_side d (dropped d worker now) w).0 worker d (on_side d (dropped d worker now) w).1 (queue_dropped (held_by v worker) (value_taken sleeps now u))) is.cpu
+    (split (current_of u.cpu w.members) refl)
+  where
+    split : (o : Option Member) → current_of u.cpu w.members ≡ o → IsMadeFor (on_side u.cpu (dropped u.cpu worker now) w).0 worker u.cpu (on_side u.cpu (dropped u.cpu worker now) w).1 (queue_dropped (held_by v worker) (value_taken sleeps now u))
+    split None idle = drop_idles v w worker c channel now u shows is idle
+    split (Some m) runs = drop_runs v w worker c channel now m u shows is empty runs
+
+-- a landing of the thread in the hand
+land_made : (v : WorldValue) (w : World) (worker c t now : ℕ) (u : CpuValue) → Shows v w → IsQueueOf w c u → IsInHand w.members worker t (held_by v worker) → IsMade v w worker (Land t c) now c (queue u)
+land_made v w worker c t now u shows is held =
+    subst (λ (d : ℕ). IsMadeFor (on_side d (landed t d worker now) w).0 worker d (on_side d (landed t d worker now) w).1 (queue_landed worker now (held_by v worker) u)) is.cpu
+    (subst (λ (i : ℕ). IsMadeFor (on_side u.cpu (landed i u.cpu worker now) w).0 worker u.cpu (on_side u.cpu (landed i u.cpu worker now) w).1 (queue_landed worker now (held_by v worker) u)) held.within.number
+    (subst (λ (o : Option ThreadRecord). IsMadeFor (on_side u.cpu (landed m.thread.id u.cpu worker now) w).0 worker u.cpu (on_side u.cpu (landed m.thread.id u.cpu worker now) w).1 (queue_landed worker now o u)) (sym held.held_is)
+    (record {
+      value = queue_stands w u.cpu u (value_added now m.thread (not (worker == u.cpu)) u) (landed m.thread.id u.cpu worker now (side_of u.cpu w)).0 (own_queue w c u is) land.event;
+      hand = land_hand u.cpu worker now m (side_of u.cpu w) m.thread shows.made found (ap (is_hand_of worker) held.place ∙ eq-eqb worker worker refl) (subst (IsThis worker w.members) held.held_is (shows.hands worker));
+      answer = sym land.answer;
+    })))
+  where
+    m : Member
+    m = held.member
+
+    found : thread_of m.thread.id w.members ≡ Some m
+    found = subst (λ (i : ℕ). thread_of i w.members ≡ Some m) (sym held.within.number) (thread_of_within t m w.members held.within)
+
+    land : IsLandOf worker now m u (side_of u.cpu w)
+    land = land_stands worker now m u (side_of u.cpu w) (own_queue w c u is).stands shows.made found (λ d. ap (is_on d) held.place)
+
+-- ---- the events of chains and limbo
+
+-- a bed
+bed_made : (v : WorldValue) (w : World) (worker t channel now : ℕ) (c : ChainValue) → Shows v w → IsChainOf w (16 + channel % 8) c → IsInHand w.members worker t (held_by v worker) →
+    IsMade v w worker (Bed t channel) now (16 + channel % 8) (chain c)
+bed_made v w worker t channel now c shows is held =
+    let down : IsPutDown (moved_to t (Asleep channel) (pos 0) w.members) worker (16 + channel % 8) held.member.thread (Asleep channel) c.slots =
+    put_down w.members worker (16 + channel % 8) t (held_by v worker) (Asleep channel) c.slots held (shows.hands worker) is.under is.slots (eq-eqb (16 + channel % 8) (16 + channel % 8) refl) refl in
+    subst (λ (o : Option ThreadRecord). IsMadeFor (step w worker (Bed t channel) now).0 worker (16 + channel % 8) Bedded (chain_bedded channel o c)) (sym held.held_is)
+    (record {
+      value = record {
+        number = is.number;
+        small = is.small;
+        slots = length-set c.slots held.member.thread.id (Some (record { thread = held.member.thread; place = Asleep channel })) ∙ is.slots;
+        under = down.under;
+        asleep = put_each (IsAsleepOn c.number) c.slots held.member.thread.id (record { thread = held.member.thread; place = Asleep channel }) is.asleep (record { channel = channel; place = refl; chain = let e = is.number in omega arith });
+      };
+      hand = down.hand;
+      answer = refl;
+    })
+
+-- a return
+return_made : (v : WorldValue) (w : World) (worker t now : ℕ) (c : LimboValue) → Shows v w → IsLimboOf w 24 c → IsInHand w.members worker t (held_by v worker) →
+    IsMade v w worker (Return t) now 24 (limbo c)
+return_made v w worker t now c shows is held =
+    let down : IsPutDown (moved_to t Unborn (pos 0) w.members) worker 24 held.member.thread Unborn c.slots =
+    put_down w.members worker 24 t (held_by v worker) Unborn c.slots held (shows.hands worker) is.under is.slots refl refl in
+    subst (λ (o : Option ThreadRecord). IsMadeFor (step w worker (Return t) now).0 worker 24 Returned (limbo_returned o c)) (sym held.held_is)
+    (record {
+      value = record {
+        number = refl;
+        slots = length-set c.slots held.member.thread.id (Some (record { thread = held.member.thread; place = Unborn })) ∙ is.slots;
+        under = down.under;
+        still = put_each (λ s. (s.place ≡ Unborn) ⊎ (s.place ≡ Gone)) c.slots held.member.thread.id (record { thread = held.member.thread; place = Unborn }) is.still (inl refl);
+      };
+      hand = down.hand;
+      answer = refl;
+    })
+
+-- a burial
+bury_made : (v : WorldValue) (w : World) (worker t now : ℕ) (c : LimboValue) → Shows v w → IsLimboOf w 24 c → IsInHand w.members worker t (held_by v worker) →
+    IsMade v w worker (Bury t) now 24 (limbo c)
+bury_made v w worker t now c shows is held =
+    let down : IsPutDown (moved_to t Gone (pos 0) w.members) worker 24 held.member.thread Gone c.slots =
+    put_down w.members worker 24 t (held_by v worker) Gone c.slots held (shows.hands worker) is.under is.slots refl refl in
+    subst (λ (o : Option ThreadRecord). IsMadeFor (step w worker (Bury t) now).0 worker 24 Buried (limbo_buried o c)) (sym held.held_is)
+    (record {
+      value = record {
+        number = refl;
+        slots = length-set c.slots held.member.thread.id (Some (record { thread = held.member.thread; place = Gone })) ∙ is.slots;
+        under = down.under;
+        still = put_each (λ s. (s.place ≡ Unborn) ⊎ (s.place ≡ Gone)) c.slots held.member.thread.id (record { thread = held.member.thread; place = Gone }) is.still (inr refl);
+      };
+      hand = down.hand;
+      answer = refl;
+    })
+
+-- a hatch of this unborn thread
+hatch_made : (v : WorldValue) (w : World) (worker t now : ℕ) (m : Member) (c : LimboValue) → Shows v w → IsLimboOf w 24 c → held_by v worker ≡ None →
+    thread_of t w.members ≡ Some m → m.place ≡ Unborn → IsMade v w worker (Hatch t) now 24 (limbo c)
+hatch_made v w worker t now m c shows is empty found place =
+    let within : Within t m w.members = within_thread t w.members m shows.made found in
+    let up : IsTakenUp (changed t (taken_up worker (λ r. r)) w.members) worker 24 t m.thread c.slots =
+    take_up w.members worker 24 t m (λ r. r) c.slots (λ r. refl) within (subst (IsThis worker w.members) empty (shows.hands worker)) is.under is.slots in
+    subst (λ (o : Option Standing). IsMadeFor (step w worker (Hatch t) now).0 worker 24 Hatched (limbo_hatched t (held_by v worker) o c)) (sym (slot_of w 24 t m c.slots is.under shows.made found (ap (is_under 24) place)))
+    (record {
+      value = record {
+        number = refl;
+        slots = length-set c.slots t None ∙ is.slots;
+        under = up.under;
+        still = take_each (λ s. (s.place ≡ Unborn) ⊎ (s.place ≡ Gone)) c.slots t is.still;
+      };
+      hand = up.hand;
+      answer = refl;
+    })
+
+-- a wake of this sleeper
+wake_made : (v : WorldValue) (w : World) (worker t now channel : ℕ) (m : Member) (c : ChainValue) → Shows v w → IsChainOf w (16 + channel % 8) c → held_by v worker ≡ None →
+    thread_of t w.members ≡ Some m → m.place ≡ Asleep channel →
+    IsMadeFor (record w { members = (woken_thread worker now w.settings m w.members).0 }) worker (16 + channel % 8) (woken_thread worker now w.settings m w.members).1 (lock_step v.settings worker (Wake t) now (held_by v worker) (chain c))
+wake_made v w worker t now channel m c shows is empty found place =
+    let within : Within t m w.members = within_thread t w.members m shows.made found in
+    let up : IsTakenUp (changed t (taken_up worker (record_after w.settings now woken)) w.members) worker (16 + channel % 8) t (record_after w.settings now woken m.thread) c.slots =
+    take_up w.members worker (16 + channel % 8) t m (record_after w.settings now woken) c.slots (change_number w.settings now woken) within (subst (IsThis worker w.members) empty (shows.hands worker)) is.under is.slots in
+    subst (λ (o : Option Standing). IsMadeFor (record w { members = (woken_thread worker now w.settings m w.members).0 }) worker (16 + channel % 8) (woken_thread worker now w.settings m w.members).1 (chain_woken v.settings now t (held_by v worker) o c))
+    (sym (slot_of w (16 + channel % 8) t m c.slots is.under shows.made found (ap (is_under (16 + channel % 8)) place ∙ eq-eqb (16 + channel % 8) (16 + channel % 8) refl)))
+    (subst (λ (i : ℕ). IsMadeFor (record w { members = put_in_hand w.settings now worker woken i w.members }) worker (16 + channel % 8) (woken_thread worker now w.settings m w.members).1 (chain_woken v.settings now t (held_by v worker) (Some (standing_of m)) c)) (sym within.number)
+    (subst (λ (ns : List Member). IsMadeFor (record w { members = ns }) worker (16 + channel % 8) (woken_thread worker now w.settings m w.members).1 (chain_woken v.settings now t (held_by v worker) (Some (standing_of m)) c)) (sym (taken_up_is t worker (record_after w.settings now woken) w.members (change_number w.settings now woken)))
+    (record {
+      value = record {
+        number = is.number;
+        small = is.small;
+        slots = length-set c.slots t None ∙ is.slots;
+        under = up.under;
+        asleep = take_each (IsAsleepOn c.number) c.slots t is.asleep;
+      };
+      hand = subst (λ s. IsThis worker (changed t (taken_up worker (record_after w.settings now woken)) w.members) (Some (record_after s now woken m.thread))) (sym shows.settings) up.hand;
+      answer = ap (λ s. woken_reply (record_after s now woken m.thread)) shows.settings;
+    })))
+
+-- a wake of a thread that doesn't sleep: it stays, and the reply tells its place
+stay_made : (v : WorldValue) (w : World) (worker t now l : ℕ) (m : Member) (value : LockValue) → Shows v w → StandsUnder w l value →
+    thread_of t w.members ≡ Some m → lock_of m.place ≡ Some l → ((channel : ℕ) → m.place ≢ Asleep channel) →
+    IsMadeFor w worker l (NotAsleep m.place) (lock_step v.settings worker (Wake t) now (held_by v worker) value)
+stay_made v w worker t now l m value shows stands found lock awake = at_value value stands (found_stands w l t value shows.made shows.cpus stands ∙ ap (option_map standing_of) here)
+  where
+    here : thread_under l t w.members ≡ Some m
+    here =
+        thread_at_within (is_under l) t m w.members (within_thread t w.members m shows.made found) ∙
+        cond-true (is_under l m.place) (Some m) None (ap (is_number l) lock ∙ eq-eqb l l refl)
+
+    at_value : (x : LockValue) → StandsUnder w l x → found_in x t ≡ Some (standing_of m) → IsMadeFor w worker l (NotAsleep m.place) (lock_step v.settings worker (Wake t) now (held_by v worker) x)
+    at_value (queue u) is finds = record { value = is; hand = shows.hands worker; answer = ap not_asleep finds }
+    at_value (chain c) is finds =
+        let asleep : IsAsleepOn c.number (standing_of m) = at_some (IsAsleepOn c.number) (standing_in c.slots t) (standing_of m) (is.asleep t) finds in absurd (awake asleep.channel asleep.place)
+    at_value (limbo c) is finds = record { value = is; hand = shows.hands worker; answer = ap not_asleep finds }
+    at_value nothing is finds = absurd (none-some (standing_of m) finds)
+
+-- ---- events that have no step yet
+
+-- whether an event under one lock has no step yet
+abbrev pub is_unbuilt : Event → Bool
+is_unbuilt (Tick c) = false
+is_unbuilt (Switch c why) = false
+is_unbuilt (Drop c channel) = false
+is_unbuilt (Bed t channel) = false
+is_unbuilt (Wake t) = false
+is_unbuilt (Look c) = true
+is_unbuilt (Land t c) = false
+is_unbuilt (Move a b why) = false
+is_unbuilt (Lend t p) = true
+is_unbuilt (Unlend t) = true
+is_unbuilt (Renice t n) = true
+is_unbuilt (Hatch t) = false
+is_unbuilt (Fork c t) = true
+is_unbuilt (Return t) = false
+is_unbuilt (Exit c) = true
+is_unbuilt (Bury t) = false
+is_unbuilt (Inherit t run) = true
+
+-- it leaves the value and the hand
+unbuilt_kept : (v : WorldValue) (worker : ℕ) (e : Event) (now : ℕ) (value : LockValue) → is_unbuilt e ≡ true →
+    lock_step v.settings worker e now (held_by v worker) value ≡ kept (held_by v worker) value Nothing
+unbuilt_kept v worker (Look c) now (queue u) is = refl
+unbuilt_kept v worker (Look c) now (chain u) is = refl
+unbuilt_kept v worker (Look c) now (limbo u) is = refl
+unbuilt_kept v worker (Lend t p) now (queue u) is = refl
+unbuilt_kept v worker (Lend t p) now (chain u) is = refl
+unbuilt_kept v worker (Lend t p) now (limbo u) is = refl
+unbuilt_kept v worker (Unlend t) now (queue u) is = refl
+unbuilt_kept v worker (Unlend t) now (chain u) is = refl
+unbuilt_kept v worker (Unlend t) now (limbo u) is = refl
+unbuilt_kept v worker (Renice t n) now (queue u) is = refl
+unbuilt_kept v worker (Renice t n) now (chain u) is = refl
+unbuilt_kept v worker (Renice t n) now (limbo u) is = refl
+unbuilt_kept v worker (Fork c t) now (queue u) is = refl
+unbuilt_kept v worker (Fork c t) now (chain u) is = refl
+unbuilt_kept v worker (Fork c t) now (limbo u) is = refl
+unbuilt_kept v worker (Exit c) now (queue u) is = refl
+unbuilt_kept v worker (Exit c) now (chain u) is = refl
+unbuilt_kept v worker (Exit c) now (limbo u) is = refl
+unbuilt_kept v worker (Inherit t run) now (queue u) is = refl
+unbuilt_kept v worker (Inherit t run) now (chain u) is = refl
+unbuilt_kept v worker (Inherit t run) now (limbo u) is = refl
+unbuilt_kept v worker e now nothing is = refl
+unbuilt_kept v worker (Tick c) now value is = absurd (true≢false (sym is))
+unbuilt_kept v worker (Switch c why) now value is = absurd (true≢false (sym is))
+unbuilt_kept v worker (Drop c channel) now value is = absurd (true≢false (sym is))
+unbuilt_kept v worker (Bed t channel) now value is = absurd (true≢false (sym is))
+unbuilt_kept v worker (Wake t) now value is = absurd (true≢false (sym is))
+unbuilt_kept v worker (Land t c) now value is = absurd (true≢false (sym is))
+unbuilt_kept v worker (Move a b why) now value is = absurd (true≢false (sym is))
+unbuilt_kept v worker (Hatch t) now value is = absurd (true≢false (sym is))
+unbuilt_kept v worker (Return t) now value is = absurd (true≢false (sym is))
+unbuilt_kept v worker (Bury t) now value is = absurd (true≢false (sym is))
+
+-- so what stands under its lock stands there still
+unbuilt_made : (v : WorldValue) (w : World) (worker l : ℕ) (e : Event) (now : ℕ) (at : HasValue v w l) → Shows v w → is_unbuilt e ≡ true →
+    IsMadeFor w worker l Nothing (lock_step v.settings worker e now (held_by v worker) at.value)
+unbuilt_made v w worker l e now at shows is =
+    subst (IsMadeFor w worker l Nothing) (sym (unbuilt_kept v worker e now at.value is)) (record { value = at.stands; hand = shows.hands worker; answer = refl })
+
+-- ---- the thread that an event seeks
+
+-- a sought thread, which stands under a lock
+pub record IsSought (v : WorldValue) (w : World) (t : ℕ) : Type 0 where
+  pub member : Member
+  pub found : thread_of t w.members ≡ Some member
+  pub lock : ℕ
+  pub place : lock_of member.place ≡ Some lock
+  pub within : lock < 25
+  pub lock_is : lock_with t v.values ≡ Some lock
+  pub locks : lock_of_thread w.members t ≡ lock ∷ []
+
+-- a thread that is there and in no other's hand, where the worker's own is empty, stands under a lock
+pub sought_stands : (v : WorldValue) (w : World) (worker t : ℕ) → Shows v w → IsSome (thread_of t w.members) →
+    is_no_others worker (holder_of w.members t) ≡ true → HasEmptyHand w worker → IsSought v w t
+sought_stands v w worker t shows there ready empty = at_thread (thread_of t w.members) refl there
+  where
+    under : (m : Member) (l : ℕ) → thread_of t w.members ≡ Some m → lock_of m.place ≡ Some l → IsSought v w t
+    under m l found lock =
+        let is = lock_found v w t l m shows found lock in record {
+          member = m;
+          found = found;
+          lock = l;
+          place = lock;
+          within = is.0;
+          lock_is = is.1;
+          locks = ap (λ (o : Option Member). option_to_list (option_and_then (λ (n : Member). lock_of n.place) o)) found ∙ ap (λ (o : Option ℕ). option_to_list o) lock;
+        }
+
+    at_place : (m : Member) (p : Place) → thread_of t w.members ≡ Some m → m.place ≡ p → IsSought v w t
+    at_place m (Running c) found place = under m c found (ap lock_of place)
+    at_place m (Queued c k b) found place = under m c found (ap lock_of place)
+    at_place m (Asleep channel) found place = under m (16 + channel % 8) found (ap lock_of place)
+    at_place m Unborn found place = under m 24 found (ap lock_of place)
+    at_place m Gone found place = under m 24 found (ap lock_of place)
+    at_place m (Hand h) found place =
+        let holder : holder_of w.members t ≡ Some h = ap (option_and_then (λ (n : Member). hand_of n.place)) found ∙ ap hand_of place in
+        absurd (empty t (holder ∙ ap (λ (i : ℕ). Some i) (eqb-true h worker (sym (ap (is_no_others worker) holder) ∙ ready))))
+
+    at_thread : (o : Option Member) → thread_of t w.members ≡ o → IsSome o → IsSought v w t
+    at_thread None found some = absurd (true≢false (sym some))
+    at_thread (Some m) found some = at_place m m.place found refl
+
+-- an unborn thread
+unborn_stands : (w : World) (t : ℕ) → is_unborn_thread (thread_of t w.members) ≡ true → (m : Member) × (thread_of t w.members ≡ Some m) × (m.place ≡ Unborn)
+unborn_stands w t is = at_thread (thread_of t w.members) refl is
+  where
+    at_place : (m : Member) (p : Place) → thread_of t w.members ≡ Some m → m.place ≡ p → is_unborn p ≡ true → (m : Member) × (thread_of t w.members ≡ Some m) × (m.place ≡ Unborn)
+    at_place m Unborn found place is = (m, found, place)
+    at_place m (Running c) found place is = absurd (true≢false (sym is))
+    at_place m (Queued c k b) found place is = absurd (true≢false (sym is))
+    at_place m (Asleep channel) found place is = absurd (true≢false (sym is))
+    at_place m Gone found place is = absurd (true≢false (sym is))
+    at_place m (Hand h) found place is = absurd (true≢false (sym is))
+
+    at_thread : (o : Option Member) → thread_of t w.members ≡ o → is_unborn_thread o ≡ true → (m : Member) × (thread_of t w.members ≡ Some m) × (m.place ≡ Unborn)
+    at_thread None found is = absurd (true≢false (sym is))
+    at_thread (Some m) found is = at_place m m.place found refl is
+
+-- a wake of a thread that stands at a place where none sleeps
+wake_stays : (v : WorldValue) (w : World) (worker t now : ℕ) (s : IsSought v w t) (at : HasValue v w s.lock) → Shows v w → (p : Place) → s.member.place ≡ p → ((channel : ℕ) → p ≢ Asleep channel) →
+    IsMadeFor w worker s.lock (NotAsleep p) (lock_step v.settings worker (Wake t) now (held_by v worker) at.value)
+wake_stays v w worker t now s at shows p place awake =
+    subst (λ (q : Place). IsMadeFor w worker s.lock (NotAsleep q) (lock_step v.settings worker (Wake t) now (held_by v worker) at.value)) place
+    (stay_made v w worker t now s.lock s.member at.value shows at.stands s.found s.place (λ channel e. awake channel (sym place ∙ e)))
+
+-- a wake, by the place of the thread
+wake_at : (v : WorldValue) (w : World) (worker t now : ℕ) (s : IsSought v w t) (at : HasValue v w s.lock) → Shows v w → held_by v worker ≡ None → (p : Place) → s.member.place ≡ p →
+    IsMadeFor (record w { members = (woken_at p worker now w.settings s.member w.members).0 }) worker s.lock (woken_at p worker now w.settings s.member w.members).1 (lock_step v.settings worker (Wake t) now (held_by v worker) at.value)
+wake_at v w worker t now s at shows empty (Asleep channel) place =
+    let lock : 16 + channel % 8 ≡ s.lock = same_number (16 + channel % 8) s.lock (sym (ap lock_of place) ∙ s.place) in
+    subst (λ (l : ℕ). StandsUnder w l at.value → IsMadeFor (record w { members = (woken_thread worker now w.settings s.member w.members).0 }) worker l (woken_thread worker now w.settings s.member w.members).1 (lock_step v.settings worker (Wake t) now (held_by v worker) at.value)) lock
+    (λ stands. let c = chain_at w channel at.value shows.cpus stands in
+    subst (λ (x : LockValue). IsMadeFor (record w { members = (woken_thread worker now w.settings s.member w.members).0 }) worker (16 + channel % 8) (woken_thread worker now w.settings s.member w.members).1 (lock_step v.settings worker (Wake t) now (held_by v worker) x)) (sym c.1)
+    (wake_made v w worker t now channel s.member c.0 shows c.2 empty s.found place)) at.stands
+  where
+    same_number : (a b : ℕ) → Some a ≡ Some b → a ≡ b
+    same_number a b e = cc
+wake_at v w worker t now s at shows empty (Running c) place = wake_stays v w worker t now s at shows (Running c) place (λ channel e. cc)
+wake_at v w worker t now s at shows empty (Queued c k b) place = wake_stays v w worker t now s at shows (Queued c k b) place (λ channel e. cc)
+wake_at v w worker t now s at shows empty Unborn place = wake_stays v w worker t now s at shows Unborn place (λ channel e. cc)
+wake_at v w worker t now s at shows empty Gone place = wake_stays v w worker t now s at shows Gone place (λ channel e. cc)
+wake_at v w worker t now s at shows empty (Hand h) place = wake_stays v w worker t now s at shows (Hand h) place (λ channel e. cc)
+
+-- ---- the step
+
+-- the queue locks are few
+few_queues : (w : World) (c : ℕ) → length w.lines ≤ 16 → c < length w.lines → c < 25
+few_queues w c few below = omega arith
+
+-- the step of an event of CPU c
+on_queue : (v : WorldValue) (w : World) (worker : ℕ) (e : Event) (now c : ℕ) → IsAtEvent v w worker e now → lock_for v.values (locking e) ≡ Some c →
+    locks_of w e ≡ c ∷ [] → c < length w.lines → ((u : CpuValue) → IsQueueOf w c u → IsMade v w worker e now c (queue u)) → IsStepOf v w worker e now
+on_queue v w worker e now c at lock locks below made =
+    step_from v w worker e now c at lock locks (few_queues w c at.shows.cpus below)
+    (λ has. let q = queue_at w c has.value below at.shows.cpus has.stands in subst (λ x. IsMade v w worker e now c x) (sym q.1) (made q.0 q.2))
+
+-- the step of an event that seeks a thread and has none yet
+unbuilt_sought : (v : WorldValue) (w : World) (worker t : ℕ) (e : Event) (now : ℕ) → IsAtEvent v w worker e now → IsSought v w t → is_unbuilt e ≡ true →
+    lock_for v.values (locking e) ≡ lock_with t v.values → locks_of w e ≡ lock_of_thread w.members t → step w worker e now ≡ (w, Nothing) → IsStepOf v w worker e now
+unbuilt_sought v w worker t e now at s is lock locks same =
+    step_from v w worker e now s.lock at (lock ∙ s.lock_is) (locks ∙ s.locks) s.within
+    (λ has. subst (λ (done : World × Reply). IsMadeFor done.0 worker s.lock done.1 (lock_step v.settings worker e now (held_by v worker) has.value)) (sym same)
+    (unbuilt_made v w worker s.lock e now has at.shows is))
+
+-- a step of the whole scheduler, where an event is performed
+pub step_shows : (v : WorldValue) (w : World) (worker : ℕ) (e : Event) (now : ℕ) → IsAtEvent v w worker e now → IsStepOf v w worker e now
+step_shows v w worker (Tick c) now at = on_queue v w worker (Tick c) now c at refl refl (ltb-true c (length w.lines) at.possible.cpus) (λ u is. tick_made v w worker c now u at.shows is)
+step_shows v w worker (Switch c why) now at = on_queue v w worker (Switch c why) now c at refl refl (ltb-true c (length w.lines) at.possible.cpus) (λ u is. switch_made v w worker c why now u at.shows is)
+step_shows v w worker (Drop c channel) now at =
+    on_queue v w worker (Drop c channel) now c at refl refl (ltb-true c (length w.lines) at.possible.cpus)
+    (λ u is. drop_made v w worker c channel now u at.shows is (empty_hand w worker (held_by v worker) at.shows.made (at.shows.hands worker) at.possible.hand))
+step_shows v w worker (Bed t channel) now at =
+    step_from v w worker (Bed t channel) now (16 + channel % 8) at refl refl (let small : channel % 8 < 8 = mod-lt channel (omega arith) in omega arith)
+    (λ has. let c = chain_at w channel has.value at.shows.cpus has.stands in
+    subst (λ x. IsMade v w worker (Bed t channel) now (16 + channel % 8) x) (sym c.1)
+    (bed_made v w worker t channel now c.0 at.shows c.2 (holder_holds w.members worker t (held_by v worker) at.shows.made (at.shows.hands worker) at.possible.hand)))
+step_shows v w worker (Wake t) now at =
+    let s : IsSought v w t = sought_stands v w worker t at.shows at.possible.declared at.possible.ready at.possible.hand in
+    step_from v w worker (Wake t) now s.lock at s.lock_is s.locks s.within
+    (λ has.
+    subst (λ (o : Option Member). IsMadeFor (record w { members = (woken_with o worker now w.settings w.members).0 }) worker s.lock (woken_with o worker now w.settings w.members).1 (lock_step v.settings worker (Wake t) now (held_by v worker) has.value)) (sym s.found)
+    (wake_at v w worker t now s has at.shows (empty_hand w worker (held_by v worker) at.shows.made (at.shows.hands worker) at.possible.hand) s.member.place refl))
+step_shows v w worker (Look c) now at =
+    step_from v w worker (Look c) now c at refl refl (few_queues w c at.shows.cpus (ltb-true c (length w.lines) at.possible.cpus)) (λ has. unbuilt_made v w worker c (Look c) now has at.shows refl)
+step_shows v w worker (Land t c) now at =
+    on_queue v w worker (Land t c) now c at refl refl (ltb-true c (length w.lines) at.possible.cpus)
+    (λ u is. land_made v w worker c t now u at.shows is (holder_holds w.members worker t (held_by v worker) at.shows.made (at.shows.hands worker) at.possible.hand))
+step_shows v w worker (Move a b why) now at = (at.shows, refl)
+step_shows v w worker (Lend t p) now at = unbuilt_sought v w worker t (Lend t p) now at (sought_stands v w worker t at.shows at.possible.declared at.possible.ready at.possible.hand) refl refl refl refl
+step_shows v w worker (Unlend t) now at = unbuilt_sought v w worker t (Unlend t) now at (sought_stands v w worker t at.shows at.possible.declared at.possible.ready at.possible.hand) refl refl refl refl
+step_shows v w worker (Renice t n) now at = unbuilt_sought v w worker t (Renice t n) now at (sought_stands v w worker t at.shows at.possible.declared at.possible.ready at.possible.hand) refl refl refl refl
+step_shows v w worker (Hatch t) now at =
+    let m = unborn_stands w t at.possible.hand.1 in
+    step_from v w worker (Hatch t) now 24 at refl refl (omega arith)
+    (λ has. let c = limbo_at w has.value at.shows.cpus has.stands in
+    subst (λ x. IsMade v w worker (Hatch t) now 24 x) (sym c.1)
+    (hatch_made v w worker t now m.0 c.0 at.shows c.2 (empty_hand w worker (held_by v worker) at.shows.made (at.shows.hands worker) at.possible.hand.0) m.1 m.2))
+step_shows v w worker (Fork c t) now at =
+    step_from v w worker (Fork c t) now c at refl refl (few_queues w c at.shows.cpus (ltb-true c (length w.lines) at.possible.cpus)) (λ has. unbuilt_made v w worker c (Fork c t) now has at.shows refl)
+step_shows v w worker (Return t) now at =
+    step_from v w worker (Return t) now 24 at refl refl (omega arith)
+    (λ has. let c = limbo_at w has.value at.shows.cpus has.stands in
+    subst (λ x. IsMade v w worker (Return t) now 24 x) (sym c.1)
+    (return_made v w worker t now c.0 at.shows c.2 (holder_holds w.members worker t (held_by v worker) at.shows.made (at.shows.hands worker) at.possible.hand)))
+step_shows v w worker (Exit c) now at =
+    step_from v w worker (Exit c) now c at refl refl (few_queues w c at.shows.cpus (ltb-true c (length w.lines) at.possible.cpus)) (λ has. unbuilt_made v w worker c (Exit c) now has at.shows refl)
+step_shows v w worker (Bury t) now at =
+    step_from v w worker (Bury t) now 24 at refl refl (omega arith)
+    (λ has. let c = limbo_at w has.value at.shows.cpus has.stands in
+    subst (λ x. IsMade v w worker (Bury t) now 24 x) (sym c.1)
+    (bury_made v w worker t now c.0 at.shows c.2 (holder_holds w.members worker t (held_by v worker) at.shows.made (at.shows.hands worker) at.possible.hand)))
+step_shows v w worker (Inherit t run) now at = unbuilt_sought v w worker t (Inherit t run) now at (sought_stands v w worker t at.shows at.possible.declared at.possible.ready at.possible.hand) refl refl refl refl
