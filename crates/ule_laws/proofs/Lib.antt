@@ -12,3 +12,4 @@ pub mod ChainSteps
 pub mod SeekLaws
 pub mod CpuSteps
 pub mod StepLaws
+pub mod TellLaws
