@@ -5,3 +5,5 @@ pub mod WellMade
 pub mod Rising
 pub mod ChoiceLaws
 pub mod Positions
+pub mod QueueKinds
+pub mod Beside
