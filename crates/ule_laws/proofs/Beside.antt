@@ -219,7 +219,7 @@ absent_lifted m v s w stands off = record {
 -- ---- what the puts share
 
 -- the records once the thread stands at a place on the CPU
-put_threads : (m : Member) (v : CpuValue) (s : Side) (w : Within m.thread.id m s.members) → StandsBeside m v s (w.before ++ w.after) →
+pub put_threads : (m : Member) (v : CpuValue) (s : Side) (w : Within m.thread.id m s.members) → StandsBeside m v s (w.before ++ w.after) →
     (place : Place) (order : ℤ) → is_on v.cpu place ≡ true → (u : ℕ) →
     thread_in v u ≡ option_map (λ n. n.thread) (thread_on v.cpu u (moved_to m.thread.id place order s.members))
 put_threads m v s w beside place order on u = ⊎_elim same other (cases_eq u t)
@@ -245,7 +245,7 @@ put_threads m v s w beside place order on u = ⊎_elim same other (cases_eq u t)
         (and_left (is_thread u m) (is_on v.cpu place) (ne_eqb t u (λ e. apart (sym e))))))
 
 -- the load once the thread stands at a place
-put_load : (m : Member) (v : CpuValue) (s : Side) (w : Within m.thread.id m s.members) (place : Place) (order : ℤ) (d : Bool) → is_on v.cpu place ≡ d →
+pub put_load : (m : Member) (v : CpuValue) (s : Side) (w : Within m.thread.id m s.members) (place : Place) (order : ℤ) (d : Bool) → is_on v.cpu place ≡ d →
     load_of v.cpu (moved_to m.thread.id place order s.members) ≡ cond d 1 0 + load_of v.cpu (w.before ++ w.after)
 put_load m v s w place order d on =
     load-changed v.cpu m.thread.id m s.members w (λ n. record n { place = place; order = order }) ∙

@@ -7,3 +7,5 @@ pub mod ChoiceLaws
 pub mod Positions
 pub mod QueueKinds
 pub mod Beside
+pub mod Queueing
+pub mod ChoosingLaws
