@@ -9,3 +9,5 @@ pub mod QueueKinds
 pub mod Beside
 pub mod Queueing
 pub mod ChoosingLaws
+pub mod CpuLaws
+pub mod CpuEvents
