@@ -5,6 +5,7 @@ pub mod WellMade
 pub mod Rising
 pub mod ChoiceLaws
 pub mod Positions
+pub mod FrameLaws
 pub mod CpuPlaces
 pub mod LockLaws
 pub mod WorldLaws

@@ -5,3 +5,15 @@ pub mod PlaceFinds
 pub mod Loads
 pub mod Lists
 pub mod Owed
+pub mod Touches
+pub mod WordLaws
+pub mod Apart
+pub mod Moves
+pub mod Reach
+pub mod Done
+pub mod EventParts
+pub mod EventsDone
+pub mod Rest
+pub mod Steps
+pub mod Untouched
+pub mod Numbered
