@@ -11,3 +11,4 @@ pub mod Queueing
 pub mod ChoosingLaws
 pub mod CpuLaws
 pub mod CpuEvents
+pub mod CpuPlaces
