@@ -5,8 +5,14 @@ pub mod WellMade
 pub mod Rising
 pub mod ChoiceLaws
 pub mod Positions
-pub mod FrameLaws
+pub mod QueueKinds
+pub mod Beside
+pub mod Queueing
+pub mod ChoosingLaws
+pub mod CpuLaws
+pub mod CpuEvents
 pub mod CpuPlaces
+pub mod FrameLaws
 pub mod LockLaws
 pub mod WorldLaws
 pub mod ChainSteps
