@@ -9,7 +9,7 @@ use Rattle.ule_prio.specs.declared.kind.Kind.{Kind}
 use Rattle.ule_prio.specs.declared.kind.Kind.TheVariants.{Real, Batch, Idle}
 use Rattle.ule_runq.specs.Runq.{is_empty_at}
 use Rattle.ule_score.proofs.ChangeLaws.{change_number}
-use Rattle.ule_score.specs.Changes.{IsSoundChange, RecordChange, after_tick, placed, record_after, sleeps, ticked as tick_of}
+use Rattle.ule_score.specs.Changes.{IsSoundChange, RecordChange, after_tick, placed, placed_on, record_after, sleeps, ticked as tick_of}
 use Rattle.ule_score.specs.declared.place.Place.TheVariants.{Hand}
 use Rattle.ule_score.specs.declared.record.CpuLine.{CpuLine}
 use Rattle.ule_score.specs.declared.record.Settings.{Settings}
@@ -270,11 +270,11 @@ dropped_stands worker now v s stands made = split (current_of v.cpu s.members) r
 -- ---- a landing
 
 -- what a landing of m gives, on the value and on the side
-pub record AreLanded (now : ℕ) (m : Member) (remote : Bool) (v : CpuValue) (meant : Side × Reply) : Type 0 where
-  pub stands : StandsFor (value_added now m.thread remote v) meant.0
+pub record AreLanded (m : Member) (remote : Bool) (v : CpuValue) (meant : Side × Reply) : Type 0 where
+  pub stands : StandsFor (value_added m.thread remote v) meant.0
   pub answer : meant.1 ≡ Landed (kind_at m.thread.priority) (bucket_of (kind_at m.thread.priority) Ordinary v.line m.thread.priority) (takes_over_in m.thread.priority remote v)
   pub well_made : IsWellMade meant.0.members
-  pub cpu : (value_added now m.thread remote v).cpu ≡ v.cpu
+  pub cpu : (value_added m.thread remote v).cpu ≡ v.cpu
 
 -- a change of the record of a thread on no CPU leaves what a value stands for
 off_changed : (now t : ℕ) (change : RecordChange) (m : Member) (v : CpuValue) (s : Side) → StandsFor v s → Within t m s.members → is_on v.cpu m.place ≡ false →
@@ -287,7 +287,7 @@ off_changed now t change m v s stands w off =
 
 -- a thread on no CPU comes to this one, and is queued
 placed_stands : (now : ℕ) (m : Member) (v : CpuValue) (s : Side) → StandsFor v s → IsWellMade s.members → Within m.thread.id m s.members → is_on v.cpu m.place ≡ false →
-    IsJoined v (value_laid (record_after v.settings now (placed v.cpu) m.thread) v)
+    IsJoined v (value_laid (placed_on v.cpu m.thread) v)
     (queued Ordinary v.cpu m.thread.id (record s { members = with_change s.settings now m.thread.id (placed v.cpu) s.members }))
 placed_stands now m v s stands made w off =
     record { stands = joined.stands; well_made = joined.well_made; cpu = joined.cpu; current = joined.current; line = joined.line }
@@ -328,12 +328,12 @@ takes_alike worker p v s stands made =
 -- the step of a landing
 pub landed_stands : (worker now : ℕ) (m : Member) (v : CpuValue) (s : Side) → StandsFor v s → IsWellMade s.members →
     thread_of m.thread.id s.members ≡ Some m → is_on v.cpu m.place ≡ false →
-    AreLanded now m (not (worker == v.cpu)) v (landed m.thread.id v.cpu worker now s)
+    AreLanded m (not (worker == v.cpu)) v (landed m.thread.id v.cpu worker now s)
 landed_stands worker now m v s stands made found off =
-    subst (λ (o : Option Member). AreLanded now m (not (worker == v.cpu)) v (landed_with o v.cpu worker now s)) (sym found)
-    (subst (λ (takes : Bool). AreLanded now m (not (worker == v.cpu)) v (meant takes)) (takes_alike worker p v s stands made)
+    subst (λ (o : Option Member). AreLanded m (not (worker == v.cpu)) v (landed_with o v.cpu worker now s)) (sym found)
+    (subst (λ (takes : Bool). AreLanded m (not (worker == v.cpu)) v (meant takes)) (takes_alike worker p v s stands made)
     (record {
-      stands = with_line_stands (marked_if takes) (value_laid (record_after v.settings now (placed v.cpu) m.thread) v) next joined.stands.index joined.stands;
+      stands = with_line_stands (marked_if takes) (value_laid (placed_on v.cpu m.thread) v) next joined.stands.index joined.stands;
       answer = ap (λ (line : CpuLine). Landed (kind_at p) (bucket_of (kind_at p) Ordinary line p) takes) (sym stands.line);
       well_made = joined.well_made;
       cpu = joined.cpu;
@@ -351,5 +351,5 @@ landed_stands worker now m v s stands made found off =
     meant : Bool → Side × Reply
     meant d = (record next { line = marked_if d next.line }, Landed (kind_at p) (bucket_of (kind_at p) Ordinary s.line p) d)
 
-    joined : IsJoined v (value_laid (record_after v.settings now (placed v.cpu) m.thread) v) next
+    joined : IsJoined v (value_laid (placed_on v.cpu m.thread) v) next
     joined = placed_stands now m v s stands made (within_thread m.thread.id s.members m made found) off
