@@ -1,66 +1,67 @@
--- The events of one CPU, on its value and on its side of a world.
-use Rattle.std.proofs.Common.{◌≡◌, ℕ, false, true, not, ◌==◌, Option, Some, None}
-use Rattle.ule_prio.specs.Kind.{kind_at}
-use Rattle.ule_score.specs.Changes.{RecordChange, before_sleep, sleeps}
-use Rattle.ule_score.specs.declared.record.ThreadRecord.{ThreadRecord}
+-- The events of one CPU leave the settings of its side, so that a world with the side has the side.
+use Rattle.std.proofs.Common.{◌≡◌, ℕ, Bool, true, false, Option, Some, None, if◌then◌else◌, refl, ◌∙◌}
 use Rattle.ule_score.specs.declared.record.Why.{Why}
 use Rattle.ule_types.specs.declared.event.Reply.{Reply}
-use Rattle.ule_types.specs.declared.event.Reply.TheVariants.{Dropped, Landed, Nothing}
-use Rattle.ule_model.specs.CpuValue.{CpuValue, StandsFor, Taken, takes_over_in, value_added, value_switched, value_taken, value_ticked}
-use Rattle.ule_model.specs.Insertion.{bucket_of}
-use Rattle.ule_model.specs.declared.insertion.Insertion.TheVariants.{Ordinary}
-use Rattle.ule_model.specs.Landing.{landed}
-use Rattle.ule_model.specs.Places.{is_hand_of, is_on}
-use Rattle.ule_model.specs.Sleep.{dropped}
-use Rattle.ule_model.specs.Switch.{switched}
-use Rattle.ule_model.specs.Tick.{ticked}
-use Rattle.ule_model.specs.WellMade.{IsWellMade}
-use Rattle.ule_model.specs.World.{Member, Side, World, current_of, side_of, thread_of, with_side}
-use Rattle.ule_laws.proofs.LockLaws.{IsThis}
+use Rattle.ule_types.specs.declared.event.Reply.TheVariants.{Unmarked}
+use Rattle.ule_model.specs.Choice.{choice_of}
+use Rattle.ule_model.specs.Insertion.{queued, with_queued}
+use Rattle.ule_model.specs.Landing.{is_taking_over, landed, landed_with}
+use Rattle.ule_model.specs.Sleep.{dropped, dropped_with, taken}
+use Rattle.ule_model.specs.Switch.{choosing_next, given_way, is_preemption, is_unasked, running_chosen, switched, switched_from, unmarked}
+use Rattle.ule_model.specs.Tick.{clocked, is_due, load_of, ticked, ticked_with}
+use Rattle.ule_model.specs.World.{Member, Side, current_of, thread_of}
+use Rattle.ule_model.specs.declared.insertion.Insertion.{Insertion}
+use Rattle.ule_score.specs.Changes.{RecordChange, sleeps}
 
--- a CPU's value and its side of a world after an event, from a value that stood for a side
-pub record IsCpuEvent (v new : CpuValue) (s made : Side) : Type 0 where
-  pub stands : StandsFor new made
-  pub cpu : new.cpu ≡ v.cpu
-  pub settings : made.settings ≡ s.settings
+-- an insertion leaves the settings
+queued_settings : (how : Insertion) (c t : ℕ) (s : Side) → (queued how c t s).settings ≡ s.settings
+queued_settings how c t s = split (thread_of t s.members)
+  where
+    split : (o : Option Member) → (with_queued how c o s).settings ≡ s.settings
+    split None = refl
+    split (Some m) = refl
 
-axiom pub tick_stands : (now : ℕ) (v : CpuValue) (s : Side) → StandsFor v s → IsWellMade s.members →
-    IsCpuEvent v (value_ticked now v).0 s (ticked v.cpu now s).0 × ((value_ticked now v).1 ≡ (ticked v.cpu now s).1)
+-- the choice of the next thread leaves them
+choosing_settings : (c now : ℕ) (s : Side) → (choosing_next c now s).0.settings ≡ s.settings
+choosing_settings c now s = split (choice_of c s.line.ridx s.members)
+  where
+    split : (o : Option Member) → (running_chosen c now o s).0.settings ≡ s.settings
+    split None = refl
+    split (Some m) = refl
 
-axiom pub switch_stands : (why : Why) (now : ℕ) (v : CpuValue) (s : Side) → StandsFor v s → IsWellMade s.members →
-    IsCpuEvent v (value_switched why now v).0 s (switched v.cpu why now s).0 × ((value_switched why now v).1 ≡ (switched v.cpu why now s).1)
+-- a tick leaves them
+pub ticked_settings : (c now : ℕ) (s : Side) → (ticked c now s).0.settings ≡ s.settings
+ticked_settings c now s = split (current_of c s.members)
+  where
+    split : (o : Option Member) → (ticked_with o (load_of c s.members) (is_due c s.line.balance) now (clocked c s)).0.settings ≡ s.settings
+    split None = refl
+    split (Some m) = refl
 
--- a drop of the CPU's current thread
-pub record IsDropOf (worker now : ℕ) (m : Member) (v : CpuValue) (s : Side) : Type 0 where
-  pub into : Option ℕ
-  pub event : IsCpuEvent v (value_taken sleeps now v).0 s (dropped v.cpu worker now s).0
-  pub out : (value_taken sleeps now v).1 ≡ Some (record { thread = before_sleep now m.thread; into = into })
-  pub answer : (dropped v.cpu worker now s).1 ≡ Dropped m.thread.id into
+-- a switch leaves them
+pub switched_settings : (c : ℕ) (why : Why) (now : ℕ) (s : Side) → (switched c why now s).0.settings ≡ s.settings
+switched_settings c why now s = if_asked (is_unasked why s.line.resched)
+  where
+    from : (o : Option Member) → (switched_from o c (is_preemption why s.line.slice_end) now (unmarked s)).0.settings ≡ s.settings
+    from None = choosing_settings c now (unmarked s)
+    from (Some m) =
+        choosing_settings c now (given_way c (is_preemption why s.line.slice_end) now m.thread.id (unmarked s)) ∙ queued_settings _ c m.thread.id _
 
-axiom pub drop_stands : (worker now : ℕ) (m : Member) (v : CpuValue) (s : Side) → StandsFor v s → IsWellMade s.members → current_of v.cpu s.members ≡ Some m →
-    IsDropOf worker now m v s
+    if_asked : (b : Bool) → (if b then (s, Unmarked) else switched_from (current_of c s.members) c (is_preemption why s.line.slice_end) now (unmarked s)).0.settings ≡ s.settings
+    if_asked true = refl
+    if_asked false = from (current_of c s.members)
 
--- a drop where no thread runs
-axiom pub drop_nothing : (worker now : ℕ) (v : CpuValue) (s : Side) → StandsFor v s → current_of v.cpu s.members ≡ None →
-    (value_taken sleeps now v ≡ (v, None)) × (dropped v.cpu worker now s ≡ (s, Nothing))
+-- a drop leaves them
+pub dropped_settings : (c worker now : ℕ) (s : Side) → (dropped c worker now s).0.settings ≡ s.settings
+dropped_settings c worker now s = split (current_of c s.members)
+  where
+    split : (o : Option Member) → (dropped_with o c worker now s).0.settings ≡ s.settings
+    split None = refl
+    split (Some m) = choosing_settings c now (taken worker now sleeps m.thread.id s)
 
--- a landing of a thread that stands on no CPU
-pub record IsLandOf (worker now : ℕ) (m : Member) (v : CpuValue) (s : Side) : Type 0 where
-  pub event : IsCpuEvent v (value_added now m.thread (not (worker == v.cpu)) v) s (landed m.thread.id v.cpu worker now s).0
-  pub answer : (landed m.thread.id v.cpu worker now s).1 ≡
-      Landed (kind_at m.thread.priority) (bucket_of (kind_at m.thread.priority) Ordinary v.line m.thread.priority) (takes_over_in m.thread.priority (not (worker == v.cpu)) v)
-
-axiom pub land_stands : (worker now : ℕ) (m : Member) (v : CpuValue) (s : Side) → StandsFor v s → IsWellMade s.members → thread_of m.thread.id s.members ≡ Some m →
-    ((c : ℕ) → is_on c m.place ≡ false) → IsLandOf worker now m v s
-
--- ---- the worker's hand
-
-axiom pub tick_hand : (c now h : ℕ) (s : Side) (held : Option ThreadRecord) → IsWellMade s.members → IsThis h s.members held → IsThis h (ticked c now s).0.members held
-
-axiom pub switch_hand : (c : ℕ) (why : Why) (now h : ℕ) (s : Side) (held : Option ThreadRecord) → IsWellMade s.members → IsThis h s.members held → IsThis h (switched c why now s).0.members held
-
-axiom pub drop_hand : (c worker now : ℕ) (m : Member) (s : Side) → IsWellMade s.members → current_of c s.members ≡ Some m → IsThis worker s.members None →
-    IsThis worker (dropped c worker now s).0.members (Some (before_sleep now m.thread))
-
-axiom pub land_hand : (c worker now : ℕ) (m : Member) (s : Side) (r : ThreadRecord) → IsWellMade s.members → thread_of m.thread.id s.members ≡ Some m → is_hand_of worker m.place ≡ true →
-    IsThis worker s.members (Some r) → IsThis worker (landed m.thread.id c worker now s).0.members None
+-- a landing leaves them
+pub landed_settings : (t c worker now : ℕ) (s : Side) → (landed t c worker now s).0.settings ≡ s.settings
+landed_settings t c worker now s = split (thread_of t s.members)
+  where
+    split : (o : Option Member) → (landed_with o c worker now s).0.settings ≡ s.settings
+    split None = refl
+    split (Some m) = queued_settings _ c m.thread.id _

@@ -20,7 +20,7 @@ use Rattle.ule_model.specs.World.{Member, Side, World, is_thread, side_of, threa
 use Rattle.ule_model.specs.WorldValue.{Shows, StandsUnder, WorldValue, lock_with, standing_of}
 use Rattle.ule_members.proofs.PlaceFinds.{thread_at, thread_at_within}
 use Rattle.ule_members.proofs.Within.{Within, within_thread}
-use Rattle.ule_laws.proofs.CpuPlaces.{place_stands}
+use Rattle.ule_laws.proofs.CpuPlaces.{positions_stand}
 use Rattle.ule_laws.proofs.WorldLaws.{HasValue, at_some, if_some, value_at}
 
 -- ---- places under a queue lock
@@ -60,7 +60,7 @@ queue_finds : (v : CpuValue) (s : Side) (t : ℕ) → StandsFor v s → IsWellMa
     found_on v t ≡ option_map standing_of (thread_under v.cpu t s.members)
 queue_finds v s t stands made small =
     ap (option_and_then (λ (r : ThreadRecord). option_map (λ (at : Place × ℕ). record { thread = r; place = at.0 }) (value_place v t))) (stands.threads t) ∙
-    ap (λ (o : Option (Place × ℕ)). option_and_then (λ (r : ThreadRecord). option_map (λ (at : Place × ℕ). record { thread = r; place = at.0 }) o) (option_map (λ (m : Member). m.thread) (thread_on v.cpu t s.members))) (place_stands v s t stands made) ∙
+    ap (λ (o : Option (Place × ℕ)). option_and_then (λ (r : ThreadRecord). option_map (λ (at : Place × ℕ). record { thread = r; place = at.0 }) o) (option_map (λ (m : Member). m.thread) (thread_on v.cpu t s.members))) (positions_stand v s stands made t) ∙
     split (thread_on v.cpu t s.members) ∙ ap (option_map standing_of) (on_is_under v.cpu t s.members small)
   where
     split : (o : Option Member) →

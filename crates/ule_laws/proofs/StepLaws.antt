@@ -2,7 +2,7 @@
 -- on the worker's hand.
 use Rattle.std.proofs.Common.{◌≡◌, ◌≢◌, ℕ, ◌+◌, ◌%◌, ◌<◌, ◌≤◌, Bool, true, false, not, ◌==◌, pos, List, [], ◌∷◌, length, slice_get, slice_index_or, slice_set, Option, Some, None, IfSome, IsSome, IsTrue, is_some, nat_lt, if◌then◌else◌, option_and_then, ◌⊎◌, inl, inr, ⊎_elim, refl, sym, ◌∙◌, ap, subst, arith, mod-lt}
 use Rattle.std.specs.Option.{option_map, option_to_list}
-use Rattle.std.proofs.lemmas.Bool.{both_ways, cases_eq, cases_lt, cond-true, eq-eqb, eqb-true, ltb-true, true≢false}
+use Rattle.std.proofs.lemmas.Bool.{both_ways, cases_eq, cases_lt, cond-true, eq-eqb, cond-false, eqb-true, ltb-true, ne_eqb, true≢false}
 use Rattle.std.proofs.lemmas.List.{get_or-set_other, get_or-set_same, length-set, set-get_or, set_past}
 use Rattle.std.proofs.lemmas.Option.{none-some}
 use Rattle.ule_score.specs.Changes.{RecordChange, after_sleep, before_sleep, record_after, sleeps, woken}
@@ -18,27 +18,38 @@ use Rattle.ule_threads.specs.declared.standing.Standing.{Standing}
 use Rattle.ule_types.specs.declared.event.Event.{Event}
 use Rattle.ule_types.specs.declared.event.Event.TheVariants.{Tick, Switch, Drop, Bed, Wake, Look, Land, Move, Lend, Unlend, Renice, Hatch, Fork, Return, Exit, Bury, Inherit}
 use Rattle.ule_types.specs.declared.event.Reply.{Reply}
-use Rattle.ule_types.specs.declared.event.Reply.TheVariants.{Bedded, Buried, Hatched, Nothing, NotAsleep, Returned}
+use Rattle.ule_types.specs.declared.event.Reply.TheVariants.{Bedded, Buried, Dropped, Hatched, Landed, Nothing, NotAsleep, Returned}
 use Rattle.ule_model.specs.Conditions.{HasEmptyHand, IsPossible}
-use Rattle.ule_model.specs.CpuValue.{CpuValue, StandsFor, Taken, value_added, value_switched, value_taken, value_ticked}
+use Rattle.ule_model.specs.CpuValue.{CpuValue, StandsFor, Taken, takes_over_in, value_added, value_switched, value_taken, value_ticked}
 use Rattle.ule_model.specs.Events.{holder_of, is_no_others, is_unborn, is_unborn_thread, lock_of_thread, locking, locks_of, sought_by}
 use Rattle.ule_model.specs.Frames.{thread_in_hand, thread_under}
 use Rattle.ule_model.specs.LockValue.{LockValue, Stepped, chain, chain_bedded, chain_woken, found_in, found_on, kept, limbo_buried, limbo_hatched, limbo_returned, queue_landed, limbo, lock_step, not_asleep, nothing, queue, queue_dropped}
 use Rattle.ule_model.specs.Places.{hand_of, is_hand_of, is_number, is_on, is_under, lock_of, runs_on}
+use Rattle.ule_model.specs.Insertion.{bucket_of}
+use Rattle.ule_model.specs.declared.insertion.Insertion.TheVariants.{Ordinary}
+use Rattle.ule_prio.specs.Kind.{kind_at}
 use Rattle.ule_model.specs.Landing.{landed}
 use Rattle.ule_model.specs.Sleep.{dropped, put_in_hand, woken_at, woken_reply, woken_thread, woken_with}
 use Rattle.ule_model.specs.Step.{on_side, step}
 use Rattle.ule_model.specs.Switch.{switched}
 use Rattle.ule_model.specs.Tick.{ticked}
-use Rattle.ule_model.specs.WellMade.{IsWellMade}
+use Rattle.ule_model.specs.WellMade.{IsWellMade, IsWellMadeWorld}
+use Rattle.ule_model.specs.Words.{WordChange, change_of}
 use Rattle.ule_model.specs.World.{Member, Side, World, current_of, fresh_line, moved_to, side_of, thread_of, with_record, with_side}
 use Rattle.ule_model.specs.WorldValue.{IsAsleepOn, IsChainOf, IsHandOf, IsLimboOf, IsQueueOf, Shows, StandsUnder, WorldValue, held_by, if_thread, lock_for, lock_with, put_back, standing_of, value_step, value_step_at}
 use Rattle.ule_members.proofs.Membership.{has_thread_of}
 use Rattle.ule_members.proofs.PlaceFinds.{thread_at_is, thread_at_stands, thread_at_within}
-use Rattle.ule_members.proofs.Threads.{thread_of_within}
+use Rattle.ule_members.proofs.Threads.{thread_of_within, within_current}
 use Rattle.ule_members.proofs.Within.{Within, changed, within_thread}
 use Rattle.ule_laws.proofs.ChainSteps.{IsInHand, IsPutDown, IsTakenUp, holder_holds, place_from_hand_of, put_down, take_up, taken_up, taken_up_is}
-use Rattle.ule_laws.proofs.CpuSteps.{IsCpuEvent, IsDropOf, IsLandOf, drop_hand, drop_nothing, drop_stands, land_hand, land_stands, switch_hand, switch_stands, tick_hand, tick_stands}
+use Rattle.ule_laws.proofs.CpuEvents.{dropped_reply, dropped_stands, landed_stands, AreDropped, AreLanded, record_dropped, ticked_stands}
+use Rattle.ule_laws.proofs.CpuLaws.{ActsAlike, switched_stands}
+use Rattle.ule_laws.proofs.CpuSteps.{dropped_settings, landed_settings, switched_settings, ticked_settings}
+use Rattle.ule_laws.proofs.FrameLaws.{elsewhere_stands}
+use Rattle.ule_members.proofs.Done.{held_member, in_hand_after, taken_member, taken_record}
+use Rattle.ule_members.proofs.Rest.{step_leaves_rest}
+use Rattle.ule_members.proofs.Steps.{step_is_made, step_own_hand}
+use Rattle.ule_members.proofs.Untouched.{step_in_hand, step_under}
 use Rattle.ule_laws.proofs.LockLaws.{AreThese, IsThis}
 use Rattle.ule_laws.proofs.SeekLaws.{found_stands, lock_found}
 use Rattle.ule_laws.proofs.WorldLaws.{HasValue, IsFrame, IsMadeFor, at_some, put_back_shows, value_at}
@@ -128,7 +139,34 @@ take_each P slots t each u =
 pub record IsAtEvent (v : WorldValue) (w : World) (worker : ℕ) (e : Event) (now : ℕ) : Type 0 where
   pub shows : Shows v w
   pub possible : IsPossible w worker e now
-  pub frame : IsFrame w worker e (step w worker e now).0
+
+-- a world that a scheduler shows is well made
+pub shown_made : (v : WorldValue) (w : World) → Shows v w → IsWellMadeWorld w
+shown_made v w shows = record { members = shows.made; indexes = shows.indexes }
+
+-- what the step of an event leaves
+pub step_frame : (v : WorldValue) (w : World) (worker : ℕ) (e : Event) (now : ℕ) → IsAtEvent v w worker e now → IsFrame w worker e (step w worker e now).0
+step_frame v w worker e now at =
+    let made : IsWellMadeWorld w = shown_made v w at.shows in record {
+      rest = step_leaves_rest w worker e now;
+      made = (step_is_made w worker e now made at.possible).members;
+      indexes = (step_is_made w worker e now made at.possible).indexes;
+      under = step_under w worker e now made at.possible;
+      in_hand = step_in_hand w worker e now made at.possible;
+      elsewhere = elsewhere_stands w worker e now made at.possible;
+    }
+
+-- what the worker has in hand after an event, by the change of a word
+own_hand : (v : WorldValue) (w : World) (worker : ℕ) (e : Event) (now : ℕ) → IsAtEvent v w worker e now → (u : ℕ) →
+    thread_in_hand worker u (step w worker e now).0.members ≡ in_hand_after w worker e now (change_of e (step w worker e now).1) u (thread_in_hand worker u w.members)
+own_hand v w worker e now at = step_own_hand w worker e now (shown_made v w at.shows) at.possible
+
+-- where an event changes no word, the hand stays
+hand_stays : (v : WorldValue) (w : World) (worker : ℕ) (e : Event) (now : ℕ) → IsAtEvent v w worker e now → change_of e (step w worker e now).1 ≡ None →
+    IsHandOf (step w worker e now).0 worker (held_by v worker)
+hand_stays v w worker e now at none u =
+    at.shows.hands worker u ∙
+    ap (option_map (λ (m : Member). m.thread)) (sym (own_hand v w worker e now at u ∙ ap (λ (c : Option WordChange). in_hand_after w worker e now c u (thread_in_hand worker u w.members)) none))
 
 -- what a step makes shows a world, and is answered so
 abbrev pub Agrees : World → Reply → WorldValue × Reply → Type 0
@@ -152,7 +190,35 @@ step_from v w worker e now l at lock locks within made =
     let stepped : Stepped = lock_step v.settings worker e now (held_by v worker) has.value in
     subst (λ (o : Option ℕ). Agrees n reply (value_step_at o worker e now v)) (sym lock)
     (subst (λ (o : Option LockValue). Agrees n reply (put_back l worker (option_map (lock_step v.settings worker e now (held_by v worker)) o) v)) (sym has.found)
-    (put_back_shows v w worker l e n reply stepped at.shows at.frame locks within at.possible.worker_is (made has)))
+    (put_back_shows v w worker l e n reply stepped at.shows (step_frame v w worker e now at) locks within at.possible.worker_is (made has)))
+
+-- a hand that takes a thread
+hand_takes : (worker t : ℕ) (ns ms : List Member) (n : Member) (r : ThreadRecord) → ((u : ℕ) → thread_in_hand worker u ns ≡ (if u == t then Some n else thread_in_hand worker u ms)) →
+    n.thread ≡ r → r.id ≡ t → IsThis worker ms None → IsThis worker ns (Some r)
+hand_takes worker t ns ms n r after is number empty u = ⊎_elim own rest (cases_eq u t)
+  where
+    own : u ≡ t → if_thread u (Some r) ≡ option_map (λ m. m.thread) (thread_in_hand worker u ns)
+    own same =
+        cond-true (r.id == u) (Some r) None (eq-eqb r.id u (number ∙ sym same)) ∙ ap (λ (x : ThreadRecord). Some x) (sym is) ∙
+        sym (ap (option_map (λ (m : Member). m.thread)) (after u ∙ cond-true (u == t) (Some n) (thread_in_hand worker u ms) (eq-eqb u t same)))
+
+    rest : (u ≡ t → ⊥) → if_thread u (Some r) ≡ option_map (λ m. m.thread) (thread_in_hand worker u ns)
+    rest other =
+        cond-false (r.id == u) (Some r) None (ne_eqb r.id u (λ e. other (sym e ∙ number))) ∙ empty u ∙
+        sym (ap (option_map (λ (m : Member). m.thread)) (after u ∙ cond-false (u == t) (Some n) (thread_in_hand worker u ms) (ne_eqb u t other)))
+
+-- a hand that gives its thread away
+hand_gives : (worker t : ℕ) (ns ms : List Member) (r : ThreadRecord) → ((u : ℕ) → thread_in_hand worker u ns ≡ (if u == t then None else thread_in_hand worker u ms)) →
+    r.id ≡ t → IsThis worker ms (Some r) → IsThis worker ns None
+hand_gives worker t ns ms r after number held u = ⊎_elim own rest (cases_eq u t)
+  where
+    own : u ≡ t → None ≡ option_map (λ m. m.thread) (thread_in_hand worker u ns)
+    own same = sym (ap (option_map (λ (m : Member). m.thread)) (after u ∙ cond-true (u == t) None (thread_in_hand worker u ms) (eq-eqb u t same)))
+
+    rest : (u ≡ t → ⊥) → None ≡ option_map (λ m. m.thread) (thread_in_hand worker u ns)
+    rest other =
+        sym (cond-false (r.id == u) (Some r) None (ne_eqb r.id u (λ e. other (sym e ∙ number)))) ∙ held u ∙
+        sym (ap (option_map (λ (m : Member). m.thread)) (after u ∙ cond-false (u == t) None (thread_in_hand worker u ms) (ne_eqb u t other)))
 
 -- ---- the events of a CPU
 
@@ -167,88 +233,138 @@ own_queue : (w : World) (c : ℕ) (u : CpuValue) → IsQueueOf w c u → IsQueue
 own_queue w c u is = subst (λ (d : ℕ). IsQueueOf w d u) (sym is.cpu) is
 
 -- an event of CPU c, on its value and on its side, is what stands under its lock afterwards
-pub queue_stands : (w : World) (c : ℕ) (v new : CpuValue) (made : Side) → IsQueueOf w c v → IsCpuEvent v new (side_of c w) made → IsQueueOf (with_side c made w) c new
-queue_stands w c v new made is event = record {
-  cpu = event.cpu ∙ is.cpu;
+queue_stands : (w : World) (c : ℕ) (v new : CpuValue) (made : Side) → IsQueueOf w c v → StandsFor new made → new.cpu ≡ v.cpu → made.settings ≡ w.settings →
+    IsQueueOf (with_side c made w) c new
+queue_stands w c v new made is stands cpu settings = record {
+  cpu = cpu ∙ is.cpu;
   there = subst (λ (i : ℕ). c < i) (sym (length-set w.lines c made.line)) is.there;
-  stands = subst (StandsFor new) (sym (side_own c made w is.there event.settings)) event.stands;
+  stands = subst (StandsFor new) (sym (side_own c made w is.there settings)) stands;
 }
 
+-- the value of CPU c stands for the side of its own number
+own_side : (w : World) (c : ℕ) (u : CpuValue) → IsQueueOf w c u → StandsFor u (side_of u.cpu w)
+own_side w c u is = subst (λ (d : ℕ). StandsFor u (side_of d w)) (sym is.cpu) is.stands
+
 -- a tick
-tick_made : (v : WorldValue) (w : World) (worker c now : ℕ) (u : CpuValue) → Shows v w → IsQueueOf w c u → IsMade v w worker (Tick c) now c (queue u)
-tick_made v w worker c now u shows is =
-    subst (λ (d : ℕ). IsMadeFor (on_side d (ticked d now) w).0 worker c (on_side d (ticked d now) w).1 (lock_step v.settings worker (Tick c) now (held_by v worker) (queue u))) is.cpu
-    (let both = tick_stands now u (side_of u.cpu w) (subst (λ (d : ℕ). StandsFor u (side_of d w)) (sym is.cpu) is.stands) shows.made in record {
-      value = subst (λ (d : ℕ). IsQueueOf (with_side u.cpu (ticked u.cpu now (side_of u.cpu w)).0 w) d (value_ticked now u).0) is.cpu
-          (queue_stands w u.cpu u (value_ticked now u).0 (ticked u.cpu now (side_of u.cpu w)).0 (own_queue w c u is) both.0);
-      hand = tick_hand u.cpu now worker (side_of u.cpu w) (held_by v worker) shows.made (shows.hands worker);
-      answer = both.1;
-    })
+tick_made : (v : WorldValue) (w : World) (worker c now : ℕ) (u : CpuValue) → IsAtEvent v w worker (Tick c) now → IsQueueOf w c u → IsMade v w worker (Tick c) now c (queue u)
+tick_made v w worker c now u at is = record { value = value; hand = hand_stays v w worker (Tick c) now at refl; answer = answer }
+  where
+    both : ActsAlike u (value_ticked now u) (ticked c now (side_of c w))
+    both = subst (λ (d : ℕ). ActsAlike u (value_ticked now u) (ticked d now (side_of d w))) is.cpu (ticked_stands now u (side_of u.cpu w) (own_side w c u is) at.shows.made)
+
+    value : IsQueueOf (with_side c (ticked c now (side_of c w)).0 w) c (value_ticked now u).0
+    value = queue_stands w c u (value_ticked now u).0 (ticked c now (side_of c w)).0 is both.stands both.cpu (ticked_settings c now (side_of c w))
+
+    answer : (value_ticked now u).1 ≡ (ticked c now (side_of c w)).1
+    answer = both.answer
 
 -- a switch
-switch_made : (v : WorldValue) (w : World) (worker c : ℕ) (why : Why) (now : ℕ) (u : CpuValue) → Shows v w → IsQueueOf w c u → IsMade v w worker (Switch c why) now c (queue u)
-switch_made v w worker c why now u shows is =
-    subst (λ (d : ℕ). IsMadeFor (on_side d (switched d why now) w).0 worker c (on_side d (switched d why now) w).1 (lock_step v.settings worker (Switch c why) now (held_by v worker) (queue u))) is.cpu
-    (let both = switch_stands why now u (side_of u.cpu w) (subst (λ (d : ℕ). StandsFor u (side_of d w)) (sym is.cpu) is.stands) shows.made in record {
-      value = subst (λ (d : ℕ). IsQueueOf (with_side u.cpu (switched u.cpu why now (side_of u.cpu w)).0 w) d (value_switched why now u).0) is.cpu
-          (queue_stands w u.cpu u (value_switched why now u).0 (switched u.cpu why now (side_of u.cpu w)).0 (own_queue w c u is) both.0);
-      hand = switch_hand u.cpu why now worker (side_of u.cpu w) (held_by v worker) shows.made (shows.hands worker);
-      answer = both.1;
-    })
+switch_made : (v : WorldValue) (w : World) (worker c : ℕ) (why : Why) (now : ℕ) (u : CpuValue) → IsAtEvent v w worker (Switch c why) now → IsQueueOf w c u → IsMade v w worker (Switch c why) now c (queue u)
+switch_made v w worker c why now u at is = record { value = value; hand = hand_stays v w worker (Switch c why) now at refl; answer = both.answer }
+  where
+    both : ActsAlike u (value_switched why now u) (switched c why now (side_of c w))
+    both = subst (λ (d : ℕ). ActsAlike u (value_switched why now u) (switched d why now (side_of d w))) is.cpu (switched_stands why now u (side_of u.cpu w) (own_side w c u is) at.shows.made)
 
--- a drop, where thread m runs
-drop_runs : (v : WorldValue) (w : World) (worker c channel now : ℕ) (m : Member) (u : CpuValue) → Shows v w → IsQueueOf w c u → held_by v worker ≡ None →
-    current_of u.cpu w.members ≡ Some m → IsMadeFor (on_side u.cpu (dropped u.cpu worker now) w).0 worker u.cpu (on_side u.cpu (dropped u.cpu worker now) w).1 (queue_dropped (held_by v worker) (value_taken sleeps now u))
-drop_runs v w worker c channel now m u shows is empty runs =
-    let drop : IsDropOf worker now m u (side_of u.cpu w) = drop_stands worker now m u (side_of u.cpu w) (own_queue w c u is).stands shows.made runs in
-    let made : Side = (dropped u.cpu worker now (side_of u.cpu w)).0 in
-    subst (λ (o : Option Taken). IsMadeFor (with_side u.cpu made w) worker u.cpu (dropped u.cpu worker now (side_of u.cpu w)).1 (queue_dropped (held_by v worker) ((value_taken sleeps now u).0, o))) (sym drop.out)
-    (record {
-      value = queue_stands w u.cpu u (value_taken sleeps now u).0 made (own_queue w c u is) drop.event;
-      hand = drop_hand u.cpu worker now m (side_of u.cpu w) shows.made runs (subst (IsThis worker w.members) empty (shows.hands worker));
-      answer = sym drop.answer;
-    })
-
--- a drop, where no thread runs
-drop_idles : (v : WorldValue) (w : World) (worker c channel now : ℕ) (u : CpuValue) → Shows v w → IsQueueOf w c u →
-    current_of u.cpu w.members ≡ None → IsMadeFor (on_side u.cpu (dropped u.cpu worker now) w).0 worker u.cpu (on_side u.cpu (dropped u.cpu worker now) w).1 (queue_dropped (held_by v worker) (value_taken sleeps now u))
-drop_idles v w worker c channel now u shows is idle =
-    let none = drop_nothing worker now u (side_of u.cpu w) (own_queue w c u is).stands idle in
-    subst (λ (done : CpuValue × Option Taken). IsMadeFor (on_side u.cpu (dropped u.cpu worker now) w).0 worker u.cpu (on_side u.cpu (dropped u.cpu worker now) w).1 (queue_dropped (held_by v worker) done)) (sym none.0)
-    (subst (λ (done : Side × Reply). IsMadeFor (with_side u.cpu done.0 w) worker u.cpu done.1 (kept (held_by v worker) (queue u) Nothing)) (sym none.1)
-    (subst (λ (lines : List CpuLine). IsMadeFor (record w { lines = lines }) worker u.cpu Nothing (kept (held_by v worker) (queue u) Nothing)) (sym (set-get_or w.lines u.cpu fresh_line))
-    (record { value = own_queue w c u is; hand = shows.hands worker; answer = refl })))
+    value : IsQueueOf (with_side c (switched c why now (side_of c w)).0 w) c (value_switched why now u).0
+    value = queue_stands w c u (value_switched why now u).0 (switched c why now (side_of c w)).0 is both.stands both.cpu (switched_settings c why now (side_of c w))
 
 -- a drop
-drop_made : (v : WorldValue) (w : World) (worker c channel now : ℕ) (u : CpuValue) → Shows v w → IsQueueOf w c u → held_by v worker ≡ None → IsMade v w worker (Drop c channel) now c (queue u)
-drop_made v w worker c channel now u shows is empty =
-    subst (λ (d : ℕ). IsMadeFor (on_side d (dropped d worker now) w).0 worker d (on_side d (dropped d worker now) w).1 (queue_dropped (held_by v worker) (value_taken sleeps now u))) is.cpu
-    (split (current_of u.cpu w.members) refl)
+drop_made : (v : WorldValue) (w : World) (worker c channel now : ℕ) (u : CpuValue) → IsAtEvent v w worker (Drop c channel) now → IsQueueOf w c u → held_by v worker ≡ None → IsMade v w worker (Drop c channel) now c (queue u)
+drop_made v w worker c channel now u at is empty = split (current_of c w.members) refl (value_taken sleeps now u).1 refl
   where
-    split : (o : Option Member) → current_of u.cpu w.members ≡ o → IsMadeFor (on_side u.cpu (dropped u.cpu worker now) w).0 worker u.cpu (on_side u.cpu (dropped u.cpu worker now) w).1 (queue_dropped (held_by v worker) (value_taken sleeps now u))
-    split None idle = drop_idles v w worker c channel now u shows is idle
-    split (Some m) runs = drop_runs v w worker c channel now m u shows is empty runs
+    made : Side × Reply
+    made = dropped c worker now (side_of c w)
+
+    both : AreDropped now u (side_of c w) (value_taken sleeps now u) made
+    both = subst (λ (d : ℕ). AreDropped now u (side_of d w) (value_taken sleeps now u) (dropped d worker now (side_of d w))) is.cpu (dropped_stands worker now u (side_of u.cpu w) (own_side w c u is) at.shows.made)
+
+    value : IsQueueOf (with_side c made.0 w) c (value_taken sleeps now u).0
+    value = queue_stands w c u (value_taken sleeps now u).0 made.0 is both.stands both.cpu (dropped_settings c worker now (side_of c w))
+
+    left_is : option_map (λ x. x.thread) (value_taken sleeps now u).1 ≡ record_dropped w.settings now (current_of c w.members)
+    left_is = both.left ∙ ap (λ (d : ℕ). record_dropped w.settings now (current_of d w.members)) is.cpu
+
+    meant : Stepped → Type 0
+    meant stepped = IsMadeFor (with_side c made.0 w) worker c made.1 stepped
+
+    -- no thread left
+    none_left : (value_taken sleeps now u).1 ≡ None → IsMadeFor (with_side c made.0 w) worker c made.1 (kept (held_by v worker) (queue (value_taken sleeps now u).0) Nothing)
+    none_left out =
+        let answer : made.1 ≡ Nothing = both.answer ∙ ap dropped_reply out in
+        record { value = value; hand = hand_stays v w worker (Drop c channel) now at (ap (change_of (Drop c channel)) answer); answer = sym answer }
+
+    -- this thread left, which is the current one
+    left : (x : Taken) (m : Member) → (value_taken sleeps now u).1 ≡ Some x → current_of c w.members ≡ Some m → x.thread ≡ record_after w.settings now sleeps m.thread →
+        IsMadeFor (with_side c made.0 w) worker c made.1 (record { hand = Some x.thread; value = queue (value_taken sleeps now u).0; reply = Dropped x.thread.id x.into })
+    left x m out runs record_is = record { value = value; hand = hand; answer = sym answer }
+      where
+        answer : made.1 ≡ Dropped x.thread.id x.into
+        answer = both.answer ∙ ap dropped_reply out
+
+        number : x.thread.id ≡ m.thread.id
+        number = ap (λ (r : ThreadRecord). r.id) record_is
+
+        found : thread_of x.thread.id w.members ≡ Some m
+        found = ap (λ (t : ℕ). thread_of t w.members) number ∙ thread_of_within m.thread.id m w.members (within_current c w.members m at.shows.made runs)
+
+        taken : taken_member w worker (Drop c channel) now x.thread.id ≡ Some (held_member worker (record_after w.settings now sleeps m.thread))
+        taken = ap (option_map (λ (n : Member). held_member worker (taken_record w.settings now (Drop c channel) n.thread))) found
+
+        after : (y : ℕ) → thread_in_hand worker y made.0.members ≡ (if y == x.thread.id then Some (held_member worker (record_after w.settings now sleeps m.thread)) else thread_in_hand worker y w.members)
+        after y =
+            own_hand v w worker (Drop c channel) now at y ∙
+            ap (λ (change : Option WordChange). in_hand_after w worker (Drop c channel) now change y (thread_in_hand worker y w.members)) (ap (change_of (Drop c channel)) answer) ∙
+            ap (λ (o : Option Member). if y == x.thread.id then o else thread_in_hand worker y w.members) taken
+
+        hand : IsThis worker made.0.members (Some x.thread)
+        hand = hand_takes worker x.thread.id made.0.members w.members (held_member worker (record_after w.settings now sleeps m.thread)) x.thread after (sym record_is) refl (subst (IsThis worker w.members) empty (at.shows.hands worker))
+
+    split : (m : Option Member) → current_of c w.members ≡ m → (o : Option Taken) → (value_taken sleeps now u).1 ≡ o →
+        meant (queue_dropped (held_by v worker) (value_taken sleeps now u))
+    split m runs None out =
+        subst (λ (o : Option Taken). meant (queue_dropped (held_by v worker) ((value_taken sleeps now u).0, o))) (sym out) (none_left out)
+    split None idle (Some x) out =
+        absurd (none-some x.thread (sym (ap (option_map (λ (y : Taken). y.thread)) (sym out) ∙ left_is ∙ ap (record_dropped w.settings now) idle)))
+    split (Some m) runs (Some x) out =
+        subst (λ (o : Option Taken). meant (queue_dropped (held_by v worker) ((value_taken sleeps now u).0, o))) (sym out)
+        (left x m out runs (same_record x.thread (record_after w.settings now sleeps m.thread) (ap (option_map (λ (y : Taken). y.thread)) (sym out) ∙ left_is ∙ ap (record_dropped w.settings now) runs)))
+      where
+        same_record : (r n : ThreadRecord) → Some r ≡ Some n → r ≡ n
+        same_record r n e = cc
 
 -- a landing of the thread in the hand
-land_made : (v : WorldValue) (w : World) (worker c t now : ℕ) (u : CpuValue) → Shows v w → IsQueueOf w c u → IsInHand w.members worker t (held_by v worker) → IsMade v w worker (Land t c) now c (queue u)
-land_made v w worker c t now u shows is held =
-    subst (λ (d : ℕ). IsMadeFor (on_side d (landed t d worker now) w).0 worker d (on_side d (landed t d worker now) w).1 (queue_landed worker now (held_by v worker) u)) is.cpu
-    (subst (λ (i : ℕ). IsMadeFor (on_side u.cpu (landed i u.cpu worker now) w).0 worker u.cpu (on_side u.cpu (landed i u.cpu worker now) w).1 (queue_landed worker now (held_by v worker) u)) held.within.number
-    (subst (λ (o : Option ThreadRecord). IsMadeFor (on_side u.cpu (landed m.thread.id u.cpu worker now) w).0 worker u.cpu (on_side u.cpu (landed m.thread.id u.cpu worker now) w).1 (queue_landed worker now o u)) (sym held.held_is)
-    (record {
-      value = queue_stands w u.cpu u (value_added now m.thread (not (worker == u.cpu)) u) (landed m.thread.id u.cpu worker now (side_of u.cpu w)).0 (own_queue w c u is) land.event;
-      hand = land_hand u.cpu worker now m (side_of u.cpu w) m.thread shows.made found (ap (is_hand_of worker) held.place ∙ eq-eqb worker worker refl) (subst (IsThis worker w.members) held.held_is (shows.hands worker));
-      answer = sym land.answer;
-    })))
+land_made : (v : WorldValue) (w : World) (worker c t now : ℕ) (u : CpuValue) → IsAtEvent v w worker (Land t c) now → IsQueueOf w c u → IsInHand w.members worker t (held_by v worker) → IsMade v w worker (Land t c) now c (queue u)
+land_made v w worker c t now u at is held =
+    subst (λ (o : Option ThreadRecord). IsMadeFor (with_side c made.0 w) worker c made.1 (queue_landed worker o u)) (sym held.held_is)
+    (record { value = value; hand = hand; answer = answer })
   where
     m : Member
     m = held.member
 
+    made : Side × Reply
+    made = landed t c worker now (side_of c w)
+
     found : thread_of m.thread.id w.members ≡ Some m
     found = subst (λ (i : ℕ). thread_of i w.members ≡ Some m) (sym held.within.number) (thread_of_within t m w.members held.within)
 
-    land : IsLandOf worker now m u (side_of u.cpu w)
-    land = land_stands worker now m u (side_of u.cpu w) (own_queue w c u is).stands shows.made found (λ d. ap (is_on d) held.place)
+    own : AreLanded m (not (worker == u.cpu)) u (landed m.thread.id u.cpu worker now (side_of u.cpu w))
+    own = landed_stands worker now m u (side_of u.cpu w) (own_side w c u is) at.shows.made found (ap (is_on u.cpu) held.place)
+
+    both : AreLanded m (not (worker == u.cpu)) u made
+    both =
+        subst (λ (i : ℕ). AreLanded m (not (worker == u.cpu)) u (landed i c worker now (side_of c w))) held.within.number
+        (subst (λ (d : ℕ). AreLanded m (not (worker == u.cpu)) u (landed m.thread.id d worker now (side_of d w))) is.cpu own)
+
+    value : IsQueueOf (with_side c made.0 w) c (value_added m.thread (not (worker == u.cpu)) u)
+    value = queue_stands w c u (value_added m.thread (not (worker == u.cpu)) u) made.0 is both.stands both.cpu (landed_settings t c worker now (side_of c w))
+
+    answer : Landed (kind_at m.thread.priority) (bucket_of (kind_at m.thread.priority) Ordinary u.line m.thread.priority) (takes_over_in m.thread.priority (not (worker == u.cpu)) u) ≡ made.1
+    answer = sym both.answer
+
+    hand : IsThis worker made.0.members None
+    hand =
+        hand_gives worker t made.0.members w.members m.thread (own_hand v w worker (Land t c) now at) held.within.number
+        (subst (IsThis worker w.members) held.held_is (at.shows.hands worker))
 
 -- ---- the events of chains and limbo
 
@@ -539,11 +655,11 @@ unbuilt_sought v w worker t e now at s is lock locks same =
 
 -- a step of the whole scheduler, where an event is performed
 pub step_shows : (v : WorldValue) (w : World) (worker : ℕ) (e : Event) (now : ℕ) → IsAtEvent v w worker e now → IsStepOf v w worker e now
-step_shows v w worker (Tick c) now at = on_queue v w worker (Tick c) now c at refl refl (ltb-true c (length w.lines) at.possible.cpus) (λ u is. tick_made v w worker c now u at.shows is)
-step_shows v w worker (Switch c why) now at = on_queue v w worker (Switch c why) now c at refl refl (ltb-true c (length w.lines) at.possible.cpus) (λ u is. switch_made v w worker c why now u at.shows is)
+step_shows v w worker (Tick c) now at = on_queue v w worker (Tick c) now c at refl refl (ltb-true c (length w.lines) at.possible.cpus) (λ u is. tick_made v w worker c now u at is)
+step_shows v w worker (Switch c why) now at = on_queue v w worker (Switch c why) now c at refl refl (ltb-true c (length w.lines) at.possible.cpus) (λ u is. switch_made v w worker c why now u at is)
 step_shows v w worker (Drop c channel) now at =
     on_queue v w worker (Drop c channel) now c at refl refl (ltb-true c (length w.lines) at.possible.cpus)
-    (λ u is. drop_made v w worker c channel now u at.shows is (empty_hand w worker (held_by v worker) at.shows.made (at.shows.hands worker) at.possible.hand))
+    (λ u is. drop_made v w worker c channel now u at is (empty_hand w worker (held_by v worker) at.shows.made (at.shows.hands worker) at.possible.hand))
 step_shows v w worker (Bed t channel) now at =
     step_from v w worker (Bed t channel) now (16 + channel % 8) at refl refl (let small : channel % 8 < 8 = mod-lt channel (omega arith) in omega arith)
     (λ has. let c = chain_at w channel has.value at.shows.cpus has.stands in
@@ -559,7 +675,7 @@ step_shows v w worker (Look c) now at =
     step_from v w worker (Look c) now c at refl refl (few_queues w c at.shows.cpus (ltb-true c (length w.lines) at.possible.cpus)) (λ has. unbuilt_made v w worker c (Look c) now has at.shows refl)
 step_shows v w worker (Land t c) now at =
     on_queue v w worker (Land t c) now c at refl refl (ltb-true c (length w.lines) at.possible.cpus)
-    (λ u is. land_made v w worker c t now u at.shows is (holder_holds w.members worker t (held_by v worker) at.shows.made (at.shows.hands worker) at.possible.hand))
+    (λ u is. land_made v w worker c t now u at is (holder_holds w.members worker t (held_by v worker) at.shows.made (at.shows.hands worker) at.possible.hand))
 step_shows v w worker (Move a b why) now at = (at.shows, refl)
 step_shows v w worker (Lend t p) now at = unbuilt_sought v w worker t (Lend t p) now at (sought_stands v w worker t at.shows at.possible.declared at.possible.ready at.possible.hand) refl refl refl refl
 step_shows v w worker (Unlend t) now at = unbuilt_sought v w worker t (Unlend t) now at (sought_stands v w worker t at.shows at.possible.declared at.possible.ready at.possible.hand) refl refl refl refl

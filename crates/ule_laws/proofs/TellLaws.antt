@@ -168,7 +168,7 @@ holder_shown v w t shows = holder_is_first 0 v.hands t ∙ at (stands_at w t)
 pub line_under_is : (w : World) (l t : ℕ) (value : LockValue) → IsWellMade w.members → length w.lines ≤ 16 → StandsUnder w l value →
     line_under value t ≡ option_map (thread_line w.members) (thread_under l t w.members)
 line_under_is w l t (queue v) made few stands =
-    line_stands v (side_of l w) t stands.stands made ∙
+    line_stands v (side_of l w) stands.stands made t ∙
     ap (option_map (thread_line w.members)) (on_is_under v.cpu t w.members (omega (arith, stands.cpu, stands.there)) ∙ ap (λ (c : ℕ). thread_under c t w.members) stands.cpu)
 line_under_is w l t (chain v) made few stands = split (thread_under l t w.members) (stands.under t) (stands.asleep t)
   where

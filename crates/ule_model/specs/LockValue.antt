@@ -83,12 +83,12 @@ queue_dropped hand (made, None) = kept hand (queue made) Nothing
 queue_dropped hand (made, Some out) = record { hand = Some out.thread; value = queue made; reply = Dropped out.thread.id out.into }
 
 -- a landing: the thread in the hand comes to the CPU, asked for by a worker
-abbrev pub queue_landed : ℕ → ℕ → Option ThreadRecord → CpuValue → Stepped
-queue_landed worker now None v = kept None (queue v) Nothing
-queue_landed worker now (Some r) v =
+abbrev pub queue_landed : ℕ → Option ThreadRecord → CpuValue → Stepped
+queue_landed worker None v = kept None (queue v) Nothing
+queue_landed worker (Some r) v =
     let remote = not (worker == v.cpu) in record {
       hand = None;
-      value = queue (value_added now r remote v);
+      value = queue (value_added r remote v);
       reply = Landed (kind_at r.priority) (bucket_of (kind_at r.priority) Ordinary v.line r.priority) (takes_over_in r.priority remote v);
     }
 
@@ -138,7 +138,7 @@ queue_step settings worker (Drop c channel) now hand v = queue_dropped hand (val
 queue_step settings worker (Bed t channel) now hand v = kept hand (queue v) Nothing
 queue_step settings worker (Wake t) now hand v = kept hand (queue v) (not_asleep (found_on v t))
 queue_step settings worker (Look c) now hand v = kept hand (queue v) Nothing
-queue_step settings worker (Land t c) now hand v = queue_landed worker now hand v
+queue_step settings worker (Land t c) now hand v = queue_landed worker hand v
 queue_step settings worker (Move a b why) now hand v = kept hand (queue v) Nothing
 queue_step settings worker (Lend t p) now hand v = kept hand (queue v) Nothing
 queue_step settings worker (Unlend t) now hand v = kept hand (queue v) Nothing
