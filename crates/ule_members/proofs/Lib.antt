@@ -4,3 +4,13 @@ pub mod Threads
 pub mod Loads
 pub mod Lists
 pub mod Owed
+pub mod Touches
+pub mod WordLaws
+pub mod Apart
+pub mod Moves
+pub mod Reach
+pub mod Done
+pub mod EventParts
+pub mod EventsDone
+pub mod Rest
+pub mod Steps

@@ -1,0 +1,276 @@
+-- What an event does to the threads, as one record of facts: which threads it touches, how the words
+-- change, what is in the worker's hand then, and that the threads are well made.
+use Rattle.std.proofs.Common.{◌≡◌, ◌≢◌, ℕ, ◌==◌, ℤ, pos, Bool, true, false, ◌&&◌, List, [], ◌∷◌, ◌++◌, filter, Option, Some, None, if◌then◌else◌, ⊎_elim, refl, sym, ◌∙◌, ap, subst}
+use Rattle.std.specs.List.{AllByRecursion, find}
+use Rattle.std.specs.Option.{option_map}
+use Rattle.std.proofs.lemmas.Bool.{and_left, and_right, cases_eq, cond-false, cond-true, eq-eqb, false_from_ne_true, ne_eqb}
+use Rattle.std.proofs.lemmas.Option.{none-some}
+use Rattle.ule_prio.specs.declared.kind.Kind.{Kind}
+use Rattle.ule_score.specs.Changes.{GoesThrough, RecordChange, record_after, sleeps, woken}
+use Rattle.ule_score.specs.declared.place.Place.{Place}
+use Rattle.ule_score.specs.declared.place.Place.TheVariants.{Running, Queued, Asleep, Unborn, Gone}
+use Rattle.ule_score.specs.declared.place.Place.TheVariants as place
+use Rattle.ule_score.specs.declared.record.CpuLine.{CpuLine}
+use Rattle.ule_score.specs.declared.record.Settings.{Settings}
+use Rattle.ule_score.specs.declared.record.ThreadRecord.{ThreadRecord}
+use Rattle.ule_types.specs.Commands.{is_among}
+use Rattle.ule_types.specs.declared.event.Event.{Event}
+use Rattle.ule_types.specs.declared.event.Event.TheVariants.{Tick, Switch, Drop, Bed, Wake, Look, Land, Move, Lend, Unlend, Renice, Hatch, Fork, Return, Exit, Bury, Inherit}
+use Rattle.ule_model.specs.Events.{is_reached, locks_of}
+use Rattle.ule_model.specs.Frames.{AreTouched, HaveWords, IsTouched, reached, thread_in_hand, word_after}
+use Rattle.ule_model.specs.Insertion.{order_of}
+use Rattle.ule_model.specs.declared.insertion.Insertion.{Insertion}
+use Rattle.ule_model.specs.Places.{hand_of, is_hand_of, is_number, is_on, lock_of, runs_on, waits_in}
+use Rattle.ule_model.specs.WellMade.{AreApart, IsPlace, IsWellMade}
+use Rattle.ule_model.specs.Words.{WordChange, block, point}
+use Rattle.ule_model.specs.World.{Member, World, current_of, is_thread, thread_of}
+use Rattle.ule_members.proofs.Apart.{all_from_filter, all_from_map, apart_kept, apart_off, apart_queued, apart_running, order_of_apart, orders_in}
+use Rattle.ule_members.proofs.Reach.{no_hand_under, reached_by_hand, reached_by_lock, is_number_itself}
+use Rattle.ule_members.proofs.Threads.{find_kept, find_only, none_passes}
+use Rattle.ule_members.proofs.Touches.{all_left, all_touched_further, goes_number, goes_numbers, touched_between}
+use Rattle.ule_members.proofs.Within.{Lacks, Within, all_along, all_back, all_front, well_made_between}
+use Rattle.ule_members.proofs.WordLaws.{IsOnWordOf, word_blocked, word_pointed, words_between, words_further, words_stay}
+
+-- ---- the worker's hand
+
+-- a thread with this record in a worker's hand
+abbrev pub held_member : ℕ → ThreadRecord → Member
+held_member worker r = record { thread = r; place = place.Hand worker; order = pos 0 }
+
+-- the record with which an event takes a thread into the worker's hand
+abbrev pub taken_record : Settings → ℕ → Event → ThreadRecord → ThreadRecord
+taken_record settings now (Tick c) r = r
+taken_record settings now (Switch c why) r = r
+taken_record settings now (Drop c channel) r = record_after settings now sleeps r
+taken_record settings now (Bed t channel) r = r
+taken_record settings now (Wake t) r = record_after settings now woken r
+taken_record settings now (Look c) r = r
+taken_record settings now (Land t c) r = r
+taken_record settings now (Move a b why) r = r
+taken_record settings now (Lend t p) r = r
+taken_record settings now (Unlend t) r = r
+taken_record settings now (Renice t n) r = r
+taken_record settings now (Hatch t) r = r
+taken_record settings now (Fork c t) r = r
+taken_record settings now (Return t) r = r
+taken_record settings now (Exit c) r = r
+taken_record settings now (Bury t) r = r
+taken_record settings now (Inherit t run) r = r
+
+-- thread t of a world as an event takes it into the worker's hand
+abbrev pub taken_member : World → ℕ → Event → ℕ → ℕ → Option Member
+taken_member w worker e now t = option_map (λ m. held_member worker (taken_record w.settings now e m.thread)) (thread_of t w.members)
+
+-- what look-up of thread u in the worker's hand finds after a change of a word, where this was found before
+abbrev pub in_hand_after : World → ℕ → Event → ℕ → Option WordChange → ℕ → Option Member → Option Member
+in_hand_after w worker e now None u old = old
+in_hand_after w worker e now (Some (block t)) u old = if u == t then taken_member w worker e now t else old
+in_hand_after w worker e now (Some (point t l)) u old = if u == t then None else old
+
+-- ---- one thread and the others
+
+-- a thread is apart from those before it and from those after it
+pub record IsApartFrom (n : Member) (before after : List Member) : Type 0 where
+  pub front : AllByRecursion (AreApart n) before
+  pub back : AllByRecursion (AreApart n) after
+
+-- a thread that keeps its number, place and order is apart from the others
+pub apart_from_kept : (m n : Member) (ms : List Member) (v : Within m.thread.id m ms) → n.thread.id ≡ m.thread.id → n.place ≡ m.place → n.order ≡ m.order →
+    IsApartFrom n v.before v.after
+apart_from_kept m n ms v number place order = record {
+  front = all_along (AreApart m) (AreApart n) v.before (λ k. apart_kept m n k number place order) v.apart_before;
+  back = all_along (AreApart m) (AreApart n) v.after (λ k. apart_kept m n k number place order) v.apart_after;
+}
+
+-- a thread on no CPU is apart from the others
+pub apart_from_off : (m n : Member) (ms : List Member) (v : Within m.thread.id m ms) → n.thread.id ≡ m.thread.id → ((c : ℕ) → is_on c n.place ≡ false) →
+    IsApartFrom n v.before v.after
+apart_from_off m n ms v number off = record {
+  front = all_along (AreApart m) (AreApart n) v.before (λ k h. apart_off n k (λ same. h.numbers (sym number ∙ same)) off) v.apart_before;
+  back = all_along (AreApart m) (AreApart n) v.after (λ k h. apart_off n k (λ same. h.numbers (sym number ∙ same)) off) v.apart_after;
+}
+
+-- what two facts give of each element
+all_both : {X : Type 0} (P Q R : X → Type 0) (xs : List X) → ((x : X) → P x → Q x → R x) → AllByRecursion P xs → AllByRecursion Q xs → AllByRecursion R xs
+all_both P Q R [] step first second = tt
+all_both P Q R (x ∷ xs) step first second = (step x first.0 second.0, all_both P Q R xs step first.1 second.1)
+
+-- a thread is apart from the others where that follows of each from the number alone and one fact more
+apart_from_each : (P : Member → Type 0) (m n : Member) (ms : List Member) (v : Within m.thread.id m ms) → n.thread.id ≡ m.thread.id →
+    ((k : Member) → n.thread.id ≢ k.thread.id → P k → AreApart n k) → AllByRecursion P v.before → AllByRecursion P v.after → IsApartFrom n v.before v.after
+apart_from_each P m n ms v number step front back = record {
+  front = all_both (AreApart m) P (AreApart n) v.before (λ k h. step k (λ same. h.numbers (sym number ∙ same))) v.apart_before front;
+  back = all_both (AreApart m) P (AreApart n) v.after (λ k h. step k (λ same. h.numbers (sym number ∙ same))) v.apart_after back;
+}
+
+-- a thread that runs on a CPU that had no current thread is apart from the others
+pub apart_from_running : (c : ℕ) (m n : Member) (ms : List Member) (v : Within m.thread.id m ms) → n.thread.id ≡ m.thread.id → n.place ≡ Running c →
+    current_of c ms ≡ None → IsApartFrom n v.before v.after
+apart_from_running c m n ms v number place none =
+    apart_from_each (λ k. runs_on c k.place ≡ false) m n ms v number (λ k apart idle. apart_running c n k apart place idle)
+    (all_front (λ k. runs_on c k.place ≡ false) v.before (m ∷ v.after) idle) (all_back (λ k. runs_on c k.place ≡ false) v.before (m ∷ v.after) idle).1
+  where
+    idle : AllByRecursion (λ k. runs_on c k.place ≡ false) (v.before ++ m ∷ v.after)
+    idle = subst (AllByRecursion (λ k. runs_on c k.place ≡ false)) v.whole (none_passes (λ k. runs_on c k.place) ms none)
+
+-- a thread that is queued with the order of its insertion is apart from the others
+pub apart_from_queued : (how : Insertion) (c : ℕ) (k : Kind) (b : ℕ) (m n : Member) (ms : List Member) (v : Within m.thread.id m ms) →
+    n.thread.id ≡ m.thread.id → n.place ≡ Queued c k b → n.order ≡ order_of how (orders_in c k b (v.before ++ v.after)) → IsApartFrom n v.before v.after
+apart_from_queued how c k b m n ms v number place order =
+    apart_from_each P m n ms v number (λ x apart other. apart_queued c k b n x apart place (λ here same. other here (sym order ∙ same)))
+    (all_front P v.before v.after each) (all_back P v.before v.after each)
+  where
+    os : List ℤ
+    os = orders_in c k b (v.before ++ v.after)
+
+    P : Member → Type 0
+    P x = waits_in c k b x.place ≡ true → order_of how os ≢ x.order
+
+    each : AllByRecursion P (v.before ++ v.after)
+    each =
+        all_from_filter (λ x. waits_in c k b x.place) (λ x. order_of how os ≢ x.order) (v.before ++ v.after)
+        (all_from_map (λ x. x.order) (λ o. order_of how os ≢ o) (filter (λ x. waits_in c k b x.place) (v.before ++ v.after)) (order_of_apart how os))
+
+module _ (w : World) (worker : ℕ) (e : Event) (now : ℕ) where
+  -- ---- what an event did
+
+  -- what was done to some threads by this event, which changes a word so
+  pub record IsDone (change : Option WordChange) (ms ns : List Member) : Type 0 where
+    pub touched : AreTouched w worker e now ms ns
+    pub words : HaveWords change ms ns
+    pub hand : (u : ℕ) → thread_in_hand worker u ns ≡ in_hand_after w worker e now change u (thread_in_hand worker u ms)
+    pub made : IsWellMade ns
+
+  -- nothing was done
+  pub done_nothing : (ms : List Member) → IsWellMade ms → IsDone None ms ms
+  done_nothing ms made = record { touched = all_left w worker e now ms; words = words_stay ms; hand = λ u. refl; made = made }
+
+  -- what was done, and then more that changes no word
+  pub done_further : (change : Option WordChange) (ls ms ns : List Member) → IsDone change ls ms → IsDone None ms ns → IsDone change ls ns
+  done_further change ls ms ns first second = record {
+    touched = all_touched_further w worker e now ls ms ns first.touched second.touched;
+    words = words_further change ls ms ns first.words second.words;
+    hand = λ u. second.hand u ∙ first.hand u;
+    made = second.made;
+  }
+
+  -- ---- one thread
+
+  -- whether one thread before and after is in the worker's hand, by the change of its word
+  abbrev pub IsPassedBy : Option WordChange → Member → Member → Type 0
+  IsPassedBy None m n = (is_hand_of worker m.place ≡ false) × (is_hand_of worker n.place ≡ false)
+  IsPassedBy (Some (block t)) m n = (is_hand_of worker n.place ≡ true) × (taken_member w worker e now t ≡ Some n)
+  IsPassedBy (Some (point t l)) m n = is_hand_of worker n.place ≡ false
+
+  -- one thread before and after this event, which changes a word so
+  pub record IsCarried (change : Option WordChange) (m n : Member) : Type 0 where
+    pub from : is_reached w worker e m.place ≡ true
+    pub to : is_reached w worker e n.place ≡ true
+    pub through : GoesThrough w.settings now m.thread n.thread
+    pub on : IsOnWordOf m.thread.id change
+    pub word : lock_of n.place ≡ word_after change m
+    pub hand : IsPassedBy change m n
+    pub place : IsPlace n.place
+
+  -- a thread that stays under a lock of the event
+  pub carried_under : (l : ℕ) (m n : Member) → is_among (locks_of w e) l ≡ true → lock_of m.place ≡ Some l → lock_of n.place ≡ Some l →
+      GoesThrough w.settings now m.thread n.thread → IsPlace n.place → IsCarried None m n
+  carried_under l m n among from to through place = record {
+    from = reached_by_lock w worker e l m.place among from;
+    to = reached_by_lock w worker e l n.place among to;
+    through = through;
+    on = tt;
+    word = to ∙ sym from;
+    hand = (ap (is_number worker) (no_hand_under l m.place from), ap (is_number worker) (no_hand_under l n.place to));
+    place = place;
+  }
+
+  -- a thread that goes from under a lock of the event to the worker's hand
+  pub carried_to_hand : (t l : ℕ) (m : Member) (r : ThreadRecord) → is_among (locks_of w e) l ≡ true → lock_of m.place ≡ Some l → m.thread.id ≡ t →
+      GoesThrough w.settings now m.thread r → taken_member w worker e now t ≡ Some (held_member worker r) → IsCarried (Some (block t)) m (held_member worker r)
+  carried_to_hand t l m r among from number through taken = record {
+    from = reached_by_lock w worker e l m.place among from;
+    to = reached_by_hand w worker e (place.Hand worker) refl;
+    through = through;
+    on = sym number;
+    word = sym (word_blocked t m number);
+    hand = (eq-eqb worker worker refl, taken);
+    place = tt;
+  }
+
+  -- a thread that goes from the worker's hand to under a lock of the event
+  pub carried_from_hand : (t l : ℕ) (m n : Member) → is_among (locks_of w e) l ≡ true → hand_of m.place ≡ Some worker → lock_of n.place ≡ Some l → m.thread.id ≡ t →
+      GoesThrough w.settings now m.thread n.thread → IsPlace n.place → IsCarried (Some (point t l)) m n
+  carried_from_hand t l m n among from to number through place = record {
+    from = reached_by_hand w worker e m.place from;
+    to = reached_by_lock w worker e l n.place among to;
+    through = through;
+    on = sym number;
+    word = to ∙ sym (word_pointed t l m number);
+    hand = ap (is_number worker) (no_hand_under l n.place to);
+    place = place;
+  }
+
+  -- a thread of one number is not found by another
+  other_fails : (u t : ℕ) (x : Member) → u ≢ t → x.thread.id ≡ t → (is_thread u x && is_hand_of worker x.place) ≡ false
+  other_fails u t x apart number =
+      and_left (is_thread u x) (is_hand_of worker x.place) (ne_eqb x.thread.id u (λ same. apart (sym same ∙ number)))
+
+  -- threads that lack a number have none of it in a hand
+  lacks_in_hand : (t : ℕ) (xs : List Member) → Lacks t xs → AllByRecursion (λ x. (is_thread t x && is_hand_of worker x.place) ≡ false) xs
+  lacks_in_hand t xs lacks =
+      all_along (λ x. is_thread t x ≡ false) (λ x. (is_thread t x && is_hand_of worker x.place) ≡ false) xs
+      (λ x fails. and_left (is_thread t x) (is_hand_of worker x.place) fails) lacks
+
+  module _ (m n : Member) (ms : List Member) (v : Within m.thread.id m ms) (number : n.thread.id ≡ m.thread.id) where
+    -- look-up in the worker's hand of another number finds what it found
+    hand_other : (u : ℕ) → u ≢ m.thread.id → thread_in_hand worker u (v.before ++ n ∷ v.after) ≡ thread_in_hand worker u ms
+    hand_other u apart =
+        find_kept (λ x. is_thread u x && is_hand_of worker x.place) v.before m n v.after
+        (other_fails u m.thread.id m apart refl) (other_fails u m.thread.id n apart number) ∙ ap (thread_in_hand worker u) (sym v.whole)
+
+    -- look-up of the thread itself finds it where it is in the hand then
+    hand_own : thread_in_hand worker m.thread.id (v.before ++ n ∷ v.after) ≡ (if is_hand_of worker n.place then Some n else None)
+    hand_own =
+        find_only (λ x. is_thread m.thread.id x && is_hand_of worker x.place) v.before n v.after
+        (lacks_in_hand m.thread.id v.before v.lacks_before) (lacks_in_hand m.thread.id v.after v.lacks_after) ∙
+        ap (λ (b : Bool). if b && is_hand_of worker n.place then Some n else None) (eq-eqb n.thread.id m.thread.id number)
+
+    -- where a word changes, look-up finds what this says of the thread, and of each other what it found
+    hand_split : (t u : ℕ) (own : Option Member) → t ≡ m.thread.id → thread_in_hand worker m.thread.id (v.before ++ n ∷ v.after) ≡ own →
+        thread_in_hand worker u (v.before ++ n ∷ v.after) ≡ (if u == t then own else thread_in_hand worker u ms)
+    hand_split t u own is found =
+        ⊎_elim
+        (λ (same : u ≡ t). ap (λ (x : ℕ). thread_in_hand worker x (v.before ++ n ∷ v.after)) (same ∙ is) ∙ found ∙
+        sym (cond-true (u == t) own (thread_in_hand worker u ms) (eq-eqb u t same)))
+        (λ (other : u ≡ t → ⊥). hand_other u (λ same. other (same ∙ sym is)) ∙
+        sym (cond-false (u == t) own (thread_in_hand worker u ms) (ne_eqb u t other)))
+        (cases_eq u t)
+
+    -- the worker's hand after one thread was carried
+    hand_carried : (change : Option WordChange) → IsOnWordOf m.thread.id change → IsPassedBy change m n → (u : ℕ) →
+        thread_in_hand worker u (v.before ++ n ∷ v.after) ≡ in_hand_after w worker e now change u (thread_in_hand worker u ms)
+    hand_carried None on handled u =
+        find_kept (λ x. is_thread u x && is_hand_of worker x.place) v.before m n v.after
+        (and_right (is_thread u m) (is_hand_of worker m.place) handled.0) (and_right (is_thread u n) (is_hand_of worker n.place) handled.1) ∙
+        ap (thread_in_hand worker u) (sym v.whole)
+    hand_carried (Some (block t)) on handled u =
+        hand_split t u (taken_member w worker e now t) on (hand_own ∙ cond-true (is_hand_of worker n.place) (Some n) None handled.0 ∙ sym handled.1)
+    hand_carried (Some (point t l)) on handled u =
+        hand_split t u None on (hand_own ∙ cond-false (is_hand_of worker n.place) (Some n) None handled)
+
+  -- one thread was carried, and is apart from the others then
+  pub done_one : (change : Option WordChange) (m n : Member) (ms ns : List Member) (v : Within m.thread.id m ms) → ns ≡ v.before ++ n ∷ v.after →
+      IsCarried change m n → IsApartFrom n v.before v.after → IsDone change ms ns
+  done_one change m n ms ns v is one apart = subst (IsDone change ms) (sym is) done
+    where
+      touch : IsTouched w worker e now m n
+      touch = reached one.from one.to one.through
+
+      done : IsDone change ms (v.before ++ n ∷ v.after)
+      done = record {
+        touched = subst (λ (xs : List Member). AreTouched w worker e now xs (v.before ++ n ∷ v.after)) (sym v.whole) (touched_between w worker e now v.before m n v.after touch);
+        words = subst (λ (xs : List Member). HaveWords change xs (v.before ++ n ∷ v.after)) (sym v.whole) (words_between m.thread.id change v.before m n v.after one.on v.lacks_before v.lacks_after one.word);
+        hand = hand_carried m n ms v (goes_number one.through) change one.on one.hand;
+        made = well_made_between v.before n v.after v.others (record { numbers = goes_numbers one.through v.made.numbers; place = one.place }) apart.front apart.back;
+      }
