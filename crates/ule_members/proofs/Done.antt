@@ -3,6 +3,7 @@
 use Rattle.std.proofs.Common.{◌≡◌, ◌≢◌, ℕ, ◌==◌, ℤ, pos, Bool, true, false, ◌&&◌, List, [], ◌∷◌, ◌++◌, filter, Option, Some, None, if◌then◌else◌, ⊎_elim, refl, sym, ◌∙◌, ap, subst}
 use Rattle.std.specs.List.{AllByRecursion, find}
 use Rattle.std.specs.Option.{option_map}
+use Rattle.std.specs.Prelude.{option_and_then}
 use Rattle.std.proofs.lemmas.Bool.{and_left, and_right, cases_eq, cond-false, cond-true, eq-eqb, false_from_ne_true, ne_eqb}
 use Rattle.std.proofs.lemmas.Option.{none-some}
 use Rattle.ule_prio.specs.declared.kind.Kind.{Kind}
@@ -16,7 +17,7 @@ use Rattle.ule_score.specs.declared.record.ThreadRecord.{ThreadRecord}
 use Rattle.ule_types.specs.Commands.{is_among}
 use Rattle.ule_types.specs.declared.event.Event.{Event}
 use Rattle.ule_types.specs.declared.event.Event.TheVariants.{Tick, Switch, Drop, Bed, Wake, Look, Land, Move, Lend, Unlend, Renice, Hatch, Fork, Return, Exit, Bury, Inherit}
-use Rattle.ule_model.specs.Events.{is_reached, locks_of}
+use Rattle.ule_model.specs.Events.{holder_of, is_reached, locks_of}
 use Rattle.ule_model.specs.Frames.{AreTouched, HaveWords, IsTouched, reached, thread_in_hand, word_after}
 use Rattle.ule_model.specs.Insertion.{order_of}
 use Rattle.ule_model.specs.declared.insertion.Insertion.{Insertion}
@@ -26,7 +27,7 @@ use Rattle.ule_model.specs.Words.{WordChange, block, point}
 use Rattle.ule_model.specs.World.{Member, World, current_of, is_thread, thread_of}
 use Rattle.ule_members.proofs.Apart.{all_from_filter, all_from_map, apart_kept, apart_off, apart_queued, apart_running, order_of_apart, orders_in}
 use Rattle.ule_members.proofs.Reach.{no_hand_under, reached_by_hand, reached_by_lock, is_number_itself}
-use Rattle.ule_members.proofs.Threads.{find_kept, find_only, none_passes}
+use Rattle.ule_members.proofs.Threads.{find_here, find_kept, find_only, none_passes, thread_of_within}
 use Rattle.ule_members.proofs.Touches.{all_left, all_touched_further, goes_number, goes_numbers, touched_between}
 use Rattle.ule_members.proofs.Within.{Lacks, Within, all_along, all_back, all_front, well_made_between}
 use Rattle.ule_members.proofs.WordLaws.{IsOnWordOf, word_blocked, word_pointed, words_between, words_further, words_stay}
@@ -66,6 +67,12 @@ abbrev pub in_hand_after : World → ℕ → Event → ℕ → Option WordChange
 in_hand_after w worker e now None u old = old
 in_hand_after w worker e now (Some (block t)) u old = if u == t then taken_member w worker e now t else old
 in_hand_after w worker e now (Some (point t l)) u old = if u == t then None else old
+
+-- the holder of thread u after a change of a word by an event of this worker, where this was it before
+abbrev pub holder_after : ℕ → Option WordChange → ℕ → Option ℕ → Option ℕ
+holder_after worker None u old = old
+holder_after worker (Some (block t)) u old = if u == t then Some worker else old
+holder_after worker (Some (point t l)) u old = if u == t then None else old
 
 -- ---- one thread and the others
 
@@ -139,11 +146,12 @@ module _ (w : World) (worker : ℕ) (e : Event) (now : ℕ) where
     pub touched : AreTouched w worker e now ms ns
     pub words : HaveWords change ms ns
     pub hand : (u : ℕ) → thread_in_hand worker u ns ≡ in_hand_after w worker e now change u (thread_in_hand worker u ms)
+    pub holders : (u : ℕ) → holder_of ns u ≡ holder_after worker change u (holder_of ms u)
     pub made : IsWellMade ns
 
   -- nothing was done
   pub done_nothing : (ms : List Member) → IsWellMade ms → IsDone None ms ms
-  done_nothing ms made = record { touched = all_left w worker e now ms; words = words_stay ms; hand = λ u. refl; made = made }
+  done_nothing ms made = record { touched = all_left w worker e now ms; words = words_stay ms; hand = λ u. refl; holders = λ u. refl; made = made }
 
   -- what was done, and then more that changes no word
   pub done_further : (change : Option WordChange) (ls ms ns : List Member) → IsDone change ls ms → IsDone None ms ns → IsDone change ls ns
@@ -151,16 +159,17 @@ module _ (w : World) (worker : ℕ) (e : Event) (now : ℕ) where
     touched = all_touched_further w worker e now ls ms ns first.touched second.touched;
     words = words_further change ls ms ns first.words second.words;
     hand = λ u. second.hand u ∙ first.hand u;
+    holders = λ u. second.holders u ∙ first.holders u;
     made = second.made;
   }
 
   -- ---- one thread
 
-  -- whether one thread before and after is in the worker's hand, by the change of its word
+  -- in whose hand one thread is before and after, by the change of its word
   abbrev pub IsPassedBy : Option WordChange → Member → Member → Type 0
-  IsPassedBy None m n = (is_hand_of worker m.place ≡ false) × (is_hand_of worker n.place ≡ false)
-  IsPassedBy (Some (block t)) m n = (is_hand_of worker n.place ≡ true) × (taken_member w worker e now t ≡ Some n)
-  IsPassedBy (Some (point t l)) m n = is_hand_of worker n.place ≡ false
+  IsPassedBy None m n = (hand_of m.place ≡ None) × (hand_of n.place ≡ None)
+  IsPassedBy (Some (block t)) m n = (hand_of n.place ≡ Some worker) × (taken_member w worker e now t ≡ Some n)
+  IsPassedBy (Some (point t l)) m n = hand_of n.place ≡ None
 
   -- one thread before and after this event, which changes a word so
   pub record IsCarried (change : Option WordChange) (m n : Member) : Type 0 where
@@ -181,7 +190,7 @@ module _ (w : World) (worker : ℕ) (e : Event) (now : ℕ) where
     through = through;
     on = tt;
     word = to ∙ sym from;
-    hand = (ap (is_number worker) (no_hand_under l m.place from), ap (is_number worker) (no_hand_under l n.place to));
+    hand = (no_hand_under l m.place from, no_hand_under l n.place to);
     place = place;
   }
 
@@ -194,7 +203,7 @@ module _ (w : World) (worker : ℕ) (e : Event) (now : ℕ) where
     through = through;
     on = sym number;
     word = sym (word_blocked t m number);
-    hand = (eq-eqb worker worker refl, taken);
+    hand = (refl, taken);
     place = tt;
   }
 
@@ -207,7 +216,7 @@ module _ (w : World) (worker : ℕ) (e : Event) (now : ℕ) where
     through = through;
     on = sym number;
     word = to ∙ sym (word_pointed t l m number);
-    hand = ap (is_number worker) (no_hand_under l n.place to);
+    hand = no_hand_under l n.place to;
     place = place;
   }
 
@@ -252,12 +261,48 @@ module _ (w : World) (worker : ℕ) (e : Event) (now : ℕ) where
         thread_in_hand worker u (v.before ++ n ∷ v.after) ≡ in_hand_after w worker e now change u (thread_in_hand worker u ms)
     hand_carried None on handled u =
         find_kept (λ x. is_thread u x && is_hand_of worker x.place) v.before m n v.after
-        (and_right (is_thread u m) (is_hand_of worker m.place) handled.0) (and_right (is_thread u n) (is_hand_of worker n.place) handled.1) ∙
+        (and_right (is_thread u m) (is_hand_of worker m.place) (ap (is_number worker) handled.0))
+        (and_right (is_thread u n) (is_hand_of worker n.place) (ap (is_number worker) handled.1)) ∙
         ap (thread_in_hand worker u) (sym v.whole)
     hand_carried (Some (block t)) on handled u =
-        hand_split t u (taken_member w worker e now t) on (hand_own ∙ cond-true (is_hand_of worker n.place) (Some n) None handled.0 ∙ sym handled.1)
+        hand_split t u (taken_member w worker e now t) on (hand_own ∙ cond-true (is_hand_of worker n.place) (Some n) None (is_number_itself worker (hand_of n.place) handled.0) ∙ sym handled.1)
     hand_carried (Some (point t l)) on handled u =
-        hand_split t u None on (hand_own ∙ cond-false (is_hand_of worker n.place) (Some n) None handled)
+        hand_split t u None on (hand_own ∙ cond-false (is_hand_of worker n.place) (Some n) None (ap (is_number worker) handled))
+
+    -- the holder of another thread stays
+    holder_other : (u : ℕ) → u ≢ m.thread.id → holder_of (v.before ++ n ∷ v.after) u ≡ holder_of ms u
+    holder_other u apart =
+        ap (option_and_then (λ (x : Member). hand_of x.place))
+        (find_kept (is_thread u) v.before m n v.after (ne_eqb m.thread.id u (λ same. apart (sym same))) (ne_eqb n.thread.id u (λ same. apart (sym same ∙ number))) ∙
+        ap (thread_of u) (sym v.whole))
+
+    -- the holder of the thread itself is the worker in whose hand it is
+    holder_own : holder_of (v.before ++ n ∷ v.after) m.thread.id ≡ hand_of n.place
+    holder_own =
+        ap (option_and_then (λ (x : Member). hand_of x.place))
+        (find_here (is_thread m.thread.id) v.before n v.after v.lacks_before (eq-eqb n.thread.id m.thread.id number))
+
+    -- where a word changes, the holder is what this says of the thread, and of each other what it was
+    holder_split : (t u : ℕ) (own : Option ℕ) → t ≡ m.thread.id → hand_of n.place ≡ own →
+        holder_of (v.before ++ n ∷ v.after) u ≡ (if u == t then own else holder_of ms u)
+    holder_split t u own is hand =
+        ⊎_elim
+        (λ (same : u ≡ t). ap (holder_of (v.before ++ n ∷ v.after)) (same ∙ is) ∙ holder_own ∙ hand ∙ sym (cond-true (u == t) own (holder_of ms u) (eq-eqb u t same)))
+        (λ (other : u ≡ t → ⊥). holder_other u (λ same. other (same ∙ sym is)) ∙ sym (cond-false (u == t) own (holder_of ms u) (ne_eqb u t other)))
+        (cases_eq u t)
+
+    -- the holder of the thread before
+    holder_before : holder_of ms m.thread.id ≡ hand_of m.place
+    holder_before = ap (option_and_then (λ (x : Member). hand_of x.place)) (thread_of_within m.thread.id m ms v)
+
+    -- the holders after one thread was carried
+    holders_carried : (change : Option WordChange) → IsOnWordOf m.thread.id change → IsPassedBy change m n → (u : ℕ) →
+        holder_of (v.before ++ n ∷ v.after) u ≡ holder_after worker change u (holder_of ms u)
+    holders_carried None on passed u =
+        ⊎_elim (λ (same : u ≡ m.thread.id). ap (holder_of (v.before ++ n ∷ v.after)) same ∙ holder_own ∙ passed.1 ∙ sym passed.0 ∙ sym holder_before ∙ ap (holder_of ms) (sym same))
+        (λ (other : u ≡ m.thread.id → ⊥). holder_other u other) (cases_eq u m.thread.id)
+    holders_carried (Some (block t)) on passed u = holder_split t u (Some worker) on passed.0
+    holders_carried (Some (point t l)) on passed u = holder_split t u None on passed
 
   -- one thread was carried, and is apart from the others then
   pub done_one : (change : Option WordChange) (m n : Member) (ms ns : List Member) (v : Within m.thread.id m ms) → ns ≡ v.before ++ n ∷ v.after →
@@ -272,5 +317,6 @@ module _ (w : World) (worker : ℕ) (e : Event) (now : ℕ) where
         touched = subst (λ (xs : List Member). AreTouched w worker e now xs (v.before ++ n ∷ v.after)) (sym v.whole) (touched_between w worker e now v.before m n v.after touch);
         words = subst (λ (xs : List Member). HaveWords change xs (v.before ++ n ∷ v.after)) (sym v.whole) (words_between m.thread.id change v.before m n v.after one.on v.lacks_before v.lacks_after one.word);
         hand = hand_carried m n ms v (goes_number one.through) change one.on one.hand;
+        holders = holders_carried m n ms v (goes_number one.through) change one.on one.hand;
         made = well_made_between v.before n v.after v.others (record { numbers = goes_numbers one.through v.made.numbers; place = one.place }) apart.front apart.back;
       }

@@ -3,12 +3,13 @@ use Rattle.std.proofs.Common.{◌≡◌, ℕ, Option, Some, None}
 use Rattle.ule_types.specs.declared.event.Event.{Event}
 use Rattle.ule_types.specs.declared.event.Event.TheVariants as event
 use Rattle.ule_model.specs.Conditions.{IsPossible}
+use Rattle.ule_model.specs.Events.{holder_of}
 use Rattle.ule_model.specs.Frames.{StepIsMade, StepMovesWord, StepTouches, thread_in_hand}
 use Rattle.ule_model.specs.Step.{step}
 use Rattle.ule_model.specs.WellMade.{IsWellMadeWorld}
 use Rattle.ule_model.specs.Words.{change_of}
 use Rattle.ule_model.specs.World.{World}
-use Rattle.ule_members.proofs.Done.{IsDone, done_nothing, in_hand_after}
+use Rattle.ule_members.proofs.Done.{IsDone, done_nothing, holder_after, in_hand_after}
 use Rattle.ule_members.proofs.EventsDone.{bedded_done, buried_done, dropped_done, hatched_done, landed_done, returned_done, switched_done, ticked_done, woken_done}
 use Rattle.ule_members.proofs.Rest.{index_of, step_indexes}
 
@@ -54,3 +55,9 @@ pub step_own_hand : (w : World) (worker : ℕ) (e : Event) (now : ℕ) → IsWel
     thread_in_hand worker u (step w worker e now).0.members ≡
     in_hand_after w worker e now (change_of e (step w worker e now).1) u (thread_in_hand worker u w.members)
 step_own_hand w worker e now made possible = (step_done w worker e now made possible).hand
+
+-- the holder of each thread after an event, by the change of a word: the worker for the thread that is taken, none for the
+-- thread that is put down, and for each other whom it was
+pub step_holders : (w : World) (worker : ℕ) (e : Event) (now : ℕ) → IsWellMadeWorld w → IsPossible w worker e now → (u : ℕ) →
+    holder_of (step w worker e now).0.members u ≡ holder_after worker (change_of e (step w worker e now).1) u (holder_of w.members u)
+step_holders w worker e now made possible = (step_done w worker e now made possible).holders
