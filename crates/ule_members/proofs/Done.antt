@@ -29,7 +29,7 @@ use Rattle.ule_members.proofs.Apart.{all_from_filter, all_from_map, apart_kept, 
 use Rattle.ule_members.proofs.Reach.{no_hand_under, reached_by_hand, reached_by_lock, is_number_itself}
 use Rattle.ule_members.proofs.Threads.{find_here, find_kept, find_only, none_passes, thread_of_within}
 use Rattle.ule_members.proofs.Touches.{all_left, all_touched_further, goes_number, goes_numbers, touched_between}
-use Rattle.ule_members.proofs.Within.{Lacks, Within, all_along, all_back, all_front, well_made_between}
+use Rattle.ule_members.proofs.Within.{Lacks, Within, all_along, all_back, all_both, all_front, well_made_between}
 use Rattle.ule_members.proofs.WordLaws.{IsOnWordOf, word_blocked, word_pointed, words_between, words_further, words_stay}
 
 -- ---- the worker's hand
@@ -96,11 +96,6 @@ apart_from_off m n ms v number off = record {
   front = all_along (AreApart m) (AreApart n) v.before (λ k h. apart_off n k (λ same. h.numbers (sym number ∙ same)) off) v.apart_before;
   back = all_along (AreApart m) (AreApart n) v.after (λ k h. apart_off n k (λ same. h.numbers (sym number ∙ same)) off) v.apart_after;
 }
-
--- what two facts give of each element
-all_both : {X : Type 0} (P Q R : X → Type 0) (xs : List X) → ((x : X) → P x → Q x → R x) → AllByRecursion P xs → AllByRecursion Q xs → AllByRecursion R xs
-all_both P Q R [] step first second = tt
-all_both P Q R (x ∷ xs) step first second = (step x first.0 second.0, all_both P Q R xs step first.1 second.1)
 
 -- a thread is apart from the others where that follows of each from the number alone and one fact more
 apart_from_each : (P : Member → Type 0) (m n : Member) (ms : List Member) (v : Within m.thread.id m ms) → n.thread.id ≡ m.thread.id →

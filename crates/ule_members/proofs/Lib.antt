@@ -14,3 +14,5 @@ pub mod EventParts
 pub mod EventsDone
 pub mod Rest
 pub mod Steps
+pub mod Untouched
+pub mod Numbered

@@ -29,6 +29,11 @@ pub all_along : {X : Type 0} (P Q : X → Type 0) (xs : List X) → ((x : X) →
 all_along P Q [] step all = tt
 all_along P Q (x ∷ xs) step all = (step x all.0, all_along P Q xs step all.1)
 
+-- what two facts give of an element holds of each element
+pub all_both : {X : Type 0} (P Q R : X → Type 0) (xs : List X) → ((x : X) → P x → Q x → R x) → AllByRecursion P xs → AllByRecursion Q xs → AllByRecursion R xs
+all_both P Q R [] step first second = tt
+all_both P Q R (x ∷ xs) step first second = (step x first.0 second.0, all_both P Q R xs step first.1 second.1)
+
 -- ---- threads that are apart
 
 -- two threads are apart from either side
