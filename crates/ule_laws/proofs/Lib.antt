@@ -12,3 +12,4 @@ pub mod ChoosingLaws
 pub mod CpuLaws
 pub mod CpuEvents
 pub mod CpuPlaces
+pub mod FrameLaws
