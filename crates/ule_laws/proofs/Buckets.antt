@@ -148,17 +148,6 @@ bucket_ids-with_record c k b t change ms kept =
     ids_kept [] = refl
     ids_kept (n ∷ ns) = ap (λ u. u ∷ ids_of (map (recorded t change) ns)) (recorded_id t change n kept) ∙ ap (λ r. n.thread.id ∷ r) (ids_kept ns)
 
--- ---- a list without one of its threads
-
--- the others of a thread within a list are those before it and those after it
-pub others_within : (t : ℕ) (m : Member) (ms : List Member) (w : Within t m ms) → others t ms ≡ w.before ++ w.after
-others_within t m ms w =
-    ap (others t) w.whole ∙
-    filter_skips (λ n. not (is_thread t n)) w.before m w.after (ap not (eq-eqb m.thread.id t w.number)) ∙
-    filter_passed (λ n. not (is_thread t n)) (w.before ++ w.after)
-    (all_along (λ n. is_thread t n ≡ false) (λ n. not (is_thread t n) ≡ true) (w.before ++ w.after) (λ n h. ap not h)
-    (all-append (λ n. is_thread t n ≡ false) w.before w.after w.lacks_before w.lacks_after))
-
 -- ---- what the lists show
 
 -- whether a place is in no bucket of this queue

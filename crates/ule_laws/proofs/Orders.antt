@@ -162,7 +162,7 @@ ids_without t before m after apart number front back =
     sym (filter-ids_of t (by_order (before ++ after))) ∙
     ids_lacking t (by_order (before ++ after)) (all-by_order (λ n. is_thread t n ≡ false) (before ++ after) lacks)
 
--- ---- the orders that an insertion gives
+-- ---- one above or below all the others
 
 -- a thread above all the others comes last
 pub by_order_last : (before : List Member) (m : Member) (after : List Member) → AllByRecursion (λ n. int_lt n.order m.order ≡ true) before → AllByRecursion (λ n. int_lt n.order m.order ≡ true) after → by_order (before ++ m ∷ after) ≡ by_order (before ++ after) ++ m ∷ []

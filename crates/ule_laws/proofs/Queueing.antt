@@ -19,15 +19,13 @@ use Rattle.ule_model.specs.Switch.{lifted}
 use Rattle.ule_model.specs.WellMade.{IsWellMade}
 use Rattle.ule_model.specs.World.{Member, Side, moved_to, others, thread_of}
 use Rattle.ule_laws.proofs.Beside.{StandsBeside, lifted_stands, other_out, put_current, put_load, put_threads}
-use Rattle.ule_laws.proofs.Buckets.{others_within, shows-changed, shows_with_head, shows_with_tail}
+use Rattle.ule_laws.proofs.Buckets.{shows-changed, shows_with_head, shows_with_tail}
 use Rattle.ule_laws.proofs.QueueKinds.{by_kind, each_queue, with_queue_whole}
 use Rattle.ule_laws.proofs.WellMade.{well_made_joined}
 use Rattle.ule_members.proofs.Threads.{thread_of_within}
 use Rattle.ule_members.proofs.Within.{Within}
 use Rattle.ule_members.proofs.Apart.{orders_in}
-use Rattle.ule_members.proofs.Moves.{bucket_small}
-
--- ---- buckets
+use Rattle.ule_members.proofs.Moves.{bucket_small, others_within}
 
 -- ---- the third put
 

@@ -11,7 +11,7 @@ use Rattle.ule_model.specs.Places.{is_on, runs_on, waits_in}
 use Rattle.ule_model.specs.WellMade.{AreApart, IsMade, IsWellMade}
 use Rattle.ule_model.specs.World.{Member, Side, current_of, is_thread, moved_to, others, thread_of}
 use Rattle.ule_members.proofs.Apart.{all_from_filter, all_from_map, apart_kept, apart_off, apart_queued, apart_running, order_of_apart, orders_in}
-use Rattle.ule_members.proofs.Moves.{bucket_small, moved_between, others_between, queued_member}
+use Rattle.ule_members.proofs.Moves.{bucket_small, moved_between, others_within, queued_member}
 use Rattle.ule_members.proofs.Threads.{none_passes}
 use Rattle.ule_members.proofs.Within.{Within, all_along, all_back, all_both, all_front, well_made_between, within_found}
 
@@ -89,10 +89,8 @@ queued_made how c t s made index = split (thread_of t s.members) refl
     one m v =
         let p : ℕ = m.thread.priority in
         let n : Member = queued_member how c s.line (v.before ++ v.after) m in
-        let rest : others m.thread.id s.members ≡ v.before ++ v.after =
-        ap (others m.thread.id) v.whole ∙ others_between m.thread.id v.before m v.after v.lacks_before refl v.lacks_after in
         well_made_put m n s.members (with_queued how c (Some m) s).members v
-        (ap (λ (ns : List Member). moved_to m.thread.id (place_of_insertion how c s.line p) (order_of_insertion how c s.line p ns) s.members) rest ∙
+        (ap (λ (ns : List Member). moved_to m.thread.id (place_of_insertion how c s.line p) (order_of_insertion how c s.line p ns) s.members) (others_within m.thread.id m s.members v) ∙
         moved_between m s.members v (place_of_insertion how c s.line p) (order_of_insertion how c s.line p (v.before ++ v.after)))
         (record { numbers = v.made.numbers; place = bucket_small (kind_at p) how s.line p v.made.numbers.priority index })
         (apart_from_queued how c (kind_at p) (bucket_of (kind_at p) how s.line p) m n s.members v refl refl refl)

@@ -40,6 +40,10 @@ others_between t (b ∷ bs) m after front number back =
     cond-true (not (is_thread t b)) (b ∷ others t (bs ++ m ∷ after)) (others t (bs ++ m ∷ after)) (ap not front.0) ∙
     ap (λ ns. b ∷ ns) (others_between t bs m after front.1 number back)
 
+-- the others of a thread within a list are those before it and those after it
+pub others_within : (t : ℕ) (m : Member) (ms : List Member) (v : Within t m ms) → others t ms ≡ v.before ++ v.after
+others_within t m ms v = ap (others t) v.whole ∙ others_between t v.before m v.after v.lacks_before v.number v.lacks_after
+
 -- ---- moves and changes of a record
 
 -- a thread's record after a change
