@@ -20,13 +20,14 @@ use Rattle.ule_model.specs.Switch.{after_batch_removal, after_leaving, after_rem
 use Rattle.ule_model.specs.Tick.{load_of}
 use Rattle.ule_model.specs.WellMade.{IsWellMade}
 use Rattle.ule_model.specs.World.{Member, Side, current_of, is_thread, moved_to, others}
-use Rattle.ule_laws.proofs.Buckets.{IsOut, empty_shown, others_within, shows-changed, shows-others, shows-without}
+use Rattle.ule_laws.proofs.Buckets.{IsOut, empty_shown, shows-changed, shows-others, shows-without}
 use Rattle.ule_laws.proofs.QueueKinds.{by_kind, each_queue, removed_whole}
 use Rattle.ule_laws.proofs.PlaceLaws.{waits_on_place}
-use Rattle.ule_laws.proofs.WellMade.{waits_on_where}
 use Rattle.ule_members.proofs.Loads.{load-within, load-changed}
 use Rattle.ule_members.proofs.Threads.{find_nowhere, find_only, find_skips, no_other_runs, none_passes, thread_on_within, thread_on-changed}
 use Rattle.ule_members.proofs.Within.{Within, all-append, all_back, all_front, changed_within}
+use Rattle.ule_members.proofs.Apart.{waits_on_where}
+use Rattle.ule_members.proofs.Moves.{others_within}
 
 -- this value is CPU v.cpu's side of a world but for thread m: the value has its record, counts it, and has
 -- it in no place; these are the other threads

@@ -15,8 +15,9 @@ use Rattle.ule_model.specs.Places.{rank_of, waits_in}
 use Rattle.ule_model.specs.Shows.{ShowsQueue, by_order, ids_of, bucket_ids}
 use Rattle.ule_model.specs.WellMade.{AreApart}
 use Rattle.ule_model.specs.World.{Member, is_thread, moved_to, others, with_record}
-use Rattle.ule_laws.proofs.Orders.{length-by_order, map-by_order, filter_passed, ids_lacking, ids_without, all-by_order, all_from_map, tail_order_above, head_order_below, by_order_last, by_order_first}
+use Rattle.ule_laws.proofs.Orders.{length-by_order, map-by_order, filter_passed, ids_lacking, ids_without, all-by_order, by_order_last, by_order_first}
 use Rattle.ule_members.proofs.Within.{Lacks, Within, changed, changed_within, all-append, all_along, all_front, all_back}
+use Rattle.ule_members.proofs.Apart.{all_from_map, head_order_below, orders_in, tail_order_above}
 
 -- ---- the threads of a bucket
 
@@ -58,10 +59,6 @@ filter-map_kept p g kept (x ∷ xs) = rw (kept x) (step (p x) (filter-map_kept p
 -- a thread that isn't in a bucket adds nothing to it
 pub bucket_ids_out : (c : ℕ) (k : Kind) (b : ℕ) (before : List Member) (m : Member) (after : List Member) → waits_in c k b m.place ≡ false → bucket_ids c k b (before ++ m ∷ after) ≡ bucket_ids c k b (before ++ after)
 bucket_ids_out c k b before m after out = ap (λ ns. ids_of (by_order ns)) (filter_skips (λ n. waits_in c k b n.place) before m after out)
-
--- the orders of the threads in a bucket
-abbrev pub orders_in : ℕ → Kind → ℕ → List Member → List ℤ
-orders_in c k b ms = map (λ m. m.order) (members_in c k b ms)
 
 -- what holds of each order in a bucket of two lists holds of the threads of each
 orders_front : (P : ℤ → Type 0) (c : ℕ) (k : Kind) (b : ℕ) (before after : List Member) → AllByRecursion P (orders_in c k b (before ++ after)) → AllByRecursion (λ n. P n.order) (members_in c k b before) × AllByRecursion (λ n. P n.order) (members_in c k b after)
@@ -150,17 +147,6 @@ bucket_ids-with_record c k b t change ms kept =
     ids_kept : (ns : List Member) → ids_of (map (recorded t change) ns) ≡ ids_of ns
     ids_kept [] = refl
     ids_kept (n ∷ ns) = ap (λ u. u ∷ ids_of (map (recorded t change) ns)) (recorded_id t change n kept) ∙ ap (λ r. n.thread.id ∷ r) (ids_kept ns)
-
--- ---- a list without one of its threads
-
--- the others of a thread within a list are those before it and those after it
-pub others_within : (t : ℕ) (m : Member) (ms : List Member) (w : Within t m ms) → others t ms ≡ w.before ++ w.after
-others_within t m ms w =
-    ap (others t) w.whole ∙
-    filter_skips (λ n. not (is_thread t n)) w.before m w.after (ap not (eq-eqb m.thread.id t w.number)) ∙
-    filter_passed (λ n. not (is_thread t n)) (w.before ++ w.after)
-    (all_along (λ n. is_thread t n ≡ false) (λ n. not (is_thread t n) ≡ true) (w.before ++ w.after) (λ n h. ap not h)
-    (all-append (λ n. is_thread t n ≡ false) w.before w.after w.lacks_before w.lacks_after))
 
 -- ---- what the lists show
 

@@ -1,5 +1,5 @@
 -- What a CPU's value stands for after an event that doesn't take the CPU's lock.
-use Rattle.std.proofs.Common.{◌≡◌, ℕ, ◌<◌, ◌&&◌, Bool, true, false, List, Option, refl, sym, ◌∙◌, ap}
+use Rattle.std.proofs.Common.{◌≡◌, ℕ, ◌&&◌, true, false, sym, ◌∙◌, ap}
 use Rattle.std.specs.Option.{option_map}
 use Rattle.std.proofs.lemmas.Bool.{and_right, false_from_ne_true, both_ways, or_parts}
 use Rattle.ule_prio.specs.declared.kind.Kind.{Kind}

@@ -9,6 +9,7 @@ use Rattle.ule_model.specs.Insertion.{tail_order, head_order}
 use Rattle.ule_model.specs.Shows.{with_ordered, by_order, ids_of}
 use Rattle.ule_model.specs.World.{Member, is_thread}
 use Rattle.ule_members.proofs.Within.{Lacks, all-append, all_along}
+use Rattle.ule_members.proofs.Apart.{lt_apart}
 
 -- ---- one more in order
 
@@ -161,40 +162,7 @@ ids_without t before m after apart number front back =
     sym (filter-ids_of t (by_order (before ++ after))) ∙
     ids_lacking t (by_order (before ++ after)) (all-by_order (λ n. is_thread t n ≡ false) (before ++ after) lacks)
 
--- ---- the orders that an insertion gives
-
--- what holds of each image holds of each by its image
-pub all_from_map : {X Y : Type 0} (g : X → Y) (P : Y → Type 0) (xs : List X) → AllByRecursion P (map g xs) → AllByRecursion (λ x. P (g x)) xs
-all_from_map g P [] all = tt
-all_from_map g P (x ∷ xs) all = (all.0, all_from_map g P xs all.1)
-
--- the order of the tail is above each
-pub tail_order_above : (os : List ℤ) → AllByRecursion (λ o. int_lt o (tail_order os) ≡ true) os
-tail_order_above [] = tt
-tail_order_above (o ∷ os) =
-    let bounds = fold-int_max_bounds o os (fold int_max o os) refl in (
-      raised o (fold int_max o os) bounds.0,
-      all_along (λ x. x ≤ℤ fold int_max o os) (λ x. int_lt x (fold int_max o os +ℤ pos 1) ≡ true) os (λ x le. raised x (fold int_max o os) le) (recursion_from_All (λ x. x ≤ℤ fold int_max o os) os bounds.1),
-    )
-  where
-    raised : (x r : ℤ) → x ≤ℤ r → int_lt x (r +ℤ pos 1) ≡ true
-    raised x r le = grind (arith, ints)
-
--- the order of the head is below each
-pub head_order_below : (os : List ℤ) → AllByRecursion (λ o. int_lt (head_order os) o ≡ true) os
-head_order_below [] = tt
-head_order_below (o ∷ os) =
-    let bounds = fold-int_min_bounds o os (fold int_min o os) refl in (
-      lowered o (fold int_min o os) bounds.0,
-      all_along (λ x. fold int_min o os ≤ℤ x) (λ x. int_lt (fold int_min o os -ℤ pos 1) x ≡ true) os (λ x le. lowered x (fold int_min o os) le) (recursion_from_All (λ x. fold int_min o os ≤ℤ x) os bounds.1),
-    )
-  where
-    lowered : (x r : ℤ) → r ≤ℤ x → int_lt (r -ℤ pos 1) x ≡ true
-    lowered x r le = grind (arith, ints)
-
--- two orders of which one is less differ
-pub lt_apart : (a b : ℤ) → int_lt a b ≡ true → a ≢ b
-lt_apart a b low = grind (arith, ints)
+-- ---- one above or below all the others
 
 -- a thread above all the others comes last
 pub by_order_last : (before : List Member) (m : Member) (after : List Member) → AllByRecursion (λ n. int_lt n.order m.order ≡ true) before → AllByRecursion (λ n. int_lt n.order m.order ≡ true) after → by_order (before ++ m ∷ after) ≡ by_order (before ++ after) ++ m ∷ []

@@ -19,29 +19,13 @@ use Rattle.ule_model.specs.Switch.{lifted}
 use Rattle.ule_model.specs.WellMade.{IsWellMade}
 use Rattle.ule_model.specs.World.{Member, Side, moved_to, others, thread_of}
 use Rattle.ule_laws.proofs.Beside.{StandsBeside, lifted_stands, other_out, put_current, put_load, put_threads}
-use Rattle.ule_laws.proofs.Buckets.{orders_in, others_within, shows-changed, shows_with_head, shows_with_tail}
+use Rattle.ule_laws.proofs.Buckets.{shows-changed, shows_with_head, shows_with_tail}
 use Rattle.ule_laws.proofs.QueueKinds.{by_kind, each_queue, with_queue_whole}
 use Rattle.ule_laws.proofs.WellMade.{well_made_joined}
 use Rattle.ule_members.proofs.Threads.{thread_of_within}
 use Rattle.ule_members.proofs.Within.{Within}
-
--- ---- buckets
-
--- a calendar's insertion bucket is one that there is
-calendar_bucket_small : (idx ridx p : ℕ) → calendar_bucket idx ridx p < 64
-calendar_bucket_small idx ridx p = step (not (ridx == idx) && ((reach_of p + idx) % 64 == ridx))
-  where
-    step : (d : Bool) → (if d then ((reach_of p + idx) % 64 + 63) % 64 else (reach_of p + idx) % 64) < 64
-    step true = omega arith
-    step false = omega arith
-
--- an insertion's bucket is one that there is, where the removal index is that of one
-pub bucket_small : (k : Kind) (how : Insertion) (line : CpuLine) (p : ℕ) → p < 256 → line.ridx < 64 → bucket_of k how line p < 64
-bucket_small Real how line p small at = omega arith
-bucket_small Batch Ordinary line p small at = calendar_bucket_small line.idx line.ridx p
-bucket_small Batch Borrowing line p small at = at
-bucket_small Batch Preempted line p small at = at
-bucket_small Idle how line p small at = omega arith
+use Rattle.ule_members.proofs.Apart.{orders_in}
+use Rattle.ule_members.proofs.Moves.{bucket_small, others_within}
 
 -- ---- the third put
 

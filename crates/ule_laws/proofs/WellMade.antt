@@ -16,10 +16,9 @@ use Rattle.ule_model.specs.declared.insertion.Insertion.TheVariants.{Ordinary, B
 use Rattle.ule_model.specs.Places.{is_kind, rank_of, runs_on, waits_on, waits_in, is_on}
 use Rattle.ule_model.specs.WellMade.{IsPlace, IsMade, AreApart, AllApart, IsWellMade}
 use Rattle.ule_model.specs.World.{Member, is_thread, thread_of, current_of, moved_to, with_change, with_record}
-use Rattle.ule_laws.proofs.Buckets.{orders_in}
-use Rattle.ule_laws.proofs.Orders.{all_from_map, tail_order_above, head_order_below, lt_apart}
 use Rattle.ule_members.proofs.Threads.{none_passes}
-use Rattle.ule_members.proofs.Within.{Within, all_front, all_back, all_along, well_made_between, well_made_within}
+use Rattle.ule_members.proofs.Within.{Within, all_along, all_back, all_both, all_front, well_made_between, well_made_within}
+use Rattle.ule_members.proofs.Apart.{all_from_filter, all_from_map, apart_off, apart_queued, apart_running, head_order_below, lt_apart, order_of_apart, orders_in, tail_order_above}
 
 -- ---- a change of records alone
 
@@ -76,58 +75,6 @@ well_made-with_change settings now t change ms sound made =
 
 -- ---- a thread moved
 
--- a thread in a bucket of a CPU is queued on it
-pub waits_on_where : (c : ℕ) (k : Kind) (b : ℕ) (place : Place) → waits_in c k b place ≡ true → waits_on c place ≡ true
-waits_on_where c k b (Running d) here = here
-waits_on_where c k b (Queued d j e) here = (and_parts (c == d) (is_kind k j && (b == e)) here).0
-waits_on_where c k b (Asleep channel) here = here
-waits_on_where c k b Unborn here = here
-waits_on_where c k b Gone here = here
-waits_on_where c k b (Hand w) here = here
-
--- a thread on no CPU is apart from each of another number
-pub apart_off : (m n : Member) → m.thread.id ≢ n.thread.id → ((c : ℕ) → is_on c m.place ≡ false) → AreApart m n
-apart_off m n numbers off = record {
-  numbers = numbers;
-  orders = λ c k b here there e. both_ways (waits_on c m.place) (or_parts (runs_on c m.place) (waits_on c m.place) (off c)).1 (waits_on_where c k b m.place here);
-  running = λ c here there. both_ways (runs_on c m.place) (or_parts (runs_on c m.place) (waits_on c m.place) (off c)).0 here;
-}
-
--- a thread that runs is apart from each of another number that doesn't run on its CPU
-pub apart_running : (c : ℕ) (m n : Member) → m.thread.id ≢ n.thread.id → m.place ≡ Running c → runs_on c n.place ≡ false → AreApart m n
-apart_running c m n numbers place idle = record {
-  numbers = numbers;
-  orders = λ d k b here there e. both_ways false refl (ap (waits_in d k b) (sym place) ∙ here);
-  running = λ d here there. both_ways (runs_on d n.place) (ap (λ i. runs_on i n.place) (eqb-true d c (ap (runs_on d) (sym place) ∙ here)) ∙ idle) there;
-}
-
--- two places in one bucket: what the first is in, the second is in
-same_bucket : (c d : ℕ) (k j : Kind) (b e : ℕ) (place : Place) → waits_in d j e (Queued c k b) ≡ true → waits_in d j e place ≡ true → waits_in c k b place ≡ true
-same_bucket c d k j b e (Queued f l g) here there =
-    let parts = and_parts (d == c) (is_kind j k && (e == b)) here in
-    let inner = and_parts (is_kind j k) (e == b) parts.1 in
-    ap (λ i. (i == f) && (is_kind k l && (b == g))) (sym (eqb-true d c parts.0)) ∙
-    ap (λ r. (d == f) && ((r == rank_of l) && (b == g))) (sym (eqb-true (rank_of j) (rank_of k) inner.0)) ∙
-    ap (λ i. (d == f) && (is_kind j l && (i == g))) (sym (eqb-true e b inner.1)) ∙ there
-same_bucket c d k j b e (Running f) here there = there
-same_bucket c d k j b e (Asleep channel) here there = there
-same_bucket c d k j b e Unborn here there = there
-same_bucket c d k j b e Gone here there = there
-same_bucket c d k j b e (Hand w) here there = there
-
--- a queued thread is apart from each of another number that has another order in its bucket
-pub apart_queued : (c : ℕ) (k : Kind) (b : ℕ) (m n : Member) → m.thread.id ≢ n.thread.id → m.place ≡ Queued c k b → (waits_in c k b n.place ≡ true → m.order ≢ n.order) → AreApart m n
-apart_queued c k b m n numbers place orders = record {
-  numbers = numbers;
-  orders = λ d j e here there. orders (same_bucket c d k j b e n.place (ap (waits_in d j e) (sym place) ∙ here) there);
-  running = λ d here there. both_ways false refl (ap (runs_on d) (sym place) ∙ here);
-}
-
--- what two facts give of each element
-all_both : {X : Type 0} (P Q R : X → Type 0) (xs : List X) → ((x : X) → P x → Q x → R x) → AllByRecursion P xs → AllByRecursion Q xs → AllByRecursion R xs
-all_both P Q R [] step first second = tt
-all_both P Q R (x ∷ xs) step first second = (step x first.0 second.0, all_both P Q R xs step first.1 second.1)
-
 -- a thread moved is apart from the others where that follows of each from the number alone and one fact more
 pub well_made_moved : (t : ℕ) (m : Member) (ms : List Member) (w : Within t m ms) (place : Place) (order : ℤ) (P : Member → Type 0) → IsPlace place →
     AllByRecursion P (w.before ++ w.after) →
@@ -156,15 +103,6 @@ well_made_off t m ms w place order is off =
     all_of [] = tt
     all_of (n ∷ ns) = (tt, all_of ns)
 
--- what holds of each that a filter keeps holds of each that passes
-all_from_filter : {X : Type 0} (p : X → Bool) (P : X → Type 0) (xs : List X) → AllByRecursion P (filter p xs) → AllByRecursion (λ x. p x ≡ true → P x) xs
-all_from_filter p P [] all = tt
-all_from_filter p P (x ∷ xs) all = step (p x) refl all (all_from_filter p P xs)
-  where
-    step : (b : Bool) → p x ≡ b → AllByRecursion P (if b then x ∷ filter p xs else filter p xs) → (AllByRecursion P (filter p xs) → AllByRecursion (λ y. p y ≡ true → P y) xs) → AllByRecursion (λ y. p y ≡ true → P y) (x ∷ xs)
-    step true is kept rest = (λ passes. kept.0, rest kept.1)
-    step false is kept rest = (λ passes. absurd (both_ways (p x) is passes), rest kept)
-
 -- a thread queued in a bucket with an order that no other has there
 pub well_made_queued : (t : ℕ) (m : Member) (ms : List Member) (w : Within t m ms) (c : ℕ) (k : Kind) (b : ℕ) (order : ℤ) → b < 64 →
     AllByRecursion (λ o. order ≢ o) (orders_in c k b (w.before ++ w.after)) → IsWellMade (moved_to t (Queued c k b) order ms)
@@ -173,22 +111,6 @@ well_made_queued t m ms w c k b order small orders =
     (all_from_filter (λ n. waits_in c k b n.place) (λ n. order ≢ n.order) (w.before ++ w.after)
     (all_from_map (λ n. n.order) (λ o. order ≢ o) (members_in c k b (w.before ++ w.after)) orders))
     (λ n numbers apart. apart_queued c k b (record m { place = Queued c k b; order = order }) n numbers refl apart)
-
--- the order of the tail is no order of a list
-tail_order_apart : (os : List ℤ) → AllByRecursion (λ o. tail_order os ≢ o) os
-tail_order_apart os =
-    all_along (λ o. int_lt o (tail_order os) ≡ true) (λ o. tail_order os ≢ o) os (λ o low e. lt_apart o (tail_order os) low (sym e)) (tail_order_above os)
-
--- the order of the head is no order of a list
-head_order_apart : (os : List ℤ) → AllByRecursion (λ o. head_order os ≢ o) os
-head_order_apart os =
-    all_along (λ o. int_lt (head_order os) o ≡ true) (λ o. head_order os ≢ o) os (λ o low. lt_apart (head_order os) o low) (head_order_below os)
-
--- an insertion gives an order that no other has in the bucket
-pub order_of_apart : (how : Insertion) (os : List ℤ) → AllByRecursion (λ o. order_of how os ≢ o) os
-order_of_apart Ordinary os = tail_order_apart os
-order_of_apart Borrowing os = tail_order_apart os
-order_of_apart Preempted os = head_order_apart os
 
 -- a thread that is inserted in a bucket keeps a world well made
 pub well_made_joined : (how : Insertion) (c : ℕ) (k : Kind) (b t : ℕ) (m : Member) (ms : List Member) (w : Within t m ms) → b < 64 →

@@ -1,5 +1,5 @@
 -- Which threads are apart after one of them got another place.
-use Rattle.std.proofs.Common.{◌≡◌, ◌≢◌, ℕ, ◌==◌, ℤ, pos, ◌+ℤ◌, ◌-ℤ◌, ◌≤ℤ◌, Bool, true, false, ◌&&◌, List, [], ◌∷◌, ◌++◌, map, filter, fold, if◌then◌else◌, refl, sym, ◌∙◌, ap, subst, arith, int_lt}
+use Rattle.std.proofs.Common.{◌≡◌, ◌≢◌, ℕ, ◌==◌, ℤ, pos, ◌+ℤ◌, ◌-ℤ◌, ◌≤ℤ◌, Bool, true, false, ◌&&◌, List, [], ◌∷◌, map, filter, fold, if◌then◌else◌, refl, sym, ◌∙◌, ap, arith, int_lt}
 use Rattle.std.specs.Int.{int_max, int_min}
 use Rattle.std.specs.List.{AllByRecursion}
 use Rattle.std.proofs.lemmas.Bool.{and_parts, both_ways, eqb-true, or_parts}
@@ -108,7 +108,7 @@ tail_order_above (o ∷ os) =
     let bounds = fold-int_max_bounds o os (fold int_max o os) refl in (
       raised o (fold int_max o os) bounds.0,
       all_along (λ x. x ≤ℤ fold int_max o os) (λ x. int_lt x (fold int_max o os +ℤ pos 1) ≡ true) os (λ x le. raised x (fold int_max o os) le)
-      (recursion_from_All (λ x. x ≤ℤ fold int_max o os) os bounds.1),
+          (recursion_from_All (λ x. x ≤ℤ fold int_max o os) os bounds.1),
     )
   where
     raised : (x r : ℤ) → x ≤ℤ r → int_lt x (r +ℤ pos 1) ≡ true
@@ -121,7 +121,7 @@ head_order_below (o ∷ os) =
     let bounds = fold-int_min_bounds o os (fold int_min o os) refl in (
       lowered o (fold int_min o os) bounds.0,
       all_along (λ x. fold int_min o os ≤ℤ x) (λ x. int_lt (fold int_min o os -ℤ pos 1) x ≡ true) os (λ x le. lowered x (fold int_min o os) le)
-      (recursion_from_All (λ x. fold int_min o os ≤ℤ x) os bounds.1),
+          (recursion_from_All (λ x. fold int_min o os ≤ℤ x) os bounds.1),
     )
   where
     lowered : (x r : ℤ) → r ≤ℤ x → int_lt (r -ℤ pos 1) x ≡ true

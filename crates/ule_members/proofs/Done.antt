@@ -1,17 +1,13 @@
 -- What an event does to the threads, as one record of facts: which threads it touches, how the words
 -- change, what is in the worker's hand then, and that the threads are well made.
-use Rattle.std.proofs.Common.{◌≡◌, ◌≢◌, ℕ, ◌==◌, ℤ, pos, Bool, true, false, ◌&&◌, List, [], ◌∷◌, ◌++◌, filter, Option, Some, None, if◌then◌else◌, ⊎_elim, refl, sym, ◌∙◌, ap, subst}
-use Rattle.std.specs.List.{AllByRecursion, find}
+use Rattle.std.proofs.Common.{◌≡◌, ◌≢◌, ℕ, ◌==◌, pos, Bool, true, false, ◌&&◌, List, ◌∷◌, ◌++◌, Option, Some, None, if◌then◌else◌, ⊎_elim, refl, sym, ◌∙◌, ap, subst}
+use Rattle.std.specs.List.{AllByRecursion}
 use Rattle.std.specs.Option.{option_map}
 use Rattle.std.specs.Prelude.{option_and_then}
-use Rattle.std.proofs.lemmas.Bool.{and_left, and_right, cases_eq, cond-false, cond-true, eq-eqb, false_from_ne_true, ne_eqb}
-use Rattle.std.proofs.lemmas.Option.{none-some}
-use Rattle.ule_prio.specs.declared.kind.Kind.{Kind}
-use Rattle.ule_score.specs.Changes.{GoesThrough, RecordChange, record_after, sleeps, woken}
-use Rattle.ule_score.specs.declared.place.Place.{Place}
+use Rattle.std.proofs.lemmas.Bool.{and_left, and_right, cases_eq, cond-false, cond-true, eq-eqb, ne_eqb}
+use Rattle.ule_score.specs.Changes.{GoesThrough, record_after, sleeps, woken}
 use Rattle.ule_score.specs.declared.place.Place.TheVariants.{Running, Queued, Asleep, Unborn, Gone}
 use Rattle.ule_score.specs.declared.place.Place.TheVariants as place
-use Rattle.ule_score.specs.declared.record.CpuLine.{CpuLine}
 use Rattle.ule_score.specs.declared.record.Settings.{Settings}
 use Rattle.ule_score.specs.declared.record.ThreadRecord.{ThreadRecord}
 use Rattle.ule_types.specs.Commands.{is_among}
@@ -19,17 +15,15 @@ use Rattle.ule_types.specs.declared.event.Event.{Event}
 use Rattle.ule_types.specs.declared.event.Event.TheVariants.{Tick, Switch, Drop, Bed, Wake, Look, Land, Move, Lend, Unlend, Renice, Hatch, Fork, Return, Exit, Bury, Inherit}
 use Rattle.ule_model.specs.Events.{holder_of, is_reached, locks_of}
 use Rattle.ule_model.specs.Frames.{AreTouched, HaveWords, IsTouched, reached, thread_in_hand, word_after}
-use Rattle.ule_model.specs.Insertion.{order_of}
-use Rattle.ule_model.specs.declared.insertion.Insertion.{Insertion}
-use Rattle.ule_model.specs.Places.{hand_of, is_hand_of, is_number, is_on, lock_of, runs_on, waits_in}
-use Rattle.ule_model.specs.WellMade.{AreApart, IsPlace, IsWellMade}
+use Rattle.ule_model.specs.Places.{hand_of, is_hand_of, is_number, lock_of}
+use Rattle.ule_model.specs.WellMade.{IsPlace, IsWellMade}
 use Rattle.ule_model.specs.Words.{WordChange, block, point}
-use Rattle.ule_model.specs.World.{Member, World, current_of, is_thread, thread_of}
-use Rattle.ule_members.proofs.Apart.{all_from_filter, all_from_map, apart_kept, apart_off, apart_queued, apart_running, order_of_apart, orders_in}
+use Rattle.ule_model.specs.World.{Member, World, is_thread, thread_of}
+use Rattle.ule_members.proofs.MadeWell.{IsApartFrom, well_made_put}
 use Rattle.ule_members.proofs.Reach.{no_hand_under, reached_by_hand, reached_by_lock, is_number_itself}
-use Rattle.ule_members.proofs.Threads.{find_here, find_kept, find_only, none_passes, thread_of_within}
-use Rattle.ule_members.proofs.Touches.{all_left, all_touched_further, goes_number, goes_numbers, touched_between}
-use Rattle.ule_members.proofs.Within.{Lacks, Within, all_along, all_back, all_both, all_front, well_made_between}
+use Rattle.ule_members.proofs.Threads.{find_here, find_kept, find_only, thread_of_within}
+use Rattle.ule_members.proofs.Touches.{untouched, all_touched_further, goes_number, goes_numbers, touched_between}
+use Rattle.ule_members.proofs.Within.{Lacks, Within, all_along}
 use Rattle.ule_members.proofs.WordLaws.{IsOnWordOf, word_blocked, word_pointed, words_between, words_further, words_stay}
 
 -- ---- the worker's hand
@@ -74,65 +68,6 @@ holder_after worker None u old = old
 holder_after worker (Some (block t)) u old = if u == t then Some worker else old
 holder_after worker (Some (point t l)) u old = if u == t then None else old
 
--- ---- one thread and the others
-
--- a thread is apart from those before it and from those after it
-pub record IsApartFrom (n : Member) (before after : List Member) : Type 0 where
-  pub front : AllByRecursion (AreApart n) before
-  pub back : AllByRecursion (AreApart n) after
-
--- a thread that keeps its number, place and order is apart from the others
-pub apart_from_kept : (m n : Member) (ms : List Member) (v : Within m.thread.id m ms) → n.thread.id ≡ m.thread.id → n.place ≡ m.place → n.order ≡ m.order →
-    IsApartFrom n v.before v.after
-apart_from_kept m n ms v number place order = record {
-  front = all_along (AreApart m) (AreApart n) v.before (λ k. apart_kept m n k number place order) v.apart_before;
-  back = all_along (AreApart m) (AreApart n) v.after (λ k. apart_kept m n k number place order) v.apart_after;
-}
-
--- a thread on no CPU is apart from the others
-pub apart_from_off : (m n : Member) (ms : List Member) (v : Within m.thread.id m ms) → n.thread.id ≡ m.thread.id → ((c : ℕ) → is_on c n.place ≡ false) →
-    IsApartFrom n v.before v.after
-apart_from_off m n ms v number off = record {
-  front = all_along (AreApart m) (AreApart n) v.before (λ k h. apart_off n k (λ same. h.numbers (sym number ∙ same)) off) v.apart_before;
-  back = all_along (AreApart m) (AreApart n) v.after (λ k h. apart_off n k (λ same. h.numbers (sym number ∙ same)) off) v.apart_after;
-}
-
--- a thread is apart from the others where that follows of each from the number alone and one fact more
-apart_from_each : (P : Member → Type 0) (m n : Member) (ms : List Member) (v : Within m.thread.id m ms) → n.thread.id ≡ m.thread.id →
-    ((k : Member) → n.thread.id ≢ k.thread.id → P k → AreApart n k) → AllByRecursion P v.before → AllByRecursion P v.after → IsApartFrom n v.before v.after
-apart_from_each P m n ms v number step front back = record {
-  front = all_both (AreApart m) P (AreApart n) v.before (λ k h. step k (λ same. h.numbers (sym number ∙ same))) v.apart_before front;
-  back = all_both (AreApart m) P (AreApart n) v.after (λ k h. step k (λ same. h.numbers (sym number ∙ same))) v.apart_after back;
-}
-
--- a thread that runs on a CPU that had no current thread is apart from the others
-pub apart_from_running : (c : ℕ) (m n : Member) (ms : List Member) (v : Within m.thread.id m ms) → n.thread.id ≡ m.thread.id → n.place ≡ Running c →
-    current_of c ms ≡ None → IsApartFrom n v.before v.after
-apart_from_running c m n ms v number place none =
-    apart_from_each (λ k. runs_on c k.place ≡ false) m n ms v number (λ k apart idle. apart_running c n k apart place idle)
-    (all_front (λ k. runs_on c k.place ≡ false) v.before (m ∷ v.after) idle) (all_back (λ k. runs_on c k.place ≡ false) v.before (m ∷ v.after) idle).1
-  where
-    idle : AllByRecursion (λ k. runs_on c k.place ≡ false) (v.before ++ m ∷ v.after)
-    idle = subst (AllByRecursion (λ k. runs_on c k.place ≡ false)) v.whole (none_passes (λ k. runs_on c k.place) ms none)
-
--- a thread that is queued with the order of its insertion is apart from the others
-pub apart_from_queued : (how : Insertion) (c : ℕ) (k : Kind) (b : ℕ) (m n : Member) (ms : List Member) (v : Within m.thread.id m ms) →
-    n.thread.id ≡ m.thread.id → n.place ≡ Queued c k b → n.order ≡ order_of how (orders_in c k b (v.before ++ v.after)) → IsApartFrom n v.before v.after
-apart_from_queued how c k b m n ms v number place order =
-    apart_from_each P m n ms v number (λ x apart other. apart_queued c k b n x apart place (λ here same. other here (sym order ∙ same)))
-    (all_front P v.before v.after each) (all_back P v.before v.after each)
-  where
-    os : List ℤ
-    os = orders_in c k b (v.before ++ v.after)
-
-    P : Member → Type 0
-    P x = waits_in c k b x.place ≡ true → order_of how os ≢ x.order
-
-    each : AllByRecursion P (v.before ++ v.after)
-    each =
-        all_from_filter (λ x. waits_in c k b x.place) (λ x. order_of how os ≢ x.order) (v.before ++ v.after)
-        (all_from_map (λ x. x.order) (λ o. order_of how os ≢ o) (filter (λ x. waits_in c k b x.place) (v.before ++ v.after)) (order_of_apart how os))
-
 module _ (w : World) (worker : ℕ) (e : Event) (now : ℕ) where
   -- ---- what an event did
 
@@ -146,7 +81,7 @@ module _ (w : World) (worker : ℕ) (e : Event) (now : ℕ) where
 
   -- nothing was done
   pub done_nothing : (ms : List Member) → IsWellMade ms → IsDone None ms ms
-  done_nothing ms made = record { touched = all_left w worker e now ms; words = words_stay ms; hand = λ u. refl; holders = λ u. refl; made = made }
+  done_nothing ms made = record { touched = untouched w worker e now ms; words = words_stay ms; hand = λ u. refl; holders = λ u. refl; made = made }
 
   -- what was done, and then more that changes no word
   pub done_further : (change : Option WordChange) (ls ms ns : List Member) → IsDone change ls ms → IsDone None ms ns → IsDone change ls ns
@@ -313,5 +248,5 @@ module _ (w : World) (worker : ℕ) (e : Event) (now : ℕ) where
         words = subst (λ (xs : List Member). HaveWords change xs (v.before ++ n ∷ v.after)) (sym v.whole) (words_between m.thread.id change v.before m n v.after one.on v.lacks_before v.lacks_after one.word);
         hand = hand_carried m n ms v (goes_number one.through) change one.on one.hand;
         holders = holders_carried m n ms v (goes_number one.through) change one.on one.hand;
-        made = well_made_between v.before n v.after v.others (record { numbers = goes_numbers one.through v.made.numbers; place = one.place }) apart.front apart.back;
+        made = well_made_put m n ms (v.before ++ n ∷ v.after) v refl (record { numbers = goes_numbers one.through v.made.numbers; place = one.place }) apart;
       }

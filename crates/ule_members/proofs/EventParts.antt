@@ -1,10 +1,10 @@
 -- What the parts of events do to the threads: a current thread that is noted, gives way, or is taken,
 -- the choice of the next thread, and a thread that goes from or to the worker's hand.
-use Rattle.std.proofs.Common.{◌≡◌, ℕ, ◌<◌, ℤ, pos, Bool, true, false, List, [], ◌∷◌, ◌++◌, Option, Some, None, refl, sym, ◌∙◌, ap, subst}
+use Rattle.std.proofs.Common.{◌≡◌, ℕ, ◌<◌, pos, true, false, List, ◌++◌, Option, Some, None, refl, subst}
 use Rattle.ule_prio.specs.Kind.{kind_at}
 use Rattle.ule_score.specs.Changes.{GoesThrough, IsSoundChange, RecordChange, record_after, runs, stays}
 use Rattle.ule_score.specs.declared.place.Place.{Place}
-use Rattle.ule_score.specs.declared.place.Place.TheVariants.{Running, Queued, Asleep, Unborn, Gone, Hand}
+use Rattle.ule_score.specs.declared.place.Place.TheVariants.{Running, Hand}
 use Rattle.ule_score.specs.declared.record.Settings.{Settings}
 use Rattle.ule_types.specs.Commands.{is_among}
 use Rattle.ule_types.specs.declared.event.Event.{Event}
@@ -17,13 +17,13 @@ use Rattle.ule_model.specs.Sleep.{put_in_hand}
 use Rattle.ule_model.specs.Switch.{choosing_next, running_chosen}
 use Rattle.ule_model.specs.WellMade.{IsPlace, IsWellMade}
 use Rattle.ule_model.specs.Words.{block, point}
-use Rattle.ule_model.specs.World.{Member, Side, World, current_of, is_thread, moved_to, thread_of, with_change}
-use Rattle.ule_members.proofs.Done.{IsApartFrom, IsDone, apart_from_kept, apart_from_off, apart_from_queued, apart_from_running, carried_from_hand, carried_to_hand, carried_under, done_nothing, done_one, held_member, taken_member}
+use Rattle.ule_model.specs.World.{Member, Side, World, current_of, is_thread, moved_to, with_change}
+use Rattle.ule_members.proofs.Done.{IsDone, carried_from_hand, carried_to_hand, carried_under, done_nothing, done_one, held_member, taken_member}
+use Rattle.ule_members.proofs.MadeWell.{IsApartFrom, apart_from_kept, apart_from_off, apart_from_queued, apart_from_running}
 use Rattle.ule_members.proofs.Membership.{has_thread_of}
-use Rattle.ule_members.proofs.Moves.{bucket_within, carried_between, changed_by, choice_stands, current_of-between, moved_between, moved_member, moved_recorded_between, queued_between, queued_member, recorded_between, within_has}
+use Rattle.ule_members.proofs.Moves.{bucket_small, carried_between, changed_by, choice_stands, moved_between, moved_member, moved_recorded_between, queued_between, queued_member, recorded_between, within_has}
 use Rattle.ule_members.proofs.Owed.{changes_keep_numbers, changes_leave_the_number}
 use Rattle.ule_members.proofs.Reach.{IsHeld, lock_where_waits}
-use Rattle.ule_members.proofs.Threads.{within_current}
 use Rattle.ule_members.proofs.Touches.{goes_one}
 use Rattle.ule_members.proofs.Within.{Within, within_found}
 
@@ -105,20 +105,20 @@ module _ (w : World) (worker : ℕ) (e : Event) (now : ℕ) where
     abbrev queued_one : Member
     queued_one = queued_member how c s.line (v.before ++ v.after) (changed_by s.settings now change m)
 
-    -- it is apart from the others
+    -- a thread that is queued with its record changed is apart from the others
     queued_apart : IsApartFrom queued_one v.before v.after
     queued_apart =
         let p : ℕ = (record_after s.settings now change m.thread).priority in
         apart_from_queued how c (kind_at p) (bucket_of (kind_at p) how s.line p) m queued_one s.members v
         (changes_leave_the_number s.settings now change m.thread) refl refl
 
-    -- its bucket is one that there is
+    -- the bucket in which it is queued is one that there is
     queued_place : IsSoundChange now change → s.line.ridx < 64 → IsPlace queued_one.place
     queued_place sound index =
         let p : ℕ = (record_after s.settings now change m.thread).priority in
-        bucket_within (kind_at p) how s.line p (changes_keep_numbers s.settings now change m.thread sound v.made.numbers).priority index
+        bucket_small (kind_at p) how s.line p (changes_keep_numbers s.settings now change m.thread sound v.made.numbers).priority index
 
-    -- the threads with its record changed and it queued
+    -- the threads after a thread is queued with its record changed
     abbrev queued_all : List Member
     queued_all = (queued how c m.thread.id (record s { members = with_change s.settings now m.thread.id change s.members })).members
 

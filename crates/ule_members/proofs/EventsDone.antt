@@ -1,11 +1,10 @@
 -- What each event does to the threads.
-use Rattle.std.proofs.Common.{◌≡◌, ℕ, ◌<◌, ◌+◌, ◌%◌, pos, Bool, true, false, List, [], ◌∷◌, ◌++◌, Option, Some, None, if◌then◌else◌, refl, sym, ◌∙◌, ap, subst}
+use Rattle.std.proofs.Common.{◌≡◌, ℕ, ◌<◌, ◌+◌, ◌%◌, pos, Bool, true, false, ◌++◌, Option, Some, None, if◌then◌else◌, refl, sym, ◌∙◌, ap, subst}
 use Rattle.std.specs.Option.{option_map, option_to_list}
 use Rattle.std.specs.Prelude.{option_and_then, slice_index_or}
 use Rattle.ule_score.specs.Changes.{placed, ran, record_after, sleeps, ticked as tick_of, woken as woken_change}
 use Rattle.ule_score.specs.declared.place.Place.{Place}
 use Rattle.ule_score.specs.declared.place.Place.TheVariants.{Running, Queued, Asleep, Unborn, Gone, Hand}
-use Rattle.ule_score.specs.declared.record.CpuLine.{CpuLine}
 use Rattle.ule_score.specs.declared.record.Why.{Why}
 use Rattle.ule_types.specs.Commands.{is_among}
 use Rattle.ule_types.specs.declared.event.Event.{Event}

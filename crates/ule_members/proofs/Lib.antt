@@ -9,6 +9,7 @@ pub mod Touches
 pub mod WordLaws
 pub mod Apart
 pub mod Moves
+pub mod MadeWell
 pub mod Reach
 pub mod Done
 pub mod EventParts

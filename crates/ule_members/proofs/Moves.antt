@@ -1,30 +1,27 @@
 -- The list of threads after one thread's record is changed, or it is moved, queued or chosen: the
 -- threads before it, the thread as it is then, and the threads after it.
-use Rattle.std.proofs.Common.{◌≡◌, ℕ, ◌<◌, ◌+◌, ◌%◌, ◌==◌, ℤ, pos, Bool, true, false, not, ◌&&◌, List, [], ◌∷◌, ◌++◌, filter, Option, Some, None, if◌then◌else◌, ⊎_elim, inl, inr, refl, sym, ◌∙◌, ap, subst, arith}
+use Rattle.std.proofs.Common.{◌≡◌, ℕ, ◌<◌, ◌+◌, ◌%◌, ◌==◌, ℤ, Bool, true, false, not, ◌&&◌, List, [], ◌∷◌, ◌++◌, filter, Option, Some, None, if◌then◌else◌, inl, inr, refl, ◌∙◌, ap, subst, arith}
 use Rattle.std.specs.Option.{option_map}
-use Rattle.std.proofs.lemmas.Bool.{cond_both, cond-false, cond-true, eq-eqb, eqb-true}
+use Rattle.std.proofs.lemmas.Bool.{cond_both, cond-false, cond-true, eq-eqb}
 use Rattle.std.proofs.lemmas.Option.{none-some, same_Some}
-use Rattle.ule_prio.specs.Kind.{kind_at}
 use Rattle.ule_prio.specs.declared.kind.Kind.{Kind}
 use Rattle.ule_prio.specs.declared.kind.Kind.TheVariants.{Real, Batch, Idle}
 use Rattle.ule_score.specs.Changes.{RecordChange, record_after}
 use Rattle.ule_score.specs.declared.place.Place.{Place}
-use Rattle.ule_score.specs.declared.place.Place.TheVariants.{Running, Queued, Asleep, Unborn, Gone, Hand}
 use Rattle.ule_score.specs.declared.record.CpuLine.{CpuLine}
 use Rattle.ule_score.specs.declared.record.Settings.{Settings}
 use Rattle.ule_model.specs.CalendarIndexes.{calendar_bucket, reach_of}
 use Rattle.ule_model.specs.Choice.{choice_of, comes_before, least, sooner, turn_of}
-use Rattle.ule_model.specs.Insertion.{bucket_of, order_of, order_of_insertion, place_of_insertion, queued, with_queued}
+use Rattle.ule_model.specs.Insertion.{bucket_of, order_of_insertion, place_of_insertion, queued, with_queued}
 use Rattle.ule_model.specs.declared.insertion.Insertion.{Insertion}
 use Rattle.ule_model.specs.declared.insertion.Insertion.TheVariants.{Ordinary, Borrowing, Preempted}
 use Rattle.ule_model.specs.Places.{runs_on, waits_on}
 use Rattle.ule_model.specs.WellMade.{IsWellMade}
 use Rattle.ule_model.specs.World.{Member, Side, current_of, is_thread, moved_to, others, thread_of, with_change}
-use Rattle.ule_members.proofs.Apart.{orders_in}
 use Rattle.ule_members.proofs.Membership.{Has, has_filtered, thread_of_has}
 use Rattle.ule_members.proofs.Owed.{changes_leave_the_number}
 use Rattle.ule_members.proofs.Threads.{changed_further, find_nowhere, no_other_runs, thread_of-changed_same, thread_of_within}
-use Rattle.ule_members.proofs.Within.{Lacks, Within, all-append, changed, changed_within, within_thread}
+use Rattle.ule_members.proofs.Within.{Lacks, Within, all-append, changed_within, within_thread}
 
 -- ---- the others
 
@@ -42,6 +39,10 @@ others_between t [] m after front number back =
 others_between t (b ∷ bs) m after front number back =
     cond-true (not (is_thread t b)) (b ∷ others t (bs ++ m ∷ after)) (others t (bs ++ m ∷ after)) (ap not front.0) ∙
     ap (λ ns. b ∷ ns) (others_between t bs m after front.1 number back)
+
+-- the others of a thread within a list are those before it and those after it
+pub others_within : (t : ℕ) (m : Member) (ms : List Member) (v : Within t m ms) → others t ms ≡ v.before ++ v.after
+others_within t m ms v = ap (others t) v.whole ∙ others_between t v.before m v.after v.lacks_before v.number v.lacks_after
 
 -- ---- moves and changes of a record
 
@@ -114,20 +115,20 @@ queued_between how c now change m s v =
     rest = ap (others m.thread.id) (recorded_between s.settings now change m s.members v) ∙ others_between m.thread.id v.before n v.after v.lacks_before number v.lacks_after
 
 -- a calendar's insertion bucket is one that there is
-calendar_bucket_within : (idx ridx p : ℕ) → calendar_bucket idx ridx p < 64
-calendar_bucket_within idx ridx p = step (not (ridx == idx) && ((reach_of p + idx) % 64 == ridx))
+calendar_bucket_small : (idx ridx p : ℕ) → calendar_bucket idx ridx p < 64
+calendar_bucket_small idx ridx p = step (not (ridx == idx) && ((reach_of p + idx) % 64 == ridx))
   where
     step : (d : Bool) → (if d then ((reach_of p + idx) % 64 + 63) % 64 else (reach_of p + idx) % 64) < 64
     step true = omega arith
     step false = omega arith
 
 -- the bucket of an insertion is one that there is
-pub bucket_within : (k : Kind) (how : Insertion) (line : CpuLine) (p : ℕ) → p < 256 → line.ridx < 64 → bucket_of k how line p < 64
-bucket_within Real how line p small at = omega arith
-bucket_within Batch Ordinary line p small at = calendar_bucket_within line.idx line.ridx p
-bucket_within Batch Borrowing line p small at = at
-bucket_within Batch Preempted line p small at = at
-bucket_within Idle how line p small at = omega arith
+pub bucket_small : (k : Kind) (how : Insertion) (line : CpuLine) (p : ℕ) → p < 256 → line.ridx < 64 → bucket_of k how line p < 64
+bucket_small Real how line p small at = omega arith
+bucket_small Batch Ordinary line p small at = calendar_bucket_small line.idx line.ridx p
+bucket_small Batch Borrowing line p small at = at
+bucket_small Batch Preempted line p small at = at
+bucket_small Idle how line p small at = omega arith
 
 -- ---- the choice
 

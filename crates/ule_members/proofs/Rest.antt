@@ -6,7 +6,7 @@ use Rattle.std.proofs.lemmas.Bool.{and_left, cond_both, eqb-false, ne_eqb, or_pa
 use Rattle.std.proofs.lemmas.List.{length-set}
 use Rattle.ule_prio.specs.declared.kind.Kind.{Kind}
 use Rattle.ule_prio.specs.declared.kind.Kind.TheVariants.{Real, Batch, Idle}
-use Rattle.ule_score.specs.Changes.{placed, ran, record_after, sleeps}
+use Rattle.ule_score.specs.Changes.{placed, ran, sleeps}
 use Rattle.ule_score.specs.declared.place.Place.{Place}
 use Rattle.ule_score.specs.declared.place.Place.TheVariants.{Running, Queued, Asleep, Unborn, Gone, Hand}
 use Rattle.ule_score.specs.declared.record.CpuLine.{CpuLine}

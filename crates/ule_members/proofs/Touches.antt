@@ -49,14 +49,14 @@ module _ (w : World) (worker : ℕ) (e : Event) (now : ℕ) where
   touched_further l m n (reached from to through) (reached next last further) = reached from last (goes_further through further)
 
   -- threads that are left are touched by nothing
-  pub all_left : (ms : List Member) → AreTouched w worker e now ms ms
-  all_left [] = tt
-  all_left (m ∷ ms) = (left refl, all_left ms)
+  pub untouched : (ms : List Member) → AreTouched w worker e now ms ms
+  untouched [] = tt
+  untouched (m ∷ ms) = (left refl, untouched ms)
 
   -- one thread that is touched among threads that are left
   pub touched_between : (before : List Member) (m n : Member) (after : List Member) → IsTouched w worker e now m n →
       AreTouched w worker e now (before ++ m ∷ after) (before ++ n ∷ after)
-  touched_between [] m n after one = (one, all_left after)
+  touched_between [] m n after one = (one, untouched after)
   touched_between (b ∷ bs) m n after one = (left refl, touched_between bs m n after one)
 
   -- threads touched twice are touched

@@ -1,8 +1,8 @@
 -- What a step leaves: each filter, look-up and count of threads that sees none within the event's reach,
 -- so what stands under other locks, in other hands and on other CPUs.
-use Rattle.std.proofs.Common.{◌≡◌, ◌≢◌, ℕ, ◌==◌, ◌&&◌, Bool, true, false, List, [], ◌∷◌, filter, length, Option, Some, None, if◌then◌else◌, ⊎_elim, refl, sym, ◌∙◌, ap}
+use Rattle.std.proofs.Common.{◌≡◌, ◌≢◌, ℕ, ◌&&◌, Bool, true, false, List, [], ◌∷◌, filter, length, Option, Some, if◌then◌else◌, ⊎_elim, refl, sym, ◌∙◌, ap}
 use Rattle.std.specs.List.{count_by, find, list_any}
-use Rattle.std.proofs.lemmas.Bool.{and_right, both_ways, cond-false, eqb-true, false_from_ne_true, or_cases}
+use Rattle.std.proofs.lemmas.Bool.{and_right, both_ways, cond-false, false_from_ne_true, or_cases}
 use Rattle.std.proofs.lemmas.List.Sums.{length-filter}
 use Rattle.std.proofs.lemmas.Option.{none-some, same_Some}
 use Rattle.ule_score.specs.declared.place.Place.{Place}

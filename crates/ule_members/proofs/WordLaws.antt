@@ -1,5 +1,5 @@
 -- Which lock each thread's word names after a change of one word.
-use Rattle.std.proofs.Common.{◌≡◌, ℕ, Bool, false, List, [], ◌∷◌, ◌++◌, Option, Some, None, refl, sym, ◌∙◌, subst}
+use Rattle.std.proofs.Common.{◌≡◌, ℕ, false, List, [], ◌∷◌, ◌++◌, Option, Some, None, refl, sym, ◌∙◌, subst}
 use Rattle.std.proofs.lemmas.Bool.{cond-false, cond-true, eq-eqb}
 use Rattle.ule_model.specs.Frames.{HaveWords, word_after}
 use Rattle.ule_model.specs.Places.{lock_of}
