@@ -7,7 +7,7 @@ use Rattle.ule_model.specs.Conditions.{IsPossible}
 use Rattle.ule_model.specs.Events.{is_reached, locks_of}
 use Rattle.ule_model.specs.Places.{is_hand_of, is_under, lock_of}
 use Rattle.ule_model.specs.Step.{step}
-use Rattle.ule_model.specs.WellMade.{IsWellMade}
+use Rattle.ule_model.specs.WellMade.{IsWellMadeWorld}
 use Rattle.ule_model.specs.Words.{WordChange, block, change_of, point}
 use Rattle.ule_model.specs.World.{Member, World, fresh_line, is_thread}
 
@@ -65,13 +65,13 @@ pub record LeavesRest (w : World) (e : Event) (n : World) : Type 0 where
 -- a step touches what is within the event's reach alone
 abbrev pub StepTouches : Type 0
 StepTouches =
-    (w : World) (worker : ℕ) (e : Event) (now : ℕ) → IsWellMade w.members → IsPossible w worker e now →
+    (w : World) (worker : ℕ) (e : Event) (now : ℕ) → IsWellMadeWorld w → IsPossible w worker e now →
     AreTouched w worker e now w.members (step w worker e now).0.members
 
 -- the one thread whose lock changes is the one whose word the event and its reply change
 abbrev pub StepMovesWord : Type 0
 StepMovesWord =
-    (w : World) (worker : ℕ) (e : Event) (now : ℕ) → IsWellMade w.members → IsPossible w worker e now →
+    (w : World) (worker : ℕ) (e : Event) (now : ℕ) → IsWellMadeWorld w → IsPossible w worker e now →
     HaveWords (change_of e (step w worker e now).1) w.members (step w worker e now).0.members
 
 -- a step leaves what its locks don't guard
@@ -81,5 +81,5 @@ StepLeavesRest = (w : World) (worker : ℕ) (e : Event) (now : ℕ) → LeavesRe
 -- a world stays well made
 abbrev pub StepIsMade : Type 0
 StepIsMade =
-    (w : World) (worker : ℕ) (e : Event) (now : ℕ) → IsWellMade w.members → IsPossible w worker e now →
-    IsWellMade (step w worker e now).0.members
+    (w : World) (worker : ℕ) (e : Event) (now : ℕ) → IsWellMadeWorld w → IsPossible w worker e now →
+    IsWellMadeWorld (step w worker e now).0

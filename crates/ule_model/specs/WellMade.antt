@@ -5,8 +5,9 @@ use Rattle.ule_prio.specs.declared.kind.Kind.{Kind}
 use Rattle.ule_score.specs.Changes.{HasNumbers}
 use Rattle.ule_score.specs.declared.place.Place.{Place}
 use Rattle.ule_score.specs.declared.place.Place.TheVariants.{Running, Queued, Asleep, Unborn, Gone, Hand}
+use Rattle.ule_score.specs.declared.record.CpuLine.{CpuLine}
 use Rattle.ule_model.specs.Places.{runs_on, waits_in}
-use Rattle.ule_model.specs.World.{Member}
+use Rattle.ule_model.specs.World.{Member, World}
 
 -- whether a place has a bucket that there is
 abbrev pub IsPlace : Place → Type 0
@@ -38,3 +39,12 @@ AllApart (m ∷ ms) = AllByRecursion (AreApart m) ms × AllApart ms
 pub record IsWellMade (ms : List Member) : Type 0 where
   pub each : AllByRecursion IsMade ms
   pub apart : AllApart ms
+
+-- the removal index of each CPU is that of a bucket
+abbrev pub HaveIndexes : List CpuLine → Type 0
+HaveIndexes lines = AllByRecursion (λ line. line.ridx < 64) lines
+
+-- what every world keeps of its threads and of its CPUs
+pub record IsWellMadeWorld (w : World) : Type 0 where
+  pub members : IsWellMade w.members
+  pub indexes : HaveIndexes w.lines
