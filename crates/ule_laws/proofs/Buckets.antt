@@ -12,10 +12,11 @@ use Rattle.ule_score.specs.declared.place.Place.TheVariants.{Queued}
 use Rattle.ule_score.specs.declared.record.ThreadRecord.{ThreadRecord}
 use Rattle.ule_model.specs.Insertion.{members_in, tail_order, head_order}
 use Rattle.ule_model.specs.Places.{rank_of, waits_in}
-use Rattle.ule_model.specs.Shows.{AreApart, ShowsQueue, by_order, ids_of, bucket_ids}
-use Rattle.ule_model.specs.World.{Member, is_thread, moved_to, with_record}
-use Rattle.ule_laws.proofs.Orders.{length-by_order, map-by_order, ids_lacking, ids_without, all-by_order, all_from_map, tail_order_above, head_order_below, by_order_last, by_order_first}
-use Rattle.ule_members.proofs.Within.{Lacks, Within, changed, changed_within, all-append, all_front, all_back}
+use Rattle.ule_model.specs.Shows.{ShowsQueue, by_order, ids_of, bucket_ids}
+use Rattle.ule_model.specs.WellMade.{AreApart}
+use Rattle.ule_model.specs.World.{Member, is_thread, moved_to, others, with_record}
+use Rattle.ule_laws.proofs.Orders.{length-by_order, map-by_order, filter_passed, ids_lacking, ids_without, all-by_order, all_from_map, tail_order_above, head_order_below, by_order_last, by_order_first}
+use Rattle.ule_members.proofs.Within.{Lacks, Within, changed, changed_within, all-append, all_along, all_front, all_back}
 
 -- ---- the threads of a bucket
 
@@ -29,7 +30,7 @@ filter_keeps p (b ∷ bs) x after passes = step (p b) (filter_keeps p bs x after
     step true rest = ap (λ r. b ∷ r) rest
     step false rest = rest
 
--- and leaves out one that fails
+-- a filter leaves out an element that fails where it stands
 pub filter_skips : {X : Type 0} (p : X → Bool) (before : List X) (x : X) (after : List X) → p x ≡ false → filter p (before ++ x ∷ after) ≡ filter p (before ++ after)
 filter_skips p [] x after fails = rw fails refl
 filter_skips p (b ∷ bs) x after fails = ap (λ r. if p b then b ∷ r else r) (filter_skips p bs x after fails)
@@ -150,6 +151,17 @@ bucket_ids-with_record c k b t change ms kept =
     ids_kept [] = refl
     ids_kept (n ∷ ns) = ap (λ u. u ∷ ids_of (map (recorded t change) ns)) (recorded_id t change n kept) ∙ ap (λ r. n.thread.id ∷ r) (ids_kept ns)
 
+-- ---- a list without one of its threads
+
+-- the others of a thread within a list are those before it and those after it
+pub others_within : (t : ℕ) (m : Member) (ms : List Member) (w : Within t m ms) → others t ms ≡ w.before ++ w.after
+others_within t m ms w =
+    ap (others t) w.whole ∙
+    filter_skips (λ n. not (is_thread t n)) w.before m w.after (ap not (eq-eqb m.thread.id t w.number)) ∙
+    filter_passed (λ n. not (is_thread t n)) (w.before ++ w.after)
+    (all_along (λ n. is_thread t n ≡ false) (λ n. not (is_thread t n) ≡ true) (w.before ++ w.after) (λ n h. ap not h)
+    (all-append (λ n. is_thread t n ≡ false) w.before w.after w.lacks_before w.lacks_after))
+
 -- ---- what the lists show
 
 -- whether a place is in no bucket of this queue
@@ -157,57 +169,64 @@ abbrev pub IsOut : ℕ → Kind → Place → Type 0
 IsOut c k place = (b : ℕ) → waits_in c k b place ≡ false
 
 -- lists show what has the same numbers in each bucket
-shows_same : (lists : List (List ℕ)) (c : ℕ) (k : Kind) (ms ns : List Member) → ((b : ℕ) → bucket_ids c k b ns ≡ bucket_ids c k b ms) → ShowsQueue lists c k ms → ShowsQueue lists c k ns
+shows_same : (lists : List (List ℕ)) (c : ℕ) (k : Kind) (ms ns : List Member) → ((b : ℕ) → bucket_ids c k b ns ≡ bucket_ids c k b ms) →
+    ShowsQueue lists c k ms → ShowsQueue lists c k ns
 shows_same lists c k ms ns same shows = record { buckets = shows.buckets; each = λ b small. shows.each b small ∙ sym (same b) }
 
--- a change of records alone leaves what they show
-pub shows-with_record : (lists : List (List ℕ)) (c : ℕ) (k : Kind) (ms : List Member) (t : ℕ) (change : ThreadRecord → ThreadRecord) → ((r : ThreadRecord) → (change r).id ≡ r.id) → ShowsQueue lists c k ms → ShowsQueue lists c k (with_record t change ms)
+-- a change of records alone leaves what the lists show
+pub shows-with_record : (lists : List (List ℕ)) (c : ℕ) (k : Kind) (ms : List Member) (t : ℕ) (change : ThreadRecord → ThreadRecord) →
+    ((r : ThreadRecord) → (change r).id ≡ r.id) → ShowsQueue lists c k ms → ShowsQueue lists c k (with_record t change ms)
 shows-with_record lists c k ms t change kept shows =
     shows_same lists c k ms (with_record t change ms) (λ b. bucket_ids-with_record c k b t change ms kept) shows
 
--- a thread appended elsewhere leaves what they show
-pub shows-appended : (lists : List (List ℕ)) (c : ℕ) (k : Kind) (ms : List Member) (n : Member) → IsOut c k n.place → ShowsQueue lists c k ms → ShowsQueue lists c k (ms ++ n ∷ [])
+-- a thread appended elsewhere leaves what the lists show
+pub shows-appended : (lists : List (List ℕ)) (c : ℕ) (k : Kind) (ms : List Member) (n : Member) → IsOut c k n.place →
+    ShowsQueue lists c k ms → ShowsQueue lists c k (ms ++ n ∷ [])
 shows-appended lists c k ms n out shows =
     shows_same lists c k ms (ms ++ n ∷ []) (λ b. bucket_ids_out c k b ms n [] (out b) ∙ ap (bucket_ids c k b) (append-nil ms)) shows
 
--- the numbers of a bucket that a thread stands out of, and those once it was changed
-bucket_ids_others : (c : ℕ) (k : Kind) (b : ℕ) (t : ℕ) (m : Member) (ms : List Member) (w : Within t m ms) → waits_in c k b m.place ≡ false → bucket_ids c k b ms ≡ bucket_ids c k b (w.before ++ w.after)
-bucket_ids_others c k b t m ms w out = ap (bucket_ids c k b) w.whole ∙ bucket_ids_out c k b w.before m w.after out
-
-members_in_others : (c : ℕ) (k : Kind) (b : ℕ) (t : ℕ) (m : Member) (ms : List Member) (w : Within t m ms) → waits_in c k b m.place ≡ false → members_in c k b ms ≡ members_in c k b (w.before ++ w.after)
-members_in_others c k b t m ms w out = ap (members_in c k b) w.whole ∙ filter_skips (λ n. waits_in c k b n.place) w.before m w.after out
-
-bucket_ids_changed_out : (c : ℕ) (k : Kind) (b : ℕ) (t : ℕ) (m : Member) (ms : List Member) (w : Within t m ms) (f : Member → Member) → waits_in c k b (f m).place ≡ false → bucket_ids c k b (changed t f ms) ≡ bucket_ids c k b (w.before ++ w.after)
+-- the numbers of a bucket of a list in which one thread is changed to stand out of it
+bucket_ids_changed_out : (c : ℕ) (k : Kind) (b : ℕ) (t : ℕ) (m : Member) (ms : List Member) (w : Within t m ms) (f : Member → Member) →
+    waits_in c k b (f m).place ≡ false → bucket_ids c k b (changed t f ms) ≡ bucket_ids c k b (w.before ++ w.after)
 bucket_ids_changed_out c k b t m ms w f out =
     ap (bucket_ids c k b) (changed_within t m ms w f) ∙ bucket_ids_out c k b w.before (f m) w.after out
 
--- a change of a thread that is out of the queue before and after leaves what they show
-pub shows-changed_out : (lists : List (List ℕ)) (c : ℕ) (k : Kind) (t : ℕ) (m : Member) (ms : List Member) (w : Within t m ms) (f : Member → Member) → IsOut c k m.place → IsOut c k (f m).place → ShowsQueue lists c k ms → ShowsQueue lists c k (changed t f ms)
-shows-changed_out lists c k t m ms w f old new shows =
-    shows_same lists c k ms (changed t f ms)
-    (λ b. bucket_ids_changed_out c k b t m ms w f (new b) ∙ sym (bucket_ids_others c k b t m ms w (old b))) shows
+-- ---- a thread that leaves a queue, and one that joins it
 
--- a thread that is out of the queue after a change is taken out of the lists
-pub shows_without : (lists : List (List ℕ)) (c : ℕ) (k : Kind) (t : ℕ) (m : Member) (ms : List Member) (w : Within t m ms) (f : Member → Member) → IsOut c k (f m).place → ShowsQueue lists c k ms → ShowsQueue (without t lists) c k (changed t f ms)
-shows_without lists c k t m ms w f new shows = record {
+-- lists that show threads show the others of one that is out of the queue
+pub shows-others : (lists : List (List ℕ)) (c : ℕ) (k : Kind) (t : ℕ) (m : Member) (ms : List Member) (w : Within t m ms) → IsOut c k m.place →
+    ShowsQueue lists c k ms → ShowsQueue lists c k (w.before ++ w.after)
+shows-others lists c k t m ms w out shows =
+    shows_same lists c k ms (w.before ++ w.after) (λ b. sym (ap (bucket_ids c k b) w.whole ∙ bucket_ids_out c k b w.before m w.after (out b))) shows
+
+-- lists that show threads show the others of each once its number is taken out
+pub shows-without : (lists : List (List ℕ)) (c : ℕ) (k : Kind) (t : ℕ) (m : Member) (ms : List Member) (w : Within t m ms) →
+    ShowsQueue lists c k ms → ShowsQueue (without t lists) c k (w.before ++ w.after)
+shows-without lists c k t m ms w shows = record {
   buckets = length-without t lists ∙ shows.buckets;
-  each = λ b small.
-      list_at-without t lists b ∙ ap (filter (λ u. not (u == t))) (shows.each b small) ∙ bucket_ids_without c k b t m ms w ∙
-      sym (bucket_ids_changed_out c k b t m ms w f (new b));
+  each = λ b small. list_at-without t lists b ∙ ap (filter (λ u. not (u == t))) (shows.each b small) ∙ bucket_ids_without c k b t m ms w;
 }
+
+-- lists that show the others of a thread show it changed to stand out of the queue
+pub shows-changed : (lists : List (List ℕ)) (c : ℕ) (k : Kind) (t : ℕ) (m : Member) (ms : List Member) (w : Within t m ms) (f : Member → Member) →
+    IsOut c k (f m).place → ShowsQueue lists c k (w.before ++ w.after) → ShowsQueue lists c k (changed t f ms)
+shows-changed lists c k t m ms w f out shows =
+    shows_same lists c k (w.before ++ w.after) (changed t f ms) (λ b. bucket_ids_changed_out c k b t m ms w f (out b)) shows
 
 -- the place of a queued thread is in its bucket
 pub waits_in_itself : (c : ℕ) (k : Kind) (b : ℕ) → waits_in c k b (Queued c k b) ≡ true
 waits_in_itself c k b = rw (eq-eqb c c refl, eq-eqb (rank_of k) (rank_of k) refl, eq-eqb b b refl) refl
 
--- and in no other of its queue
+-- the place of a queued thread is in no other bucket of its queue
 pub waits_in_other : (c : ℕ) (k : Kind) (b e : ℕ) → e ≢ b → waits_in c k e (Queued c k b) ≡ false
 waits_in_other c k b e apart = rw (eq-eqb c c refl, eq-eqb (rank_of k) (rank_of k) refl, ne_eqb e b apart) refl
 
 -- a thread that joins a bucket of the queue changes the list of that bucket alone
-shows_joined : (lists : List (List ℕ)) (c : ℕ) (k : Kind) (b t : ℕ) (m : Member) (ms : List Member) (w : Within t m ms) (o : ℤ) (xs : List ℕ) → IsOut c k m.place → b < 64 → ShowsQueue lists c k ms →
-    xs ≡ bucket_ids c k b (w.before ++ record m { place = Queued c k b; order = o } ∷ w.after) → ShowsQueue (slice_set lists b xs) c k (moved_to t (Queued c k b) o ms)
-shows_joined lists c k b t m ms w o xs old small shows joined = record {
+shows_joined : (lists : List (List ℕ)) (c : ℕ) (k : Kind) (b t : ℕ) (m : Member) (ms : List Member) (w : Within t m ms) (o : ℤ) (xs : List ℕ) →
+    b < 64 → ShowsQueue lists c k (w.before ++ w.after) →
+    xs ≡ bucket_ids c k b (w.before ++ record m { place = Queued c k b; order = o } ∷ w.after) →
+    ShowsQueue (slice_set lists b xs) c k (moved_to t (Queued c k b) o ms)
+shows_joined lists c k b t m ms w o xs small shows joined = record {
   buckets = length-set lists b xs ∙ shows.buckets;
   each = λ e below. ⊎_elim (here e) (there e below) (cases_eq e b);
 }
@@ -220,28 +239,30 @@ shows_joined lists c k b t m ms w o xs old small shows joined = record {
 
     there : (e : ℕ) → e < 64 → (e ≡ b → ⊥) → slice_index_or (slice_set lists b xs) e [] ≡ bucket_ids c k e (moved_to t (Queued c k b) o ms)
     there e below apart =
-        get_or-set_other lists b e xs [] apart ∙ shows.each e below ∙ bucket_ids_others c k e t m ms w (old e) ∙
+        get_or-set_other lists b e xs [] apart ∙ shows.each e below ∙
         sym (bucket_ids_changed_out c k e t m ms w (λ n. record n { place = Queued c k b; order = o }) (waits_in_other c k b e apart))
 
 -- a thread that joins the queue at the tail of a bucket is put there
-pub shows_with_tail : (lists : List (List ℕ)) (c : ℕ) (k : Kind) (b t : ℕ) (m : Member) (ms : List Member) (w : Within t m ms) → IsOut c k m.place → b < 64 → ShowsQueue lists c k ms →
-    ShowsQueue (with_tail lists b t) c k (moved_to t (Queued c k b) (tail_order (orders_in c k b ms)) ms)
-shows_with_tail lists c k b t m ms w old small shows =
-    let order : ℤ = tail_order (orders_in c k b ms) in
-    shows_joined lists c k b t m ms w order (list_at lists b ++ t ∷ []) old small shows
-    (ap (λ r. r ++ t ∷ []) (shows.each b small ∙ bucket_ids_others c k b t m ms w (old b)) ∙
+pub shows_with_tail : (lists : List (List ℕ)) (c : ℕ) (k : Kind) (b t : ℕ) (m : Member) (ms : List Member) (w : Within t m ms) →
+    b < 64 → ShowsQueue lists c k (w.before ++ w.after) →
+    ShowsQueue (with_tail lists b t) c k (moved_to t (Queued c k b) (tail_order (orders_in c k b (w.before ++ w.after))) ms)
+shows_with_tail lists c k b t m ms w small shows =
+    let order : ℤ = tail_order (orders_in c k b (w.before ++ w.after)) in
+    shows_joined lists c k b t m ms w order (list_at lists b ++ t ∷ []) small shows
+    (ap (λ r. r ++ t ∷ []) (shows.each b small) ∙
     ap (λ u. bucket_ids c k b (w.before ++ w.after) ++ u ∷ []) (sym w.number) ∙
-    sym (bucket_ids_last c k b w.before (record m { place = Queued c k b; order = order }) w.after (waits_in_itself c k b) (ap (λ ns. tail_order (map (λ n. n.order) ns)) (members_in_others c k b t m ms w (old b)))))
+    sym (bucket_ids_last c k b w.before (record m { place = Queued c k b; order = order }) w.after (waits_in_itself c k b) refl))
 
 -- a thread that joins the queue at the head of a bucket is put there
-pub shows_with_head : (lists : List (List ℕ)) (c : ℕ) (k : Kind) (b t : ℕ) (m : Member) (ms : List Member) (w : Within t m ms) → IsOut c k m.place → b < 64 → ShowsQueue lists c k ms →
-    ShowsQueue (with_head lists b t) c k (moved_to t (Queued c k b) (head_order (orders_in c k b ms)) ms)
-shows_with_head lists c k b t m ms w old small shows =
-    let order : ℤ = head_order (orders_in c k b ms) in
-    shows_joined lists c k b t m ms w order (t ∷ list_at lists b) old small shows
-    (ap (λ r. t ∷ r) (shows.each b small ∙ bucket_ids_others c k b t m ms w (old b)) ∙
+pub shows_with_head : (lists : List (List ℕ)) (c : ℕ) (k : Kind) (b t : ℕ) (m : Member) (ms : List Member) (w : Within t m ms) →
+    b < 64 → ShowsQueue lists c k (w.before ++ w.after) →
+    ShowsQueue (with_head lists b t) c k (moved_to t (Queued c k b) (head_order (orders_in c k b (w.before ++ w.after))) ms)
+shows_with_head lists c k b t m ms w small shows =
+    let order : ℤ = head_order (orders_in c k b (w.before ++ w.after)) in
+    shows_joined lists c k b t m ms w order (t ∷ list_at lists b) small shows
+    (ap (λ r. t ∷ r) (shows.each b small) ∙
     ap (λ u. u ∷ bucket_ids c k b (w.before ++ w.after)) (sym w.number) ∙
-    sym (bucket_ids_first c k b w.before (record m { place = Queued c k b; order = order }) w.after (waits_in_itself c k b) (ap (λ ns. head_order (map (λ n. n.order) ns)) (members_in_others c k b t m ms w (old b)))))
+    sym (bucket_ids_first c k b w.before (record m { place = Queued c k b; order = order }) w.after (waits_in_itself c k b) refl))
 
 -- ---- empty buckets
 
@@ -250,6 +271,7 @@ pub length-bucket_ids : (c : ℕ) (k : Kind) (b : ℕ) (ms : List Member) → le
 length-bucket_ids c k b ms = length-map (by_order (members_in c k b ms)) (λ m. m.thread.id) ∙ length-by_order (members_in c k b ms)
 
 -- a bucket without threads is an empty list
-pub empty_shown : (lists : List (List ℕ)) (c : ℕ) (k : Kind) (ms : List Member) (b : ℕ) → b < 64 → ShowsQueue lists c k ms → (length (members_in c k b ms) == 0) ≡ is_empty_at lists b
+pub empty_shown : (lists : List (List ℕ)) (c : ℕ) (k : Kind) (ms : List Member) (b : ℕ) → b < 64 → ShowsQueue lists c k ms →
+    (length (members_in c k b ms) == 0) ≡ is_empty_at lists b
 empty_shown lists c k ms b small shows =
     ap (λ n. n == 0) (sym (ap (λ xs. length xs) (shows.each b small) ∙ length-bucket_ids c k b ms))

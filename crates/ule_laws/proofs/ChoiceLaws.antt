@@ -10,11 +10,13 @@ use Rattle.ule_runq.specs.Runq.{list_at, distance, first_from, IsFirstFrom}
 use Rattle.ule_runq.proofs.RunqLaws.{first_from_Some, first_from_None}
 use Rattle.ule_score.specs.declared.place.Place.{Place}
 use Rattle.ule_score.specs.declared.place.Place.TheVariants.{Queued}
+use Rattle.ule_score.specs.declared.record.CpuLine.{CpuLine}
 use Rattle.ule_model.specs.Choice.{Turn, turn_at, turn_of, comes_before, sooner, least, choice_of, depth_of}
 use Rattle.ule_model.specs.CpuValue.{CpuValue, StandsFor, first_in, first_of, in_kind}
 use Rattle.ule_model.specs.Insertion.{members_in}
 use Rattle.ule_model.specs.Places.{rank_of, waits_in, waits_on}
-use Rattle.ule_model.specs.Shows.{ShowsQueue, IsMade, IsPlace, IsWellMade, by_order, ids_of}
+use Rattle.ule_model.specs.Shows.{ShowsQueue, by_order, ids_of}
+use Rattle.ule_model.specs.WellMade.{IsMade, IsPlace, IsWellMade}
 use Rattle.ule_model.specs.World.{Member, Side, thread_of}
 use Rattle.ule_members.proofs.Membership.{Has, all_has, all_from_has, has-filter, has_filtered, has_none, same_from_order, thread_of_has}
 use Rattle.ule_laws.proofs.Orders.{lt_not_back}
@@ -292,7 +294,8 @@ choice_agrees real batch idle ridx c ms shows_real shows_batch shows_idle made s
     look None None None is_r is_b is_i = subst (Agrees c ms None) (sym (choice_none ridx c ms made (all_empty is_r is_b is_i))) tt
 
 -- the first thread of a CPU's value and the choice of its side of a world agree
-pub choices_agree : (v : CpuValue) (s : Side) → StandsFor v s → IsWellMade s.members → s.line.ridx < 64 → Agrees v.cpu s.members (first_in v) (choice_of v.cpu s.line.ridx s.members)
-choices_agree v s stands made small =
-    subst (λ line. Agrees v.cpu s.members (first_of (in_kind Real (first_from v.real 0)) (first_of (in_kind Batch (first_from v.batch line.ridx)) (in_kind Idle (first_from v.idle 0)))) (choice_of v.cpu s.line.ridx s.members)) (sym stands.line)
-    (choice_agrees v.real v.batch v.idle s.line.ridx v.cpu s.members stands.real stands.batch stands.idle made small)
+pub choices_agree : (v : CpuValue) (s : Side) → StandsFor v s → IsWellMade s.members →
+    Agrees v.cpu s.members (first_in v) (choice_of v.cpu s.line.ridx s.members)
+choices_agree v s stands made =
+    subst (λ (line : CpuLine). Agrees v.cpu s.members (first_in v) (choice_of v.cpu line.ridx s.members)) stands.line
+    (choice_agrees v.real v.batch v.idle v.line.ridx v.cpu s.members (stands.queues Real) (stands.queues Batch) (stands.queues Idle) made stands.index)

@@ -14,7 +14,8 @@ use Rattle.ule_score.specs.declared.place.Place.TheVariants.{Queued}
 use Rattle.ule_model.specs.Finals.{position_of}
 use Rattle.ule_model.specs.Insertion.{members_in}
 use Rattle.ule_model.specs.Places.{waits_in}
-use Rattle.ule_model.specs.Shows.{ShowsQueue, IsWellMade, with_ordered, by_order, ids_of, bucket_ids}
+use Rattle.ule_model.specs.Shows.{ShowsQueue, with_ordered, by_order, ids_of, bucket_ids}
+use Rattle.ule_model.specs.WellMade.{IsWellMade}
 use Rattle.ule_model.specs.World.{Member}
 use Rattle.ule_laws.proofs.ChoiceLaws.{bucket_within}
 use Rattle.ule_members.proofs.Membership.{Has, all_has, all_from_has, has-filter, has_filtered, same_from_number, same_from_order}

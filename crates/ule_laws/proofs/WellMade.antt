@@ -4,14 +4,18 @@ use Rattle.std.specs.List.{AllByRecursion}
 use Rattle.std.proofs.lemmas.Bool.{eqb-true, eqb-false, and_parts, or_parts, both_ways}
 use Rattle.std.proofs.lemmas.List.{append-nil}
 use Rattle.ule_prio.specs.declared.kind.Kind.{Kind}
-use Rattle.ule_score.specs.TimesharePriority.{IsNice}
+use Rattle.ule_score.proofs.ChangeLaws.{change_number, change_numbers}
+use Rattle.ule_score.specs.Changes.{HasNumbers, IsSoundChange, RecordChange, record_after}
 use Rattle.ule_score.specs.declared.place.Place.{Place}
 use Rattle.ule_score.specs.declared.place.Place.TheVariants.{Running, Queued, Asleep, Unborn, Gone, Hand}
+use Rattle.ule_score.specs.declared.record.Settings.{Settings}
 use Rattle.ule_score.specs.declared.record.ThreadRecord.{ThreadRecord}
-use Rattle.ule_model.specs.Insertion.{members_in, tail_order, head_order}
+use Rattle.ule_model.specs.Insertion.{members_in, order_of, tail_order, head_order}
+use Rattle.ule_model.specs.declared.insertion.Insertion.{Insertion}
+use Rattle.ule_model.specs.declared.insertion.Insertion.TheVariants.{Ordinary, Borrowing, Preempted}
 use Rattle.ule_model.specs.Places.{is_kind, rank_of, runs_on, waits_on, waits_in, is_on}
-use Rattle.ule_model.specs.Shows.{IsPlace, IsMade, AreApart, AllApart, IsWellMade}
-use Rattle.ule_model.specs.World.{Member, is_thread, thread_of, current_of, moved_to, with_record}
+use Rattle.ule_model.specs.WellMade.{IsPlace, IsMade, AreApart, AllApart, IsWellMade}
+use Rattle.ule_model.specs.World.{Member, is_thread, thread_of, current_of, moved_to, with_change, with_record}
 use Rattle.ule_laws.proofs.Buckets.{orders_in}
 use Rattle.ule_laws.proofs.Orders.{all_from_map, tail_order_above, head_order_below, lt_apart}
 use Rattle.ule_members.proofs.Threads.{none_passes}
@@ -36,8 +40,9 @@ all_apart-map : (g : Member → Member) → ((m n : Member) → AreApart m n →
 all_apart-map g step [] all = tt
 all_apart-map g step (m ∷ ms) all = (all-map g (AreApart m) (AreApart (g m)) (λ n h. step m n h) ms all.0, all_apart-map g step ms all.1)
 
--- a change of records that keeps numbers, and priorities bytes and nice values such, keeps a world well made
-pub well_made-with_record : (t : ℕ) (change : ThreadRecord → ThreadRecord) (ms : List Member) → ((r : ThreadRecord) → (change r).id ≡ r.id) → ((r : ThreadRecord) → IsNice r.nice → r.priority < 256 → IsNice (change r).nice × ((change r).priority < 256)) → IsWellMade ms → IsWellMade (with_record t change ms)
+-- a change of records that keeps numbers, and those in range, keeps a world well made
+pub well_made-with_record : (t : ℕ) (change : ThreadRecord → ThreadRecord) (ms : List Member) → ((r : ThreadRecord) → (change r).id ≡ r.id) →
+    ((r : ThreadRecord) → HasNumbers r → HasNumbers (change r)) → IsWellMade ms → IsWellMade (with_record t change ms)
 well_made-with_record t change ms kept within made = record {
   each = all-map one IsMade IsMade (λ n h. made_still n h (is_thread t n)) ms made.each;
   apart = all_apart-map one (λ m n h. apart_alike one (λ n. id_kept n (is_thread t n)) (λ n. place_kept n (is_thread t n)) (λ n. order_kept n (is_thread t n)) m n h) ms made.apart;
@@ -47,7 +52,7 @@ well_made-with_record t change ms kept within made = record {
     one n = if is_thread t n then record n { thread = change n.thread } else n
 
     made_still : (n : Member) → IsMade n → (d : Bool) → IsMade (if d then record n { thread = change n.thread } else n)
-    made_still n h true = record { number = subst (λ u. u < 256) (sym (kept n.thread)) h.number; priority = (within n.thread h.nice h.priority).1; nice = (within n.thread h.nice h.priority).0; place = h.place }
+    made_still n h true = record { numbers = within n.thread h.numbers; place = h.place }
     made_still n h false = h
 
     id_kept : (n : Member) (d : Bool) → (if d then record n { thread = change n.thread } else n).thread.id ≡ n.thread.id
@@ -61,6 +66,13 @@ well_made-with_record t change ms kept within made = record {
     order_kept : (n : Member) (d : Bool) → (if d then record n { thread = change n.thread } else n).order ≡ n.order
     order_kept n true = refl
     order_kept n false = refl
+
+-- a sound change of a record keeps a world well made
+pub well_made-with_change : (settings : Settings) (now t : ℕ) (change : RecordChange) (ms : List Member) → IsSoundChange now change →
+    IsWellMade ms → IsWellMade (with_change settings now t change ms)
+well_made-with_change settings now t change ms sound made =
+    well_made-with_record t (record_after settings now change) ms (change_number settings now change)
+    (λ r has. change_numbers settings now change r sound has) made
 
 -- ---- a thread moved
 
@@ -117,25 +129,27 @@ all_both P Q R [] step first second = tt
 all_both P Q R (x ∷ xs) step first second = (step x first.0 second.0, all_both P Q R xs step first.1 second.1)
 
 -- a thread moved is apart from the others where that follows of each from the number alone and one fact more
-pub well_made_moved : (t : ℕ) (m : Member) (ms : List Member) (w : Within t m ms) (place : Place) (order : ℤ) (P : Member → Type 0) → IsPlace place → AllByRecursion P ms →
+pub well_made_moved : (t : ℕ) (m : Member) (ms : List Member) (w : Within t m ms) (place : Place) (order : ℤ) (P : Member → Type 0) → IsPlace place →
+    AllByRecursion P (w.before ++ w.after) →
     ((n : Member) → m.thread.id ≢ n.thread.id → P n → AreApart (record m { place = place; order = order }) n) → IsWellMade (moved_to t place order ms)
 well_made_moved t m ms w place order P is all step =
-    let each : AllByRecursion P (w.before ++ m ∷ w.after) = subst (AllByRecursion P) w.whole all in
     well_made_within t m ms w (λ n. record n { place = place; order = order })
-    (record { number = w.made.number; priority = w.made.priority; nice = w.made.nice; place = is })
-    (all_both (AreApart m) P (AreApart (record m { place = place; order = order })) w.before (λ n h p. step n h.numbers p) w.apart_before (all_front P w.before (m ∷ w.after) each))
-    (all_both (AreApart m) P (AreApart (record m { place = place; order = order })) w.after (λ n h p. step n h.numbers p) w.apart_after (all_back P w.before (m ∷ w.after) each).1)
+    (record { numbers = w.made.numbers; place = is })
+    (all_both (AreApart m) P (AreApart (record m { place = place; order = order })) w.before (λ n h p. step n h.numbers p) w.apart_before (all_front P w.before w.after all))
+    (all_both (AreApart m) P (AreApart (record m { place = place; order = order })) w.after (λ n h p. step n h.numbers p) w.apart_after (all_back P w.before w.after all))
 
--- a thread put to run on a CPU that has no current thread
-pub well_made_running : (t : ℕ) (m : Member) (ms : List Member) (w : Within t m ms) (c : ℕ) (order : ℤ) → current_of c ms ≡ None → IsWellMade (moved_to t (Running c) order ms)
+-- a thread put to run on a CPU where no other runs
+pub well_made_running : (t : ℕ) (m : Member) (ms : List Member) (w : Within t m ms) (c : ℕ) (order : ℤ) → current_of c (w.before ++ w.after) ≡ None →
+    IsWellMade (moved_to t (Running c) order ms)
 well_made_running t m ms w c order none =
-    well_made_moved t m ms w (Running c) order (λ n. runs_on c n.place ≡ false) tt (none_passes (λ n. runs_on c n.place) ms none)
+    well_made_moved t m ms w (Running c) order (λ n. runs_on c n.place ≡ false) tt (none_passes (λ n. runs_on c n.place) (w.before ++ w.after) none)
     (λ n numbers idle. apart_running c (record m { place = Running c; order = order }) n numbers refl idle)
 
 -- a thread moved to a place on no CPU
-pub well_made_off : (t : ℕ) (m : Member) (ms : List Member) (w : Within t m ms) (place : Place) (order : ℤ) → IsPlace place → ((c : ℕ) → is_on c place ≡ false) → IsWellMade (moved_to t place order ms)
+pub well_made_off : (t : ℕ) (m : Member) (ms : List Member) (w : Within t m ms) (place : Place) (order : ℤ) → IsPlace place →
+    ((c : ℕ) → is_on c place ≡ false) → IsWellMade (moved_to t place order ms)
 well_made_off t m ms w place order is off =
-    well_made_moved t m ms w place order (λ n. Unit {0}) is (all_of ms)
+    well_made_moved t m ms w place order (λ n. Unit {0}) is (all_of (w.before ++ w.after))
     (λ n numbers p. apart_off (record m { place = place; order = order }) n numbers off)
   where
     all_of : (ns : List Member) → AllByRecursion (λ n. Unit {0}) ns
@@ -151,26 +165,37 @@ all_from_filter p P (x ∷ xs) all = step (p x) refl all (all_from_filter p P xs
     step true is kept rest = (λ passes. kept.0, rest kept.1)
     step false is kept rest = (λ passes. absurd (both_ways (p x) is passes), rest kept)
 
--- a thread queued in a bucket with an order that none has there
-pub well_made_queued : (t : ℕ) (m : Member) (ms : List Member) (w : Within t m ms) (c : ℕ) (k : Kind) (b : ℕ) (order : ℤ) → b < 64 → AllByRecursion (λ o. order ≢ o) (orders_in c k b ms) → IsWellMade (moved_to t (Queued c k b) order ms)
+-- a thread queued in a bucket with an order that no other has there
+pub well_made_queued : (t : ℕ) (m : Member) (ms : List Member) (w : Within t m ms) (c : ℕ) (k : Kind) (b : ℕ) (order : ℤ) → b < 64 →
+    AllByRecursion (λ o. order ≢ o) (orders_in c k b (w.before ++ w.after)) → IsWellMade (moved_to t (Queued c k b) order ms)
 well_made_queued t m ms w c k b order small orders =
     well_made_moved t m ms w (Queued c k b) order (λ n. waits_in c k b n.place ≡ true → order ≢ n.order) small
-    (all_from_filter (λ n. waits_in c k b n.place) (λ n. order ≢ n.order) ms (all_from_map (λ n. n.order) (λ o. order ≢ o) (members_in c k b ms) orders))
+    (all_from_filter (λ n. waits_in c k b n.place) (λ n. order ≢ n.order) (w.before ++ w.after)
+    (all_from_map (λ n. n.order) (λ o. order ≢ o) (members_in c k b (w.before ++ w.after)) orders))
     (λ n numbers apart. apart_queued c k b (record m { place = Queued c k b; order = order }) n numbers refl apart)
 
--- with the order of the tail
-pub well_made_last : (t : ℕ) (m : Member) (ms : List Member) (w : Within t m ms) (c : ℕ) (k : Kind) (b : ℕ) → b < 64 → IsWellMade (moved_to t (Queued c k b) (tail_order (orders_in c k b ms)) ms)
-well_made_last t m ms w c k b small =
-    let os = orders_in c k b ms in
-    well_made_queued t m ms w c k b (tail_order os) small
-    (all_along (λ o. int_lt o (tail_order os) ≡ true) (λ o. tail_order os ≢ o) os (λ o low e. lt_apart o (tail_order os) low (sym e)) (tail_order_above os))
+-- the order of the tail is no order of a list
+tail_order_apart : (os : List ℤ) → AllByRecursion (λ o. tail_order os ≢ o) os
+tail_order_apart os =
+    all_along (λ o. int_lt o (tail_order os) ≡ true) (λ o. tail_order os ≢ o) os (λ o low e. lt_apart o (tail_order os) low (sym e)) (tail_order_above os)
 
--- with the order of the head
-pub well_made_first : (t : ℕ) (m : Member) (ms : List Member) (w : Within t m ms) (c : ℕ) (k : Kind) (b : ℕ) → b < 64 → IsWellMade (moved_to t (Queued c k b) (head_order (orders_in c k b ms)) ms)
-well_made_first t m ms w c k b small =
-    let os = orders_in c k b ms in
-    well_made_queued t m ms w c k b (head_order os) small
-    (all_along (λ o. int_lt (head_order os) o ≡ true) (λ o. head_order os ≢ o) os (λ o low. lt_apart (head_order os) o low) (head_order_below os))
+-- the order of the head is no order of a list
+head_order_apart : (os : List ℤ) → AllByRecursion (λ o. head_order os ≢ o) os
+head_order_apart os =
+    all_along (λ o. int_lt (head_order os) o ≡ true) (λ o. head_order os ≢ o) os (λ o low. lt_apart (head_order os) o low) (head_order_below os)
+
+-- an insertion gives an order that no other has in the bucket
+pub order_of_apart : (how : Insertion) (os : List ℤ) → AllByRecursion (λ o. order_of how os ≢ o) os
+order_of_apart Ordinary os = tail_order_apart os
+order_of_apart Borrowing os = tail_order_apart os
+order_of_apart Preempted os = head_order_apart os
+
+-- a thread that is inserted in a bucket keeps a world well made
+pub well_made_joined : (how : Insertion) (c : ℕ) (k : Kind) (b t : ℕ) (m : Member) (ms : List Member) (w : Within t m ms) → b < 64 →
+    IsWellMade (moved_to t (Queued c k b) (order_of how (orders_in c k b (w.before ++ w.after))) ms)
+well_made_joined how c k b t m ms w small =
+    let os = orders_in c k b (w.before ++ w.after) in
+    well_made_queued t m ms w c k b (order_of how os) small (order_of_apart how os)
 
 -- ---- a thread appended
 

@@ -30,7 +30,7 @@ load-between c (b ∷ bs) m after =
 pub load-within : (c t : ℕ) (m : Member) (ms : List Member) (w : Within t m ms) → load_of c ms ≡ load_at c m.place + load_of c (w.before ++ w.after)
 load-within c t m ms w = ap (load_of c) w.whole ∙ load-between c w.before m w.after
 
--- the same once the thread is changed
+-- the load once a thread is changed is that of the others and what the changed one adds
 pub load-changed : (c t : ℕ) (m : Member) (ms : List Member) (w : Within t m ms) (f : Member → Member) → load_of c (changed t f ms) ≡ load_at c (f m).place + load_of c (w.before ++ w.after)
 load-changed c t m ms w f = ap (load_of c) (changed_within t m ms w f) ∙ load-between c w.before (f m) w.after
 

@@ -5,7 +5,7 @@ use Rattle.std.proofs.lemmas.Option.{same_Some, none-some}
 use Rattle.std.proofs.lemmas.Bool.{eqb-true, both_ways, eq-eqb, ne_eqb, cond-true, cond-false}
 use Rattle.ule_prio.specs.declared.kind.Kind.{Kind}
 use Rattle.ule_model.specs.Places.{waits_in}
-use Rattle.ule_model.specs.Shows.{AreApart, AllApart, IsWellMade}
+use Rattle.ule_model.specs.WellMade.{AreApart, AllApart, IsWellMade}
 use Rattle.ule_model.specs.World.{Member, is_thread, thread_of}
 use Rattle.ule_members.proofs.Within.{Within}
 
@@ -29,7 +29,8 @@ pub has-filter : {X : Type 0} (p : X → Bool) (x : X) (xs : List X) → Has x x
 has-filter p x [] has passes = absurd has
 has-filter p x (y ∷ ys) has passes = step p x y (p y) refl ys passes (λ rest. has-filter p x ys rest passes) has
   where
-    step : {X : Type 0} (p : X → Bool) (x y : X) (b : Bool) → p y ≡ b → (ys : List X) → p x ≡ true → (Has x ys → Has x (filter p ys)) → (y ≡ x) ⊎ Has x ys → Has x (cond b (y ∷ filter p ys) (filter p ys))
+    step : {X : Type 0} (p : X → Bool) (x y : X) (b : Bool) → p y ≡ b → (ys : List X) → p x ≡ true → (Has x ys → Has x (filter p ys)) → (y ≡ x) ⊎ Has x ys →
+        Has x (cond b (y ∷ filter p ys) (filter p ys))
     step p x y true is ys passes rest has = ⊎_elim (λ (same : y ≡ x). inl same) (λ (h : Has x ys). inr (rest h)) has
     step p x y false is ys passes rest has = ⊎_elim (λ (same : y ≡ x). absurd (both_ways (p x) (ap p (sym same) ∙ is) passes)) rest has
 
@@ -38,7 +39,8 @@ pub has_filtered : {X : Type 0} (p : X → Bool) (x : X) (xs : List X) → Has x
 has_filtered p x [] has = absurd has
 has_filtered p x (y ∷ ys) has = step p x y (p y) refl ys (has_filtered p x ys) has
   where
-    step : {X : Type 0} (p : X → Bool) (x y : X) (b : Bool) → p y ≡ b → (ys : List X) → (Has x (filter p ys) → Has x ys × (p x ≡ true)) → Has x (cond b (y ∷ filter p ys) (filter p ys)) → Has x (y ∷ ys) × (p x ≡ true)
+    step : {X : Type 0} (p : X → Bool) (x y : X) (b : Bool) → p y ≡ b → (ys : List X) → (Has x (filter p ys) → Has x ys × (p x ≡ true)) →
+        Has x (cond b (y ∷ filter p ys) (filter p ys)) → Has x (y ∷ ys) × (p x ≡ true)
     step p x y true is ys rest has = ⊎_elim (λ (same : y ≡ x). (inl same, ap p (sym same) ∙ is)) (λ (h : Has x (filter p ys)). (inr (rest h).0, (rest h).1)) has
     step p x y false is ys rest has = (inr (rest has).0, (rest has).1)
 
@@ -64,7 +66,8 @@ same_from_number m n ms made first second same =
     (one_or_apart m n ms made.apart first second)
 
 -- two threads of one bucket and one order are one
-pub same_from_order : (c : ℕ) (k : Kind) (b : ℕ) (m n : Member) (ms : List Member) → IsWellMade ms → Has m ms → Has n ms → waits_in c k b m.place ≡ true → waits_in c k b n.place ≡ true → m.order ≡ n.order → m ≡ n
+pub same_from_order : (c : ℕ) (k : Kind) (b : ℕ) (m n : Member) (ms : List Member) → IsWellMade ms → Has m ms → Has n ms → waits_in c k b m.place ≡ true →
+    waits_in c k b n.place ≡ true → m.order ≡ n.order → m ≡ n
 same_from_order c k b m n ms made first second one other same =
     ⊎_elim (λ (alone : m ≡ n). alone)
     (λ (two : AreApart m n ⊎ AreApart n m). absurd (⊎_elim (λ (a : AreApart m n). a.orders c k b one other same) (λ (a : AreApart n m). a.orders c k b other one (sym same)) two))
@@ -84,7 +87,8 @@ pub has_thread_of : (t : ℕ) (m : Member) (ms : List Member) → thread_of t ms
 has_thread_of t m [] found = absurd (none-some m found)
 has_thread_of t m (x ∷ xs) found = step t m x xs (is_thread t x) refl (has_thread_of t m xs) found
   where
-    step : (t : ℕ) (m x : Member) (xs : List Member) (b : Bool) → is_thread t x ≡ b → (thread_of t xs ≡ Some m → Has m xs × (m.thread.id ≡ t)) → cond b (Some x) (thread_of t xs) ≡ Some m → (Has m (x ∷ xs)) × (m.thread.id ≡ t)
+    step : (t : ℕ) (m x : Member) (xs : List Member) (b : Bool) → is_thread t x ≡ b → (thread_of t xs ≡ Some m → Has m xs × (m.thread.id ≡ t)) →
+        cond b (Some x) (thread_of t xs) ≡ Some m → (Has m (x ∷ xs)) × (m.thread.id ≡ t)
     step t m x xs true is rest found =
         let same : x ≡ m = same_Some x m found in
         (inl same, ap (λ z. z.thread.id) (sym same) ∙ eqb-true x.thread.id t is)

@@ -10,8 +10,8 @@ use Rattle.ule_model.specs.CpuValue.{thread_on}
 use Rattle.ule_model.specs.Insertion.{with_queued, queued, place_of_insertion, order_of_insertion}
 use Rattle.ule_model.specs.declared.insertion.Insertion.{Insertion}
 use Rattle.ule_model.specs.Places.{runs_on, is_on}
-use Rattle.ule_model.specs.Shows.{AreApart, IsWellMade}
-use Rattle.ule_model.specs.World.{Member, Side, is_thread, thread_of, current_of, moved_to}
+use Rattle.ule_model.specs.WellMade.{AreApart, IsWellMade}
+use Rattle.ule_model.specs.World.{Member, Side, current_of, is_thread, moved_to, others, thread_of}
 use Rattle.ule_members.proofs.Membership.{has_thread_of}
 use Rattle.ule_members.proofs.Within.{Lacks, Within, found_at, within_found, changed, changed_within, all_front, all_back, all_along}
 
@@ -48,7 +48,8 @@ pub find_kept : {X : Type 0} (p : X → Bool) (before : List X) (x y : X) (after
 find_kept p before x y after old new = find_skips p before y after new ∙ sym (find_skips p before x after old)
 
 -- where no other passes, it is found if it passes
-pub find_only : {X : Type 0} (p : X → Bool) (before : List X) (x : X) (after : List X) → AllByRecursion (λ y. p y ≡ false) before → AllByRecursion (λ y. p y ≡ false) after → find p (before ++ x ∷ after) ≡ (if p x then Some x else None)
+pub find_only : {X : Type 0} (p : X → Bool) (before : List X) (x : X) (after : List X) → AllByRecursion (λ y. p y ≡ false) before →
+    AllByRecursion (λ y. p y ≡ false) after → find p (before ++ x ∷ after) ≡ (if p x then Some x else None)
 find_only p [] x after front back = rw (find_nowhere p after back) refl
 find_only p (b ∷ bs) x after front back = let fails : p b ≡ false = front.0 in rw fails (find_only p bs x after front.1 back)
 
@@ -60,7 +61,8 @@ find-changed_kept p t m ms w f old new =
     ap (find p) (changed_within t m ms w f) ∙ find_kept p w.before m (f m) w.after old new ∙ ap (find p) (sym w.whole)
 
 -- a look-up that no other thread passes finds the changed one, if it passes
-pub find-changed_only : (p : Member → Bool) (t : ℕ) (m : Member) (ms : List Member) (w : Within t m ms) (f : Member → Member) → AllByRecursion (λ n. p n ≡ false) w.before → AllByRecursion (λ n. p n ≡ false) w.after → find p (changed t f ms) ≡ (if p (f m) then Some (f m) else None)
+pub find-changed_only : (p : Member → Bool) (t : ℕ) (m : Member) (ms : List Member) (w : Within t m ms) (f : Member → Member) →
+    AllByRecursion (λ n. p n ≡ false) w.before → AllByRecursion (λ n. p n ≡ false) w.after → find p (changed t f ms) ≡ (if p (f m) then Some (f m) else None)
 find-changed_only p t m ms w f front back =
     ap (find p) (changed_within t m ms w f) ∙ find_only p w.before (f m) w.after front back
 
@@ -87,7 +89,8 @@ pub thread_of-changed_same : (t : ℕ) (f : Member → Member) (ms : List Member
 thread_of-changed_same t f [] kept = refl
 thread_of-changed_same t f (m ∷ ms) kept = split (is_thread t m) refl (thread_of-changed_same t f ms kept)
   where
-    split : (d : Bool) → is_thread t m ≡ d → thread_of t (changed t f ms) ≡ option_map f (thread_of t ms) → thread_of t ((if d then f m else m) ∷ changed t f ms) ≡ option_map f (if d then Some m else thread_of t ms)
+    split : (d : Bool) → is_thread t m ≡ d → thread_of t (changed t f ms) ≡ option_map f (thread_of t ms) →
+        thread_of t ((if d then f m else m) ∷ changed t f ms) ≡ option_map f (if d then Some m else thread_of t ms)
     split true is rest = cond-true (is_thread t (f m)) (Some (f m)) (thread_of t (changed t f ms)) (ap (λ (u : ℕ). u == t) (kept m) ∙ is)
     split false is rest = cond-false (is_thread t m) (Some m) (thread_of t (changed t f ms)) is ∙ rest
 
@@ -102,18 +105,18 @@ thread_of-changed_apart u t f (m ∷ ms) kept apart = split (is_thread t m) refl
         cond-false (is_thread u (f m)) (Some (f m)) (thread_of u (changed t f ms)) (ap (λ (i : ℕ). i == u) (kept m) ∙ other) ∙ rest ∙ sym (cond-false (is_thread u m) (Some m) (thread_of u ms) other)
     split false is rest = ap (λ (o : Option Member). if is_thread u m then Some m else o) rest
 
--- so it does after a move
+-- after a move of one thread, look-up of another number finds what it found
 pub thread_of-moved_other : (u t : ℕ) (place : Place) (order : ℤ) (ms : List Member) → u ≢ t → thread_of u (moved_to t place order ms) ≡ thread_of u ms
 thread_of-moved_other u t place order ms apart = thread_of-changed_apart u t (λ n. record n { place = place; order = order }) ms (λ n. refl) apart
 
--- and after an insertion
+-- after an insertion of one thread, look-up of another number finds what it found
 pub thread_of-queued_other : (how : Insertion) (c u t : ℕ) (s : Side) → u ≢ t → thread_of u (queued how c t s).members ≡ thread_of u s.members
 thread_of-queued_other how c u t s apart = split (thread_of t s.members) refl
   where
     split : (o : Option Member) → thread_of t s.members ≡ o → thread_of u (with_queued how c o s).members ≡ thread_of u s.members
     split None found = refl
     split (Some m) found =
-        thread_of-moved_other u m.thread.id (place_of_insertion how c s.line m.thread.priority) (order_of_insertion how c s.line m.thread.priority s.members) s.members
+        thread_of-moved_other u m.thread.id (place_of_insertion how c s.line m.thread.priority) (order_of_insertion how c s.line m.thread.priority (others m.thread.id s.members)) s.members
         (λ e. apart (e ∙ (has_thread_of t m s.members found).1))
 
 -- two changes of one thread are one change
@@ -147,13 +150,15 @@ thread_on_within c t m ms w =
     ap (λ b. if b && is_on c m.place then Some m else None) (eq-eqb m.thread.id t w.number)
 
 -- the thread that was changed is found where it stands now
-pub thread_on-changed : (c t : ℕ) (m : Member) (ms : List Member) (w : Within t m ms) (f : Member → Member) → (f m).thread.id ≡ m.thread.id → thread_on c t (changed t f ms) ≡ (if is_on c (f m).place then Some (f m) else None)
+pub thread_on-changed : (c t : ℕ) (m : Member) (ms : List Member) (w : Within t m ms) (f : Member → Member) → (f m).thread.id ≡ m.thread.id →
+    thread_on c t (changed t f ms) ≡ (if is_on c (f m).place then Some (f m) else None)
 thread_on-changed c t m ms w f same =
     find-changed_only (λ n. is_thread t n && is_on c n.place) t m ms w f (lacks_on c t w.before w.lacks_before) (lacks_on c t w.after w.lacks_after) ∙
     ap (λ b. if b && is_on c (f m).place then Some (f m) else None) (eq-eqb (f m).thread.id t (same ∙ w.number))
 
 -- every other thread is found as before
-pub thread_on-changed_other : (c u t : ℕ) (m : Member) (ms : List Member) (w : Within t m ms) (f : Member → Member) → (f m).thread.id ≡ m.thread.id → u ≢ t → thread_on c u (changed t f ms) ≡ thread_on c u ms
+pub thread_on-changed_other : (c u t : ℕ) (m : Member) (ms : List Member) (w : Within t m ms) (f : Member → Member) → (f m).thread.id ≡ m.thread.id → u ≢ t →
+    thread_on c u (changed t f ms) ≡ thread_on c u ms
 thread_on-changed_other c u t m ms w f same apart =
     find-changed_kept (λ n. is_thread u n && is_on c n.place) t m ms w f
     (and_left (is_thread u m) (is_on c m.place) (number_fails u t m apart w.number))
@@ -166,7 +171,7 @@ within_thread_on c t m ms made found =
     let P : ℕ → Type 0 = λ u. Within u m ms in
     subst P (eqb-true m.thread.id t (and_parts (is_thread t m) (is_on c m.place) passes).0) (within_found (λ n. is_thread t n && is_on c n.place) ms m made found)
 
--- and stands there
+-- the thread that is found on a CPU stands there
 pub thread_on_stands : (c t : ℕ) (m : Member) (ms : List Member) → thread_on c t ms ≡ Some m → is_on c m.place ≡ true
 thread_on_stands c t m ms found =
     (and_parts (is_thread t m) (is_on c m.place) (found_at (λ n. is_thread t n && is_on c n.place) ms m found).passes).1
@@ -187,16 +192,19 @@ pub current_runs : (c : ℕ) (ms : List Member) (m : Member) → current_of c ms
 current_runs c ms m found = (found_at (λ n. runs_on c n.place) ms m found).passes
 
 -- a change of a thread that runs neither before nor after leaves the current thread
-pub current_of-changed_kept : (c t : ℕ) (m : Member) (ms : List Member) (w : Within t m ms) (f : Member → Member) → runs_on c m.place ≡ false → runs_on c (f m).place ≡ false → current_of c (changed t f ms) ≡ current_of c ms
+pub current_of-changed_kept : (c t : ℕ) (m : Member) (ms : List Member) (w : Within t m ms) (f : Member → Member) → runs_on c m.place ≡ false →
+    runs_on c (f m).place ≡ false → current_of c (changed t f ms) ≡ current_of c ms
 current_of-changed_kept c t m ms w f old new = find-changed_kept (λ n. runs_on c n.place) t m ms w f old new
 
 -- a change of the current thread leaves it or leaves none
-pub current_of-changed : (c t : ℕ) (m : Member) (ms : List Member) (w : Within t m ms) (f : Member → Member) → runs_on c m.place ≡ true → current_of c (changed t f ms) ≡ (if runs_on c (f m).place then Some (f m) else None)
+pub current_of-changed : (c t : ℕ) (m : Member) (ms : List Member) (w : Within t m ms) (f : Member → Member) → runs_on c m.place ≡ true →
+    current_of c (changed t f ms) ≡ (if runs_on c (f m).place then Some (f m) else None)
 current_of-changed c t m ms w f runs =
     find-changed_only (λ n. runs_on c n.place) t m ms w f (no_other_runs c m w.before w.apart_before runs) (no_other_runs c m w.after w.apart_after runs)
 
 -- where there was no current thread, one that is put to run is it
-pub current_of-changed_none : (c t : ℕ) (m : Member) (ms : List Member) (w : Within t m ms) (f : Member → Member) → current_of c ms ≡ None → current_of c (changed t f ms) ≡ (if runs_on c (f m).place then Some (f m) else None)
+pub current_of-changed_none : (c t : ℕ) (m : Member) (ms : List Member) (w : Within t m ms) (f : Member → Member) → current_of c ms ≡ None →
+    current_of c (changed t f ms) ≡ (if runs_on c (f m).place then Some (f m) else None)
 current_of-changed_none c t m ms w f none =
     let idle : AllByRecursion (λ n. runs_on c n.place ≡ false) (w.before ++ m ∷ w.after) = subst (λ ns. AllByRecursion (λ n. runs_on c n.place ≡ false) ns) w.whole (none_passes (λ n. runs_on c n.place) ms none) in
     find-changed_only (λ n. runs_on c n.place) t m ms w f

@@ -4,30 +4,35 @@ use Rattle.std.proofs.Common.{◌≡◌, ℕ, Bool, true, false, List, [], ◌�
 use Rattle.std.specs.List.{AllByRecursion, find}
 use Rattle.std.proofs.lemmas.Bool.{eqb-true, eq-eqb, ne_eqb}
 use Rattle.std.proofs.lemmas.Option.{none-some, same_Some}
-use Rattle.ule_model.specs.Shows.{IsMade, AreApart, AllApart, IsWellMade}
+use Rattle.ule_model.specs.WellMade.{IsMade, AreApart, AllApart, IsWellMade}
 use Rattle.ule_model.specs.World.{Member, is_thread, thread_of}
 
 -- ---- what holds of each element
 
--- of each of two lists, then of each of both
+-- what holds of each element of two lists holds of each of both together
 pub all-append : {X : Type 0} (P : X → Type 0) (xs ys : List X) → AllByRecursion P xs → AllByRecursion P ys → AllByRecursion P (xs ++ ys)
 all-append P [] ys front back = back
 all-append P (x ∷ xs) ys front back = (front.0, all-append P xs ys front.1 back)
 
--- of each of both, then of each of the first
+-- what holds of each element of two lists together holds of each of the first
 pub all_front : {X : Type 0} (P : X → Type 0) (xs ys : List X) → AllByRecursion P (xs ++ ys) → AllByRecursion P xs
 all_front P [] ys all = tt
 all_front P (x ∷ xs) ys all = (all.0, all_front P xs ys all.1)
 
--- of each of both, then of each of the second
+-- what holds of each element of two lists together holds of each of the second
 pub all_back : {X : Type 0} (P : X → Type 0) (xs ys : List X) → AllByRecursion P (xs ++ ys) → AllByRecursion P ys
 all_back P [] ys all = all
 all_back P (x ∷ xs) ys all = all_back P xs ys all.1
 
--- what follows from it holds of each element too
+-- what follows from a fact that holds of each element holds of each
 pub all_along : {X : Type 0} (P Q : X → Type 0) (xs : List X) → ((x : X) → P x → Q x) → AllByRecursion P xs → AllByRecursion Q xs
 all_along P Q [] step all = tt
 all_along P Q (x ∷ xs) step all = (step x all.0, all_along P Q xs step all.1)
+
+-- what two facts give of an element holds of each element
+pub all_both : {X : Type 0} (P Q R : X → Type 0) (xs : List X) → ((x : X) → P x → Q x → R x) → AllByRecursion P xs → AllByRecursion Q xs → AllByRecursion R xs
+all_both P Q R [] step first second = tt
+all_both P Q R (x ∷ xs) step first second = (step x first.0 second.0, all_both P Q R xs step first.1 second.1)
 
 -- ---- threads that are apart
 
@@ -55,12 +60,12 @@ apart_before [] m after all = tt
 apart_before (b ∷ bs) m after all =
     (apart-sym b m (all_back (AreApart b) bs (m ∷ after) all.0).0, apart_before bs m after all.1)
 
--- and from those after it
+-- of threads that are apart each one is apart from those after it
 pub apart_after : (before : List Member) (m : Member) (after : List Member) → AllApart (before ++ m ∷ after) → AllByRecursion (AreApart m) after
 apart_after [] m after all = all.0
 apart_after (b ∷ bs) m after all = apart_after bs m after all.1
 
--- without it they are apart still
+-- threads that are apart are apart without one of them
 pub apart_without : (before : List Member) (m : Member) (after : List Member) → AllApart (before ++ m ∷ after) → AllApart (before ++ after)
 apart_without [] m after all = all.1
 apart_without (b ∷ bs) m after all = (
@@ -68,8 +73,9 @@ apart_without (b ∷ bs) m after all = (
   apart_without bs m after all.1,
 )
 
--- and with another that is apart from them
-pub apart_with : (before : List Member) (m : Member) (after : List Member) → AllApart (before ++ after) → AllByRecursion (AreApart m) before → AllByRecursion (AreApart m) after → AllApart (before ++ m ∷ after)
+-- threads that are apart are apart with another between them that is apart from each
+pub apart_with : (before : List Member) (m : Member) (after : List Member) → AllApart (before ++ after) → AllByRecursion (AreApart m) before →
+    AllByRecursion (AreApart m) after → AllApart (before ++ m ∷ after)
 apart_with [] m after all front back = (back, all)
 apart_with (b ∷ bs) m after all front back = (
   all-append (AreApart b) bs (m ∷ after) (all_front (AreApart b) bs after all.0) (apart-sym m b front.0, all_back (AreApart b) bs after all.0),
@@ -156,25 +162,28 @@ changed_others t f (m ∷ ms) lacks =
     let other : is_thread t m ≡ false = lacks.0 in rw other (ap (λ ns. m ∷ ns) (changed_others t f ms lacks.1))
 
 -- the list with its one thread t changed
-pub changed_between : (t : ℕ) (f : Member → Member) (before : List Member) (m : Member) (after : List Member) → Lacks t before → m.thread.id ≡ t → Lacks t after → changed t f (before ++ m ∷ after) ≡ before ++ f m ∷ after
+pub changed_between : (t : ℕ) (f : Member → Member) (before : List Member) (m : Member) (after : List Member) → Lacks t before → m.thread.id ≡ t → Lacks t after →
+    changed t f (before ++ m ∷ after) ≡ before ++ f m ∷ after
 changed_between t f [] m after front number back =
     let here : is_thread t m ≡ true = eq-eqb m.thread.id t number in rw here (ap (λ ns. f m ∷ ns) (changed_others t f after back))
 changed_between t f (b ∷ bs) m after front number back =
     let other : is_thread t b ≡ false = front.0 in rw other (ap (λ ns. b ∷ ns) (changed_between t f bs m after front.1 number back))
 
--- the same of a thread within a list
+-- the list of a thread within it, once the thread is changed
 pub changed_within : (t : ℕ) (m : Member) (ms : List Member) (w : Within t m ms) (f : Member → Member) → changed t f ms ≡ w.before ++ f m ∷ w.after
 changed_within t m ms w f =
     ap (changed t f) w.whole ∙ changed_between t f w.before m w.after w.lacks_before w.number w.lacks_after
 
 -- a well-made list stays so where a thread is changed into one that is made, and apart from the others
-pub well_made_between : (before : List Member) (m : Member) (after : List Member) → IsWellMade (before ++ after) → IsMade m → AllByRecursion (AreApart m) before → AllByRecursion (AreApart m) after → IsWellMade (before ++ m ∷ after)
+pub well_made_between : (before : List Member) (m : Member) (after : List Member) → IsWellMade (before ++ after) → IsMade m → AllByRecursion (AreApart m) before →
+    AllByRecursion (AreApart m) after → IsWellMade (before ++ m ∷ after)
 well_made_between before m after others made front back = record {
   each = all-append IsMade before (m ∷ after) (all_front IsMade before after others.each) (made, all_back IsMade before after others.each);
   apart = apart_with before m after others.apart front back;
 }
 
--- the same of a thread within a list
-pub well_made_within : (t : ℕ) (m : Member) (ms : List Member) (w : Within t m ms) (f : Member → Member) → IsMade (f m) → AllByRecursion (AreApart (f m)) w.before → AllByRecursion (AreApart (f m)) w.after → IsWellMade (changed t f ms)
+-- a well-made list stays so where a thread within it is changed into one that is made, and apart from the others
+pub well_made_within : (t : ℕ) (m : Member) (ms : List Member) (w : Within t m ms) (f : Member → Member) → IsMade (f m) → AllByRecursion (AreApart (f m)) w.before →
+    AllByRecursion (AreApart (f m)) w.after → IsWellMade (changed t f ms)
 well_made_within t m ms w f made front back =
     subst IsWellMade (sym (changed_within t m ms w f)) (well_made_between w.before (f m) w.after w.others made front back)

@@ -7,7 +7,7 @@ use Rattle.ule_prio.specs.Preemption.{takes_over}
 use Rattle.ule_prio.specs.declared.kind.Kind.{Kind}
 use Rattle.ule_prio.specs.declared.kind.Kind.TheVariants.{Real, Batch, Idle}
 use Rattle.ule_runq.specs.Runq.{is_empty_at, place_in, with_tail, with_head, without, first_from}
-use Rattle.ule_score.specs.Changes.{RecordChange, after_tick, placed, ran, record_after, runs, ticked}
+use Rattle.ule_score.specs.Changes.{RecordChange, after_tick, placed_on, ran, record_after, runs, ticked}
 use Rattle.ule_score.specs.declared.place.Place.{Place}
 use Rattle.ule_score.specs.declared.place.Place.TheVariants.{Running, Queued}
 use Rattle.ule_score.specs.declared.record.CpuLine.{CpuLine}
@@ -159,9 +159,9 @@ abbrev pub takes_over_in : ℕ → Bool → CpuValue → Bool
 takes_over_in p remote v = takes_over p (current_priority (current_in v)) remote v.settings.preempt
 
 -- the CPU with a thread that comes to it, marked where it takes over
-abbrev pub value_added : ℕ → ThreadRecord → Bool → CpuValue → CpuValue
-value_added now r remote v =
-    let next = value_laid (record_after v.settings now (placed v.cpu) r) v in
+abbrev pub value_added : ThreadRecord → Bool → CpuValue → CpuValue
+value_added r remote v =
+    let next = value_laid (placed_on v.cpu r) v in
     record next { line = marked_if (takes_over_in r.priority remote v) next.line }
 
 -- ---- one thread less

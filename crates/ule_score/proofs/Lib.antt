@@ -1,3 +1,4 @@
 pub mod BoundsLemmas
+pub mod ChangeLaws
 pub mod ScoreLemmas
 pub mod TimesharePriorityLemmas

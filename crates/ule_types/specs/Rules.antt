@@ -3,6 +3,7 @@ use Rattle.std.specs.Prelude.{ℕ, ◌+◌, ℤ, pos, negsuc, Bool, true, not, n
 use Rattle.std.specs.List.{list_all, flat_map}
 use Rattle.ule_prio.specs.Class.{is_within, is_base_of}
 use Rattle.ule_prio.specs.declared.class.Class.TheVariants as class
+pub use Rattle.ule_score.specs.Settings.{are_settings}
 use Rattle.ule_score.specs.declared.record.Settings.{Settings}
 use Rattle.ule_types.specs.Commands.{is_among, greatest_of, is_command, forked_by}
 use Rattle.ule_types.specs.declared.command.Command.{Command}
@@ -15,10 +16,6 @@ use Rattle.ule_types.specs.declared.setup.GroupLine.{GroupLine}
 abbrev pub is_distinct : List ℕ → Bool
 is_distinct [] = true
 is_distinct (x ∷ xs) = not (is_among xs x) && is_distinct xs
-
--- whether each setting is in its range
-abbrev pub are_settings : Settings → Bool
-are_settings s = is_within 1 100 s.interact && is_within 6 1000 s.slice && is_within 1 64 s.steal
 
 -- whether a nice value is one of -20..20
 abbrev pub is_nice : ℤ → Bool

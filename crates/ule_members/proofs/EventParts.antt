@@ -1,0 +1,141 @@
+-- What the parts of events do to the threads: a current thread that is noted, gives way, or is taken,
+-- the choice of the next thread, and a thread that goes from or to the worker's hand.
+use Rattle.std.proofs.Common.{◌≡◌, ℕ, ◌<◌, pos, true, false, List, ◌++◌, Option, Some, None, refl, subst}
+use Rattle.ule_prio.specs.Kind.{kind_at}
+use Rattle.ule_score.specs.Changes.{GoesThrough, IsSoundChange, RecordChange, record_after, runs, stays}
+use Rattle.ule_score.specs.declared.place.Place.{Place}
+use Rattle.ule_score.specs.declared.place.Place.TheVariants.{Running, Hand}
+use Rattle.ule_score.specs.declared.record.Settings.{Settings}
+use Rattle.ule_types.specs.Commands.{is_among}
+use Rattle.ule_types.specs.declared.event.Event.{Event}
+use Rattle.ule_model.specs.Choice.{choice_of}
+use Rattle.ule_model.specs.Events.{locks_of}
+use Rattle.ule_model.specs.Insertion.{bucket_of, queued}
+use Rattle.ule_model.specs.declared.insertion.Insertion.{Insertion}
+use Rattle.ule_model.specs.Places.{hand_of, is_on, lock_of}
+use Rattle.ule_model.specs.Sleep.{put_in_hand}
+use Rattle.ule_model.specs.Switch.{choosing_next, running_chosen}
+use Rattle.ule_model.specs.WellMade.{IsPlace, IsWellMade}
+use Rattle.ule_model.specs.Words.{block, point}
+use Rattle.ule_model.specs.World.{Member, Side, World, current_of, is_thread, moved_to, with_change}
+use Rattle.ule_members.proofs.Done.{IsDone, carried_from_hand, carried_to_hand, carried_under, done_nothing, done_one, held_member, taken_member}
+use Rattle.ule_members.proofs.MadeWell.{IsApartFrom, apart_from_kept, apart_from_off, apart_from_queued, apart_from_running}
+use Rattle.ule_members.proofs.Membership.{has_thread_of}
+use Rattle.ule_members.proofs.Moves.{bucket_small, carried_between, changed_by, choice_stands, moved_between, moved_member, moved_recorded_between, queued_between, queued_member, recorded_between, within_has}
+use Rattle.ule_members.proofs.Owed.{changes_keep_numbers, changes_leave_the_number}
+use Rattle.ule_members.proofs.Reach.{IsHeld, lock_where_waits}
+use Rattle.ule_members.proofs.Touches.{goes_one}
+use Rattle.ule_members.proofs.Within.{Within, within_found}
+
+module _ (w : World) (worker : ℕ) (e : Event) (now : ℕ) where
+  -- ---- under the lock of a CPU
+
+  -- a thread whose record changes where it stands
+  pub done_noted : (l : ℕ) (change : RecordChange) (m : Member) (ms : List Member) → Within m.thread.id m ms → is_among (locks_of w e) l ≡ true →
+      lock_of m.place ≡ Some l → IsSoundChange now change → IsDone w worker e now None ms (with_change w.settings now m.thread.id change ms)
+  done_noted l change m ms v among under sound =
+      let n : Member = changed_by w.settings now change m in
+      done_one w worker e now None m n ms (with_change w.settings now m.thread.id change ms) v (recorded_between w.settings now change m ms v)
+      (carried_under w worker e now l m n among under under (goes_one w.settings now change m.thread sound) v.made.place)
+      (apart_from_kept m n ms v (changes_leave_the_number w.settings now change m.thread) refl refl)
+
+  -- the next thread of a CPU that has none is chosen, and runs
+  pub done_choosing : (c : ℕ) (s : Side) → is_among (locks_of w e) c ≡ true → IsWellMade s.members → current_of c s.members ≡ None →
+      IsDone w worker e now None s.members (choosing_next c now s).0.members
+  done_choosing c s among made none = split (choice_of c s.line.ridx s.members) refl
+    where
+      split : (o : Option Member) → choice_of c s.line.ridx s.members ≡ o → IsDone w worker e now None s.members (running_chosen c now o s).0.members
+      split None found = done_nothing w worker e now s.members made
+      split (Some m) found =
+          let stands = choice_stands c s.line.ridx m s.members found in
+          let v : Within m.thread.id m s.members = within_has m s.members made stands.0 in
+          let n : Member = changed_by s.settings now runs (moved_member (Running c) (pos 0) m) in
+          done_one w worker e now None m n s.members (running_chosen c now (Some m) s).0.members v
+          (moved_recorded_between s.settings now runs m s.members v (Running c) (pos 0))
+          (carried_under w worker e now c m n among (lock_where_waits c m.place stands.1) refl (goes_one w.settings now runs m.thread tt) tt)
+          (apart_from_running c m n s.members v refl refl none)
+
+  -- ---- the worker's hand
+
+  -- a thread that goes with a changed record from under a lock to the worker's hand
+  pub done_taken : (t l : ℕ) (change : RecordChange) (m : Member) (ms : List Member) → Within m.thread.id m ms → is_among (locks_of w e) l ≡ true →
+      lock_of m.place ≡ Some l → m.thread.id ≡ t → IsSoundChange now change →
+      taken_member w worker e now t ≡ Some (held_member worker (record_after w.settings now change m.thread)) →
+      IsDone w worker e now (Some (block t)) ms (put_in_hand w.settings now worker change m.thread.id ms)
+  done_taken t l change m ms v among under number sound taken =
+      let n : Member = held_member worker (record_after w.settings now change m.thread) in
+      done_one w worker e now (Some (block t)) m n ms (put_in_hand w.settings now worker change m.thread.id ms) v
+      (carried_between w.settings now change m ms v (Hand worker) (pos 0))
+      (carried_to_hand w worker e now t l m n.thread among under number (goes_one w.settings now change m.thread sound) taken)
+      (apart_from_off m n ms v (changes_leave_the_number w.settings now change m.thread) (λ d. refl))
+
+  -- a thread that goes as it is from under a lock to the worker's hand
+  pub done_hatched : (t l : ℕ) (m : Member) (ms : List Member) → Within m.thread.id m ms → is_among (locks_of w e) l ≡ true → lock_of m.place ≡ Some l →
+      m.thread.id ≡ t → taken_member w worker e now t ≡ Some (held_member worker m.thread) →
+      IsDone w worker e now (Some (block t)) ms (moved_to m.thread.id (Hand worker) (pos 0) ms)
+  done_hatched t l m ms v among under number taken =
+      let n : Member = held_member worker m.thread in
+      done_one w worker e now (Some (block t)) m n ms (moved_to m.thread.id (Hand worker) (pos 0) ms) v (moved_between m ms v (Hand worker) (pos 0))
+      (carried_to_hand w worker e now t l m m.thread among under number (stays m.thread) taken) (apart_from_off m n ms v refl (λ d. refl))
+
+  -- a thread that goes as it is from the worker's hand to a place on no CPU
+  pub done_put : (t l : ℕ) (place : Place) (ms : List Member) → IsWellMade ms → is_among (locks_of w e) l ≡ true → IsHeld ms t worker →
+      lock_of place ≡ Some l → IsPlace place → ((c : ℕ) → is_on c place ≡ false) → IsDone w worker e now (Some (point t l)) ms (moved_to t place (pos 0) ms)
+  done_put t l place ms made among held under is off =
+      subst (λ (u : ℕ). IsDone w worker e now (Some (point t l)) ms (moved_to u place (pos 0) ms)) number
+      (done_one w worker e now (Some (point t l)) m n ms (moved_to m.thread.id place (pos 0) ms) v (moved_between m ms v place (pos 0))
+      (carried_from_hand w worker e now t l m n among held.hand under number (stays m.thread) is) (apart_from_off m n ms v refl off))
+    where
+      m : Member
+      m = held.member
+
+      n : Member
+      n = moved_member place (pos 0) m
+
+      number : m.thread.id ≡ t
+      number = (has_thread_of t m ms held.found).1
+
+      v : Within m.thread.id m ms
+      v = within_found (is_thread t) ms m made held.found
+
+  -- ---- a queue
+
+  module _ (how : Insertion) (c : ℕ) (change : RecordChange) (m : Member) (s : Side) (v : Within m.thread.id m s.members) where
+    -- the thread as it is queued, with its record changed
+    abbrev queued_one : Member
+    queued_one = queued_member how c s.line (v.before ++ v.after) (changed_by s.settings now change m)
+
+    -- a thread that is queued with its record changed is apart from the others
+    queued_apart : IsApartFrom queued_one v.before v.after
+    queued_apart =
+        let p : ℕ = (record_after s.settings now change m.thread).priority in
+        apart_from_queued how c (kind_at p) (bucket_of (kind_at p) how s.line p) m queued_one s.members v
+        (changes_leave_the_number s.settings now change m.thread) refl refl
+
+    -- the bucket in which it is queued is one that there is
+    queued_place : IsSoundChange now change → s.line.ridx < 64 → IsPlace queued_one.place
+    queued_place sound index =
+        let p : ℕ = (record_after s.settings now change m.thread).priority in
+        bucket_small (kind_at p) how s.line p (changes_keep_numbers s.settings now change m.thread sound v.made.numbers).priority index
+
+    -- the threads after a thread is queued with its record changed
+    abbrev queued_all : List Member
+    queued_all = (queued how c m.thread.id (record s { members = with_change s.settings now m.thread.id change s.members })).members
+
+    -- a thread under the CPU's lock that is queued with its record changed
+    pub done_requeued : s.settings ≡ w.settings → is_among (locks_of w e) c ≡ true → lock_of m.place ≡ Some c → IsSoundChange now change → s.line.ridx < 64 →
+        IsDone w worker e now None s.members queued_all
+    done_requeued settings among under sound index =
+        done_one w worker e now None m queued_one s.members queued_all v (queued_between how c now change m s v)
+        (carried_under w worker e now c m queued_one among under refl
+        (subst (λ (x : Settings). GoesThrough x now m.thread queued_one.thread) settings (goes_one s.settings now change m.thread sound)) (queued_place sound index))
+        queued_apart
+
+    -- a thread in the worker's hand that is queued with its record changed
+    pub done_landed : (t : ℕ) → s.settings ≡ w.settings → is_among (locks_of w e) c ≡ true → hand_of m.place ≡ Some worker → m.thread.id ≡ t →
+        IsSoundChange now change → s.line.ridx < 64 → IsDone w worker e now (Some (point t c)) s.members queued_all
+    done_landed t settings among held number sound index =
+        done_one w worker e now (Some (point t c)) m queued_one s.members queued_all v (queued_between how c now change m s v)
+        (carried_from_hand w worker e now t c m queued_one among held refl number
+        (subst (λ (x : Settings). GoesThrough x now m.thread queued_one.thread) settings (goes_one s.settings now change m.thread sound)) (queued_place sound index))
+        queued_apart
