@@ -1,164 +1,291 @@
--- Courses: how a worker's entries go on, and how its items run out.
-use Rattle.std.proofs.Common.{◌≡◌, ℕ, ◌+◌, ◌*◌, ◌≤◌, ◌==◌, ◌&&◌, nat_lt, List, [], ◌∷◌, ◌++◌, sum_by, Option, Some, None, refl, sym, ◌∙◌, ap, subst, arith}
-use Rattle.std.proofs.lemmas.Bool.{cond_both}
-use Rattle.std.proofs.lemmas.List.Sums.{sum_by-append, sum_by-cons}
+-- Courses: where a program finds its next item, what it keeps on the way, and how its items run out.
+use Rattle.std.proofs.Common.{◌≡◌, ℕ, ◌+◌, ◌≤◌, true, List, [], ◌∷◌, ◌++◌, sum_by, Option, Some, None, IfSome, refl, sym, ◌∙◌, ap, subst, arith}
+use Rattle.std.specs.List.{list_all}
+use Rattle.std.proofs.lemmas.Bool.{and_parts}
+use Rattle.std.proofs.lemmas.List.Sums.{sum_by-cons}
 use Rattle.std.proofs.lemmas.Option.{none-some, some_pair_parts}
-use Rattle.ule_types.specs.Commands.{greatest_of, greatest_of_tick}
+use Rattle.ule_types.specs.Commands.{greatest_of, is_command}
 use Rattle.ule_types.specs.declared.command.Command.{Command}
-use Rattle.ule_types.specs.declared.command.Command.TheVariants.{Tick, Time, Yield, Resched, Sleep, Wake}
 use Rattle.ule_types.specs.declared.event.Entry.{Entry}
 use Rattle.ule_types.specs.declared.event.Event.{Event}
-use Rattle.ule_types.specs.declared.event.Event.TheVariants as event
 use Rattle.ule_types.specs.declared.event.Item.{Item}
 use Rattle.ule_types.specs.declared.event.Item.TheVariants as item
 use Rattle.ule_types.specs.declared.event.Reply.{Reply}
-use Rattle.ule_types.specs.declared.event.Reply.TheVariants as reply
-use Rattle.ule_model.specs.Legal.{Follows, stays, advances, acts}
-use Rattle.ule_model.specs.Program.{Course, Progress, added, begun, event_of, following, items_of, next_in, next_item, next_step, or_else, stepped}
-use Rattle.ule_model.specs.Start.{starting_time}
+use Rattle.ule_types.specs.declared.stage.Stage.TheVariants as stage
+use Rattle.ule_model.specs.Events.{handling, sought_by}
+use Rattle.ule_model.specs.Legal.{Performs, Timed, acts, advances, amount_in, amount_of, stays}
+use Rattle.ule_model.specs.Program.{Course, Own, Stage, after_giving, begun, course_of, first_stage, in_hand, item_at, most_from, next_in, next_of, next_step, or_else, stage_after, stepped, told_last}
+use Rattle.ule_rounds.proofs.Stages.{FitsHand, IsSoundReply, IsSoundStage, advance_lowers, at_advance, at_event, ended_stage, first_charged, first_hand, first_sound, first_time, given_sound, given_stage, item_fits, item_time, reply_lowers, reply_sound, reply_time, time_at}
 
--- ---- one step more
+-- ---- where the next item is found
 
--- a worker's entries, and then time that goes on
-pub follows_advanced : {course end : Course} {amount total : ℕ} {es : List Entry} (k : ℕ) (after : Course) → Follows course amount es end total → next_step end ≡ Some (item.Advance k, after) → Follows course amount es after (total + k)
-follows_advanced k after (stays course amount) next =
-    advances course after after amount k (amount + k) [] next (stays after (amount + k))
-follows_advanced k after (advances course second end amount j total es first rest) next =
-    advances course second after amount j (total + k) es first (follows_advanced k after rest next)
-follows_advanced k after (acts course second end amount total e es first early rest) next =
-    acts course second after amount (total + k) e es first early (follows_advanced k after rest next)
+-- a worker's own part once it is told of its last event
+abbrev pub told_at : Course → Own
+told_at course = told_last course.last course.own
 
--- a worker's entries, and then one more
-pub follows_acted : {course end : Course} {amount total : ℕ} {es : List Entry} (e : Entry) (after : Course) → Follows course amount es end total → next_step end ≡ Some (item.Event e.event, after) → starting_time + total ≤ e.now → Follows course amount (es ++ e ∷ []) (record after { last = Some (e.reply, e.now) }) total
-follows_acted e after (stays course amount) next late =
-    acts course after (record after { last = Some (e.reply, e.now) }) amount amount e [] next late (stays (record after { last = Some (e.reply, e.now) }) amount)
-follows_acted e after (advances course second end amount j total es first rest) next late =
-    advances course second (record after { last = Some (e.reply, e.now) }) amount j total (es ++ e ∷ []) first (follows_acted e after rest next late)
-follows_acted e after (acts course second end amount total x es first early rest) next late =
-    acts course second (record after { last = Some (e.reply, e.now) }) amount total x (es ++ e ∷ []) first early (follows_acted e after rest next late)
+-- a worker's own part once the item at its stage is given
+abbrev pub given : Own → Own
+given own = record own { stage = after_giving own.stage }
 
--- ---- the items that are left
+-- the next item of the commands not begun, and before them of the stage that a worker is at
+abbrev pub next_from : List Command → Own → Option (Item × Course)
+next_from [] own = stepped [] (item_at own.worker own.stage) (given own)
+next_from (c ∷ cs) own = or_else (stepped (c ∷ cs) (item_at own.worker own.stage) (given own)) (next_from cs (begun c own))
 
--- the greatest number of items that the reply to an event adds
-abbrev pub most_after : Event → ℕ
-most_after (event.Drop c channel) = 1
-most_after (event.Wake t) = 1
-most_after _ = 0
+-- the next item of a program is found from where its worker stands once it is told
+pub next_in_is : (script : List Command) (own : Own) (last : Option (Reply × ℕ)) → next_in script own last ≡ next_from script (told_last last own)
+unfolding next_in
+next_in_is [] own last = refl
+next_in_is (c ∷ cs) own last =
+    ap (or_else (stepped (c ∷ cs) (next_of last own).0 (next_of last own).1)) (next_in_is cs (begun c (next_of last own).1) None)
 
--- an item, with the items that its reply may add
-abbrev pub weight_of : Item → ℕ
-weight_of (item.Event e) = 1 + most_after e
-weight_of (item.Advance k) = 1
+-- what holds of the commands not begun and of a worker's own part still holds when it begins the next command
+abbrev pub KeptAtBegin : (List Command → Own → Type 0) → Type 0
+KeptAtBegin P =
+    (c : Command) (cs : List Command) (own : Own) → item_at own.worker own.stage ≡ None → P (c ∷ cs) own → P cs (begun c own)
 
--- the items that a reply which has not come may add
-abbrev pub pending : Option Event → Option (Reply × ℕ) → ℕ
-pending None last = 0
-pending (Some e) None = most_after e
-pending (Some e) (Some told) = 0
+-- a program's next item, with the commands not begun and the worker's own part where it was found
+pub record IsFound (P : List Command → Own → Type 0) (i : Item) (after : Course) : Type 0 where
+  pub script : List Command
+  pub own : Own
+  pub holds : P script own
+  pub item : item_at own.worker own.stage ≡ Some i
+  pub gone : after ≡ course_of (given own) script
 
--- the greatest number of items of a script
+-- a next item is found where what holds of the worker is kept
+pub found_from : (P : List Command → Own → Type 0) → KeptAtBegin P → (script : List Command) (own : Own) (i : Item) (after : Course) → P script own →
+    next_from script own ≡ Some (i, after) → IsFound P i after
+found_from P kept [] own i after holds next = at_item (item_at own.worker own.stage) refl next
+  where
+    at_item : (o : Option Item) → item_at own.worker own.stage ≡ o → stepped [] o (given own) ≡ Some (i, after) → IsFound P i after
+    at_item None is none = absurd (none-some (i, after) none)
+    at_item (Some j) is some =
+        let parts = some_pair_parts j i (course_of (given own) []) after some in
+        record { script = []; own = own; holds = holds; item = is ∙ ap (λ (k : Item). Some k) parts.0; gone = sym parts.1 }
+found_from P kept (c ∷ cs) own i after holds next = at_item (item_at own.worker own.stage) refl next (found_from P kept cs (begun c own) i after)
+  where
+    at_item : (o : Option Item) → item_at own.worker own.stage ≡ o → or_else (stepped (c ∷ cs) o (given own)) (next_from cs (begun c own)) ≡ Some (i, after) →
+        (P cs (begun c own) → next_from cs (begun c own) ≡ Some (i, after) → IsFound P i after) → IsFound P i after
+    at_item None is some further = further (kept c cs own is holds) some
+    at_item (Some j) is some further =
+        let parts = some_pair_parts j i (course_of (given own) (c ∷ cs)) after some in
+        record { script = c ∷ cs; own = own; holds = holds; item = is ∙ ap (λ (k : Item). Some k) parts.0; gone = sym parts.1 }
+
+-- the next item of a course is found from where its worker stands once it is told
+pub next_found : (P : List Command → Own → Type 0) → KeptAtBegin P → (course : Course) (i : Item) (after : Course) → P course.script (told_at course) →
+    next_step course ≡ Some (i, after) → IsFound P i after
+next_found P kept course i after holds next =
+    found_from P kept course.script (told_at course) i after holds (sym (next_in_is course.script course.own course.last) ∙ next)
+
+-- a worker without a next item has no command left and stands at the end of the last
+pub record IsAtEnd (P : List Command → Own → Type 0) : Type 0 where
+  pub own : Own
+  pub holds : P [] own
+  pub ended : own.stage ≡ stage.Ended
+
+-- where there is no next item, the commands have run out
+pub ended_from : (P : List Command → Own → Type 0) → KeptAtBegin P → (script : List Command) (own : Own) → P script own → next_from script own ≡ None → IsAtEnd P
+ended_from P kept [] own holds next = at_item (item_at own.worker own.stage) refl next
+  where
+    at_item : (o : Option Item) → item_at own.worker own.stage ≡ o → stepped [] o (given own) ≡ None → IsAtEnd P
+    at_item None is none = record { own = own; holds = holds; ended = ended_stage own.worker own.stage is }
+    at_item (Some j) is some = absurd (none-some (j, course_of (given own) []) (sym some))
+ended_from P kept (c ∷ cs) own holds next = at_item (item_at own.worker own.stage) refl next (ended_from P kept cs (begun c own))
+  where
+    at_item : (o : Option Item) → item_at own.worker own.stage ≡ o → or_else (stepped (c ∷ cs) o (given own)) (next_from cs (begun c own)) ≡ None →
+        (P cs (begun c own) → next_from cs (begun c own) ≡ None → IsAtEnd P) → IsAtEnd P
+    at_item None is none further = further (kept c cs own is holds) none
+    at_item (Some j) is some further = absurd (none-some (j, course_of (given own) (c ∷ cs)) (sym some))
+
+-- a worker at a stage with an item has a next item
+pub item_goes_on : (script : List Command) (own : Own) (i : Item) → item_at own.worker own.stage ≡ Some i → next_from script own ≡ Some (i, course_of (given own) script)
+item_goes_on [] own i is = ap (λ o. stepped [] o (given own)) is
+item_goes_on (c ∷ cs) own i is = ap (λ o. or_else (stepped (c ∷ cs) o (given own)) (next_from cs (begun c own))) is
+
+-- ---- the items and the time that are left
+
+-- the greatest number of items of some commands
 abbrev pub greatest_in : ℕ → ℕ → List Command → ℕ
 greatest_in cpus worker script = sum_by (λ c. greatest_of c worker cpus) script
 
--- the greatest number of items that a worker within a script still has
-abbrev pub left_at : ℕ → List Command → Progress → Option (Reply × ℕ) → ℕ
-left_at cpus script p last = pending p.given last + sum_by weight_of (added p.given last ++ p.todo) + greatest_in cpus p.worker script
+-- the greatest number of items that a worker still has
+abbrev pub left_from : ℕ → List Command → Own → ℕ
+left_from cpus script own = most_from own.stage + greatest_in cpus own.worker script
+
+-- the time that a worker still adds
+abbrev pub time_from : List Command → Own → ℕ
+time_from script own = time_at own.stage + amount_in script
 
 -- the greatest number of items that a course still has
 abbrev pub left_of : ℕ → Course → ℕ
-left_of cpus course = left_at cpus course.script course.progress course.last
+left_of cpus course = left_from cpus course.script (told_at course)
 
--- a reply adds no more items than the most
-pub following_within : (e : Event) (r : Reply) → sum_by weight_of (following e r) ≤ most_after e
-following_within (event.Drop c channel) (reply.Dropped out into) = omega arith
-following_within (event.Drop c channel) _ = omega arith
-following_within (event.Wake t) (reply.Woken p bound last last_run) = omega arith
-following_within (event.Wake t) _ = omega arith
-following_within _ r = omega arith
+-- the time that a course still adds
+abbrev pub time_of : Course → ℕ
+time_of course = time_from course.script (told_at course)
 
--- a tick has an item at least
-pub tick_within : (worker cpus : ℕ) → 1 ≤ greatest_of_tick worker cpus
-tick_within worker cpus =
-    cond_both ((worker == 0) && nat_lt 1 cpus) (1 + 2 * cpus) 1 (λ n. 1 ≤ n) (λ is. omega arith) (λ is. omega arith)
+-- ---- what a course keeps
 
--- a command's items are within its greatest number
-pub items_within : (worker cpus : ℕ) (c : Command) → sum_by weight_of (items_of worker c) ≤ greatest_of c worker cpus
-items_within worker cpus Tick = omega (arith, tick_within worker cpus)
-items_within worker cpus (Time k) = omega arith
-items_within worker cpus Yield = omega arith
-items_within worker cpus Resched = omega arith
-items_within worker cpus (Sleep channel) = omega arith
-items_within worker cpus (Wake t) = omega arith
-items_within worker cpus _ = omega arith
+-- the thread that the worker of a course has in hand
+abbrev pub held_at : Course → Option ℕ
+held_at course = in_hand (told_at course).stage
 
--- the item taken and those that its reply may add are those that it weighs
-pub weight_pending : (i : Item) → pending (event_of i) None + 1 ≡ weight_of i
-weight_pending (item.Event e) = omega arith
-weight_pending (item.Advance k) = omega arith
+-- a worker with valid commands before it and at a sound stage, with so many items and so much time left, and this hand
+pub record IsOrderly (ids : List ℕ) (cpus worker most amount : ℕ) (hand : Option ℕ) (script : List Command) (own : Own) : Type 0 where
+  pub worker_is : own.worker ≡ worker
+  pub valid : list_all (is_command ids cpus) script ≡ true
+  pub sound : IsSoundStage ids cpus own.stage
+  pub left : left_from cpus script own ≤ most
+  pub time : time_from script own ≡ amount
+  pub held : in_hand own.stage ≡ hand
 
--- the course after one of these items
-abbrev pub gone_on : List Command → ℕ → Item → List Item → Course
-gone_on script worker i is = record { script = script; progress = record { worker = worker; todo = is; given = event_of i }; last = None }
+-- a command that is begun keeps a worker orderly
+pub orderly_begun : (ids : List ℕ) (cpus worker most amount : ℕ) (hand : Option ℕ) → KeptAtBegin (IsOrderly ids cpus worker most amount hand)
+orderly_begun ids cpus worker most amount hand c cs own none orderly =
+    let ended = ended_stage own.worker own.stage none in
+    let few : most_from own.stage ≡ 0 = ap most_from ended in
+    let short : time_at own.stage ≡ 0 = ap time_at ended in
+    let parts = and_parts (is_command ids cpus c) (list_all (is_command ids cpus) cs) orderly.valid in
+    record {
+      worker_is = orderly.worker_is;
+      valid = parts.1;
+      sound = first_sound ids cpus c parts.0;
+      left = omega (arith, few, orderly.left, first_charged own.worker cpus c, sum_by-cons (λ d. greatest_of d own.worker cpus) c cs);
+      time = omega (arith, short, orderly.time, first_time c, sum_by-cons amount_of c cs);
+      held = first_hand c ∙ sym (ap in_hand ended) ∙ orderly.held;
+    }
 
--- the course after an item leaves fewer
-pub left_after : (cpus worker : ℕ) (script : List Command) (i : Item) (is : List Item) → left_of cpus (gone_on script worker i is) + 1 ≡ sum_by weight_of (i ∷ is) + greatest_in cpus worker script
-left_after cpus worker script (item.Event e) is = omega (arith, sum_by-cons weight_of (item.Event e) is)
-left_after cpus worker script (item.Advance k) is = omega (arith, sum_by-cons weight_of (item.Advance k) is)
+-- a course of a worker that is orderly once it is told
+abbrev pub HasOrder : List ℕ → ℕ → ℕ → Course → Type 0
+HasOrder ids cpus worker course = IsOrderly ids cpus worker (left_of cpus course) (time_of course) (held_at course) course.script (told_at course)
 
--- ---- the next item
+-- where the next item of an orderly course is found
+abbrev pub IsNext : List ℕ → ℕ → ℕ → Course → Item → Course → Type 0
+IsNext ids cpus worker course i after = IsFound (IsOrderly ids cpus worker (left_of cpus course) (time_of course) (held_at course)) i after
 
--- the next item of a script with these items of a command begun
-abbrev pub next_from : List Command → ℕ → List Item → Option (Item × Course)
-next_from [] worker [] = None
-next_from (c ∷ cs) worker [] = next_from cs worker (items_of worker c)
-next_from script worker (i ∷ is) = Some (i, gone_on script worker i is)
+-- the next item of an orderly course is found where the worker is orderly
+pub next_is : (ids : List ℕ) (cpus worker : ℕ) (course : Course) (i : Item) (after : Course) → HasOrder ids cpus worker course →
+    next_step course ≡ Some (i, after) → IsNext ids cpus worker course i after
+next_is ids cpus worker course i after orderly next =
+    next_found (IsOrderly ids cpus worker (left_of cpus course) (time_of course) (held_at course)) (orderly_begun ids cpus worker (left_of cpus course) (time_of course) (held_at course)) course i after orderly next
 
--- that of a program is one of the items that its last reply added, that are to come, or that commands begin with
-pub next_in_is : (script : List Command) (p : Progress) (last : Option (Reply × ℕ)) → next_in script p last ≡ next_from script p.worker (added p.given last ++ p.todo)
-unfolding next_in
-next_in_is [] p last = none_begun (added p.given last ++ p.todo)
+-- a course after another: it is orderly, with an item less, and so much time less
+pub record GoesOnAs (ids : List ℕ) (cpus worker k : ℕ) (course reached : Course) : Type 0 where
+  pub orderly : HasOrder ids cpus worker reached
+  pub left : left_of cpus reached + 1 ≤ left_of cpus course
+  pub time : k + time_of reached ≡ time_of course
+
+-- a course that is told the reply to its next event goes on
+pub course_told : (ids : List ℕ) (cpus worker : ℕ) (course : Course) (e : Event) (after : Course) (r : Reply) (now : ℕ)
+    (next : IsNext ids cpus worker course (item.Event e) after) → IsSoundReply cpus next.own.stage r →
+    GoesOnAs ids cpus worker 0 course (record after { last = Some (r, now) })
+course_told ids cpus worker course e after r now next sound =
+    subst (λ a. GoesOnAs ids cpus worker 0 course (record a { last = Some (r, now) })) (sym next.gone) (record {
+      orderly = record {
+        worker_is = next.holds.worker_is;
+        valid = next.holds.valid;
+        sound = subst (λ s. IsSoundStage ids cpus (stage_after r s)) (sym same) (reply_sound ids cpus r next.own.stage sound);
+        left = omega arith;
+        time = refl;
+        held = refl;
+      };
+      left = omega (arith, next.holds.left, lower);
+      time = omega (arith, next.holds.time, none, reply_time r (after_giving next.own.stage));
+    })
   where
-    none_begun : (items : List Item) → stepped [] (next_item items p).0 (next_item items p).1 ≡ next_from [] p.worker items
-    none_begun [] = refl
-    none_begun (i ∷ is) = refl
-next_in_is (c ∷ cs) p last = next_begun (added p.given last ++ p.todo) (next_in_is cs (record { worker = p.worker; todo = items_of p.worker c; given = None }) None)
+    same : after_giving next.own.stage ≡ next.own.stage
+    same = at_event (λ x. after_giving next.own.stage ≡ next.own.stage) (λ k. after_giving next.own.stage ≡ stage.Ended) next.own.worker next.own.stage e (given_stage next.own.worker next.own.stage) next.item
+
+    lower : most_from (stage_after r (after_giving next.own.stage)) + 1 ≤ most_from next.own.stage
+    lower = subst (λ s. most_from (stage_after r s) + 1 ≤ most_from next.own.stage) (sym same) (at_event (λ x. most_from (stage_after r next.own.stage) + 1 ≤ most_from next.own.stage) (λ k. Unit {0}) next.own.worker next.own.stage e (reply_lowers r next.own.worker next.own.stage) next.item)
+
+    none : time_at next.own.stage ≡ 0
+    none = at_event (λ x. time_at next.own.stage ≡ 0) (λ k. time_at next.own.stage ≡ k) next.own.worker next.own.stage e (item_time next.own.worker next.own.stage) next.item
+
+-- a course that has its next advance of time goes on
+pub course_advanced : (ids : List ℕ) (cpus worker k : ℕ) (course after : Course) → IsNext ids cpus worker course (item.Advance k) after →
+    GoesOnAs ids cpus worker k course after
+course_advanced ids cpus worker k course after next =
+    subst (λ a. GoesOnAs ids cpus worker k course a) (sym next.gone) (record {
+      orderly = record {
+        worker_is = next.holds.worker_is;
+        valid = next.holds.valid;
+        sound = given_sound ids cpus next.own.stage next.holds.sound;
+        left = omega arith;
+        time = refl;
+        held = refl;
+      };
+      left = omega (arith, next.holds.left, lower);
+      time = omega (arith, next.holds.time, own, none);
+    })
   where
-    next_begun : (items : List Item) → next_in cs (record { worker = p.worker; todo = items_of p.worker c; given = None }) None ≡ next_from cs p.worker (items_of p.worker c) → or_else (stepped (c ∷ cs) (next_item items p).0 (next_item items p).1) (next_in cs (begun c (next_item items p).1) None) ≡ next_from (c ∷ cs) p.worker items
-    next_begun [] rest = rest
-    next_begun (i ∷ is) rest = refl
+    same : after_giving next.own.stage ≡ stage.Ended
+    same = at_advance (λ x. after_giving next.own.stage ≡ next.own.stage) (λ k. after_giving next.own.stage ≡ stage.Ended) next.own.worker next.own.stage k (given_stage next.own.worker next.own.stage) next.item
 
--- each step within a script leaves fewer items
-pub left_from : (cpus worker : ℕ) (script : List Command) (items : List Item) (i : Item) (after : Course) → next_from script worker items ≡ Some (i, after) → left_of cpus after + 1 ≤ sum_by weight_of items + greatest_in cpus worker script
-left_from cpus worker [] [] i after next = absurd (none-some (i, after) next)
-left_from cpus worker (c ∷ cs) [] i after next =
-    omega (arith, left_from cpus worker cs (items_of worker c) i after next, items_within worker cpus c, sum_by-cons (λ d. greatest_of d worker cpus) c cs)
-left_from cpus worker script (j ∷ is) i after next =
-    let parts = some_pair_parts j i (gone_on script worker j is) after next in
-    subst (λ a. left_of cpus a + 1 ≤ sum_by weight_of (j ∷ is) + greatest_in cpus worker script) parts.1 (omega (arith, left_after cpus worker script j is))
+    lower : most_from (after_giving next.own.stage) + 1 ≤ most_from next.own.stage
+    lower = at_advance (λ x. Unit {0}) (λ k. most_from (after_giving next.own.stage) + 1 ≤ most_from next.own.stage) next.own.worker next.own.stage k (advance_lowers next.own.worker next.own.stage) next.item
 
--- each step leaves fewer items
-pub left_falls : (cpus : ℕ) (course after : Course) (i : Item) → next_step course ≡ Some (i, after) → left_of cpus after + 1 ≤ left_of cpus course
-left_falls cpus course after i next =
-    omega (arith, left_from cpus course.progress.worker course.script (added course.progress.given course.last ++ course.progress.todo) i after (sym (next_in_is course.script course.progress course.last) ∙ next))
+    none : time_at (after_giving next.own.stage) ≡ 0
+    none = ap time_at same
 
--- what the reply to an event adds was counted
-pub left_told : (cpus : ℕ) (script : List Command) (worker : ℕ) (e : Event) (is : List Item) (r : Reply) (now : ℕ) → left_of cpus (record (gone_on script worker (item.Event e) is) { last = Some (r, now) }) ≤ left_of cpus (gone_on script worker (item.Event e) is)
-left_told cpus script worker e is r now =
-    omega (arith, sum_by-append weight_of (following e r) is, following_within e r)
+    own : time_at next.own.stage ≡ k
+    own = at_advance (λ x. time_at next.own.stage ≡ 0) (λ j. time_at next.own.stage ≡ j) next.own.worker next.own.stage k (item_time next.own.worker next.own.stage) next.item
 
--- the course after an event is one after it, told nothing yet
-pub gone_on_from : (script : List Command) (worker : ℕ) (items : List Item) (i : Item) (after : Course) → next_from script worker items ≡ Some (i, after) → (rest : List Command) × (is : List Item) × (after ≡ gone_on rest worker i is)
-gone_on_from [] worker [] i after next = absurd (none-some (i, after) next)
-gone_on_from (c ∷ cs) worker [] i after next = gone_on_from cs worker (items_of worker c) i after next
-gone_on_from script worker (j ∷ is) i after next =
-    let parts = some_pair_parts j i (gone_on script worker j is) after next in
-    (script, is, sym parts.1 ∙ ap (λ k. gone_on script worker k is) parts.0)
+-- a course without a next item adds no time
+pub ended_time : (ids : List ℕ) (cpus worker : ℕ) (course : Course) → HasOrder ids cpus worker course → next_step course ≡ None → time_of course ≡ 0
+ended_time ids cpus worker course orderly none =
+    let end = ended_from (IsOrderly ids cpus worker (left_of cpus course) (time_of course) (held_at course)) (orderly_begun ids cpus worker (left_of cpus course) (time_of course) (held_at course)) course.script (told_at course) orderly
+    (sym (next_in_is course.script course.own course.last) ∙ none) in
+    let short : time_at end.own.stage ≡ 0 = ap time_at end.ended in
+    omega (arith, end.holds.time, short)
 
--- an event and its reply leave fewer items
-pub left_falls_told : (cpus : ℕ) (course after : Course) (e : Event) (r : Reply) (now : ℕ) → next_step course ≡ Some (item.Event e, after) → left_of cpus (record after { last = Some (r, now) }) + 1 ≤ left_of cpus course
-left_falls_told cpus course after e r now next =
-    let from : next_from course.script course.progress.worker (added course.progress.given course.last ++ course.progress.todo) ≡ Some (item.Event e, after) = sym (next_in_is course.script course.progress course.last) ∙ next in
-    let gone = gone_on_from course.script course.progress.worker (added course.progress.given course.last ++ course.progress.todo) (item.Event e) after from in
-    let told : left_of cpus (record after { last = Some (r, now) }) ≤ left_of cpus after =
-    subst (λ a. left_of cpus (record a { last = Some (r, now) }) ≤ left_of cpus a) (sym gone.2) (left_told cpus gone.0 course.progress.worker e gone.1 r now) in
-    omega (arith, told, left_falls cpus course after (item.Event e) next)
+-- ---- the hand
+
+-- a course that is told a reply has in hand what the reply's stage says
+pub held_told : (ids : List ℕ) (cpus worker : ℕ) (course : Course) (e : Event) (after : Course) (r : Reply) (now : ℕ)
+    (next : IsNext ids cpus worker course (item.Event e) after) → held_at (record after { last = Some (r, now) }) ≡ in_hand (stage_after r next.own.stage)
+held_told ids cpus worker course e after r now next =
+    ap (λ (a : Course). held_at (record a { last = Some (r, now) })) next.gone ∙
+    ap (λ s. in_hand (stage_after r s)) (at_event (λ x. after_giving next.own.stage ≡ next.own.stage) (λ k. after_giving next.own.stage ≡ stage.Ended) next.own.worker next.own.stage e (given_stage next.own.worker next.own.stage) next.item)
+
+-- a course that has its advance of time has the hand that it had
+pub held_advanced : (ids : List ℕ) (cpus worker k : ℕ) (course after : Course) → IsNext ids cpus worker course (item.Advance k) after → held_at after ≡ held_at course
+held_advanced ids cpus worker k course after next =
+    ap held_at next.gone ∙
+    ap in_hand (at_advance (λ x. after_giving next.own.stage ≡ next.own.stage) (λ j. after_giving next.own.stage ≡ stage.Ended) next.own.worker next.own.stage k (given_stage next.own.worker next.own.stage) next.item) ∙
+    sym (at_advance (λ e. FitsHand (in_hand next.own.stage) (handling e) × IfSome (in_hand next.own.stage) (λ t. sought_by e ≡ None)) (λ j. in_hand next.own.stage ≡ None) next.own.worker next.own.stage k (item_fits next.own.worker next.own.stage) next.item) ∙
+    next.holds.held
+
+-- a course that has a thread in hand has a next item
+pub held_goes_on : (t : ℕ) (course : Course) → held_at course ≡ Some t → next_step course ≡ None → ⊥
+held_goes_on t course held none = at_item (item_at (told_at course).worker (told_at course).stage) refl
+  where
+    from : next_from course.script (told_at course) ≡ None
+    from = sym (next_in_is course.script course.own course.last) ∙ none
+
+    at_item : (o : Option Item) → item_at (told_at course).worker (told_at course).stage ≡ o → ⊥
+    at_item None is = none-some t (sym (ap in_hand (ended_stage (told_at course).worker (told_at course).stage is)) ∙ held)
+    at_item (Some i) is = none-some (i, course_of (given (told_at course)) course.script) (sym from ∙ item_goes_on course.script (told_at course) i is)
+
+-- ---- a worker's entries, one step more
+
+-- a worker's entries, and then time that goes on
+pub performs_advanced : {course end : Course} {amount total : ℕ} {es : List Timed} (k : ℕ) (after : Course) → Performs course amount es end total →
+    next_step end ≡ Some (item.Advance k, after) → Performs course amount es after (total + k)
+performs_advanced k after (stays course amount) next =
+    advances course after after amount k (amount + k) [] next (stays after (amount + k))
+performs_advanced k after (advances course second end amount j total es first rest) next =
+    advances course second after amount j (total + k) es first (performs_advanced k after rest next)
+performs_advanced k after (acts course second end amount total e es first rest) next =
+    acts course second after amount (total + k) e es first (performs_advanced k after rest next)
+
+-- a worker's entries, and then one more
+pub performs_acted : {course end : Course} {amount total : ℕ} {es : List Timed} (e : Entry) (after : Course) → Performs course amount es end total →
+    next_step end ≡ Some (item.Event e.event, after) →
+    Performs course amount (es ++ record { entry = e; amount = total } ∷ []) (record after { last = Some (e.reply, e.now) }) total
+performs_acted e after (stays course amount) next =
+    acts course after (record after { last = Some (e.reply, e.now) }) amount amount e [] next (stays (record after { last = Some (e.reply, e.now) }) amount)
+performs_acted e after (advances course second end amount j total es first rest) next =
+    advances course second (record after { last = Some (e.reply, e.now) }) amount j total (es ++ record { entry = e; amount = total } ∷ []) first (performs_acted e after rest next)
+performs_acted e after (acts course second end amount total x es first rest) next =
+    acts course second (record after { last = Some (e.reply, e.now) }) amount total x (es ++ record { entry = e; amount = total } ∷ []) first (performs_acted e after rest next)

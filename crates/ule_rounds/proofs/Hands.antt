@@ -1,270 +1,201 @@
--- What each event does to the threads in hands.
-use Rattle.std.proofs.Common.{◌≡◌, ◌≢◌, ℕ, ℤ, pos, Bool, true, false, List, [], ◌∷◌, filter, Option, Some, None, inl, inr, if◌then◌else◌, option_and_then, refl, sym, ◌∙◌, ap, subst, ⊎_elim}
+-- The threads in hands: each worker has in hand the thread that its program says.
+use Rattle.std.proofs.Common.{◌≡◌, ◌≢◌, ℕ, ◌<◌, ◌==◌, ◌&&◌, Bool, true, false, List, [], ◌∷◌, slice_get, slice_set, is_some, Option, Some, None, IfSome, IsSome, if◌then◌else◌, option_and_then, refl, sym, ◌∙◌, ap, subst, ⊎_elim, eq-eqb}
+use Rattle.std.specs.List.{find}
 use Rattle.std.specs.Option.{option_map}
-use Rattle.std.proofs.lemmas.Bool.{cases_eq, cond_both, false≢true}
-use Rattle.std.proofs.lemmas.Option.{none-some, same_Some}
+use Rattle.std.proofs.lemmas.Bool.{and_parts, cases_eq, cond_both, eqb-true, false≢true, true≢false}
+use Rattle.std.proofs.lemmas.Option.{none-some, same_Some, slice_get_within}
 use Rattle.ule_score.specs.declared.place.Place.{Place}
 use Rattle.ule_score.specs.declared.place.Place.TheVariants.{Running, Queued, Asleep, Unborn, Gone, Hand}
-use Rattle.ule_score.specs.declared.record.Settings.{Settings}
-use Rattle.ule_score.specs.declared.record.ThreadRecord.{ThreadRecord}
-use Rattle.ule_score.specs.declared.record.Why.{Why}
 use Rattle.ule_types.specs.declared.event.Event.{Event}
 use Rattle.ule_types.specs.declared.event.Event.TheVariants as event
-use Rattle.ule_types.specs.declared.event.Reply.TheVariants.{Unmarked}
-use Rattle.ule_model.specs.Choice.{choice_of, comes_before, least, sooner, turn_of}
-use Rattle.ule_model.specs.declared.insertion.Insertion.{Insertion}
-use Rattle.ule_model.specs.Insertion.{order_of_insertion, place_of_insertion, queued, with_queued}
-use Rattle.ule_model.specs.declared.insertion.Insertion.TheVariants.{Ordinary}
-use Rattle.ule_model.specs.Landing.{landed, landed_with, placed_on}
-use Rattle.ule_model.specs.Places.{hand_of, runs_on, waits_on}
-use Rattle.ule_model.specs.Program.{following}
-use Rattle.ule_model.specs.Sleep.{after_sleep, bedded, before_sleep, dropped, dropped_with, taken, woken, woken_at, woken_with}
-use Rattle.ule_model.specs.Step.{holder_of, step}
-use Rattle.ule_model.specs.Switch.{after_running, before_running, choosing_next, counted, given_way, insertion_of, is_preemption, is_unasked, running_chosen, switched, switched_from, unmarked}
-use Rattle.ule_model.specs.Tick.{after_tick, clocked, is_due, load_of, ticked, ticked_with}
-use Rattle.ule_model.specs.World.{Member, Side, World, current_of, moved_to, side_of, thread_of, with_record}
-use Rattle.ule_members.proofs.Membership.{Has, has_filtered, has_thread_of}
-use Rattle.ule_rounds.proofs.Numbers.{placed, recorded, found_again, found_by_number, thread_of-change, thread_of-change_other}
-use Rattle.ule_rounds.proofs.Orderly.{put_by, put_by_first}
-use Rattle.ule_rounds.proofs.StepKeeps.{AreDistinct, distinct_kept, given_way_keeps, taken_keeps}
-use Rattle.ule_members.proofs.RecordLaws.{after_sleep_id, after_tick_id}
+use Rattle.ule_types.specs.declared.event.Item.TheVariants as item
+use Rattle.ule_types.specs.declared.stage.Stage.TheVariants as stage
+use Rattle.ule_model.specs.Conditions.{HasEmptyHand, IsHandled, IsPossible}
+use Rattle.ule_model.specs.Events.{Handling, any, empty, has, has_handled, holder_of, is_no_others, is_own, unborn}
+use Rattle.ule_model.specs.Frames.{thread_in_hand}
+use Rattle.ule_model.specs.Places.{hand_of, is_hand_of, is_number}
+use Rattle.ule_model.specs.Program.{Course, Stage, in_hand, item_at, stage_after}
+use Rattle.ule_model.specs.Sleep.{dropped_with, woken_at, woken_with}
+use Rattle.ule_model.specs.Step.{step}
+use Rattle.ule_model.specs.WellMade.{IsWellMade, IsWellMadeWorld}
+use Rattle.ule_model.specs.Words.{change_of}
+use Rattle.ule_model.specs.World.{Member, Side, World, current_of, is_thread, side_of, thread_of}
+use Rattle.ule_members.proofs.Lists.{slice_get-set_other, slice_get-set_same}
+use Rattle.ule_members.proofs.Threads.{thread_of_within, within_current}
+use Rattle.ule_members.proofs.Within.{found_at, within_found}
+use Rattle.ule_rounds.proofs.Courses.{held_at}
+use Rattle.ule_rounds.proofs.Owed.{held_member, in_hand_after, step_in_hand, step_own_hand, taken_member, taken_record}
+use Rattle.ule_rounds.proofs.Stages.{AtItem, FitsHand, at_event}
 
--- ---- one thread changed
+-- ---- look-ups in a hand
 
--- the same threads are in the same hands
-abbrev pub SameHands : List Member → List Member → Type 0
-SameHands old new = (u : ℕ) → holder_of new u ≡ holder_of old u
+-- an optional number that passes the test of a number is that number
+pub number_is : (n : ℕ) (o : Option ℕ) → is_number n o ≡ true → o ≡ Some n
+number_is n None is = absurd (false≢true is)
+number_is n (Some m) is = ap (λ (v : ℕ). Some v) (sym (eqb-true n m is))
 
--- each thread but one is in the hand that it was in
-abbrev pub SameOtherHands : ℕ → List Member → List Member → Type 0
-SameOtherHands t old new = (u : ℕ) → u ≢ t → holder_of new u ≡ holder_of old u
-
--- the hand that a found thread is in
-abbrev pub hand_in : Option Member → Option ℕ
-hand_in o = option_and_then (λ (m : Member). hand_of m.place) o
-
--- a thread whose record changes stays in its hand
-pub record_hands : (t : ℕ) (change : ThreadRecord → ThreadRecord) (ms : List Member) → ((r : ThreadRecord) → (change r).id ≡ r.id) → SameHands ms (with_record t change ms)
-record_hands t change ms leaves u =
-    ⊎_elim
-    (λ (same : u ≡ t). ap (λ v. holder_of (with_record t change ms) v) same ∙ own ∙ ap (holder_of ms) (sym same))
-    (λ (other : u ≡ t → ⊥). ap hand_in (thread_of-change_other u t (recorded change) ms (λ m. leaves m.thread) other))
-    (cases_eq u t)
+-- a thread whose place is a worker's hand is found there
+pub held_found : (h t : ℕ) (ms : List Member) → holder_of ms t ≡ Some h → is_some (thread_in_hand h t ms) ≡ true
+held_found h t [] held = absurd (none-some h held)
+held_found h t (m ∷ ms) held = step (is_thread t m) refl held (held_found h t ms)
   where
-    mapped : (o : Option Member) → hand_in (option_map (recorded change) o) ≡ hand_in o
-    mapped None = refl
-    mapped (Some m) = refl
+    step : (b : Bool) → is_thread t m ≡ b → option_and_then (λ (x : Member). hand_of x.place) (if b then Some m else thread_of t ms) ≡ Some h →
+        (holder_of ms t ≡ Some h → is_some (thread_in_hand h t ms) ≡ true) →
+        is_some (if b && is_hand_of h m.place then Some m else thread_in_hand h t ms) ≡ true
+    step true is here rest =
+        let own : is_hand_of h m.place ≡ true = ap (is_number h) here ∙ eq-eqb h h refl in
+        ap (λ c. is_some (if c then Some m else thread_in_hand h t ms)) own
+    step false is further rest = rest further
 
-    own : holder_of (with_record t change ms) t ≡ holder_of ms t
-    own = ap hand_in (thread_of-change t (recorded change) ms (λ m. leaves m.thread)) ∙ mapped (thread_of t ms)
-
--- a thread that is moved is in the hand that it was moved to
-pub moved_hand : (t : ℕ) (place : Place) (order : ℤ) (m : Member) (ms : List Member) → thread_of t ms ≡ Some m → holder_of (moved_to t place order ms) t ≡ hand_of place
-moved_hand t place order m ms found =
-    ap hand_in
-    (thread_of-change t (placed place order) ms (λ m. refl) ∙ ap (option_map (placed place order)) found)
-
--- a thread that is moved to no hand is in none
-pub moved_off : (t : ℕ) (place : Place) (order : ℤ) (ms : List Member) → hand_of place ≡ None → holder_of (moved_to t place order ms) t ≡ None
-moved_off t place order ms off =
-    ap hand_in (thread_of-change t (placed place order) ms (λ m. refl)) ∙ mapped (thread_of t ms)
+-- a thread that is found in a worker's hand is there, where no two threads have one number
+pub found_held : (h t : ℕ) (ms : List Member) → IsWellMade ms → is_some (thread_in_hand h t ms) ≡ true → holder_of ms t ≡ Some h
+found_held h t ms made found = at_found (thread_in_hand h t ms) refl found
   where
-    mapped : (o : Option Member) → hand_in (option_map (placed place order) o) ≡ None
-    mapped None = refl
-    mapped (Some m) = off
+    at_found : (o : Option Member) → thread_in_hand h t ms ≡ o → is_some o ≡ true → holder_of ms t ≡ Some h
+    at_found None is some = absurd (false≢true some)
+    at_found (Some m) is some =
+        let test = λ (n : Member). is_thread t n && is_hand_of h n.place in
+        let both = and_parts (is_thread t m) (is_hand_of h m.place) (found_at test ms m is).passes in
+        let by_number : thread_of m.thread.id ms ≡ Some m = thread_of_within m.thread.id m ms (within_found test ms m made is) in
+        ap (holder_of ms) (sym (eqb-true m.thread.id t both.0)) ∙ ap (option_and_then (λ (x : Member). hand_of x.place)) by_number ∙
+        number_is h (hand_of m.place) both.1
 
--- every other stays where it was
-pub moved_others : (t : ℕ) (place : Place) (order : ℤ) (ms : List Member) → SameOtherHands t ms (moved_to t place order ms)
-moved_others t place order ms u other =
-    ap hand_in (thread_of-change_other u t (placed place order) ms (λ m. refl) other)
+-- ---- the event of a stage
 
--- where the one was in no hand and isn't either, all are in the hands that they were in
-pub same_hands_from : (t : ℕ) (old new : List Member) → SameOtherHands t old new → holder_of old t ≡ None → holder_of new t ≡ None → SameHands old new
-same_hands_from t old new others was is u =
-    ⊎_elim (λ (same : u ≡ t). ap (holder_of new) same ∙ is ∙ sym was ∙ ap (holder_of old) (sym same)) (λ (other : u ≡ t → ⊥). others u other) (cases_eq u t)
-
--- ---- queues
-
--- a thread that runs is in no hand
-pub running_hand : (c : ℕ) (place : Place) → runs_on c place ≡ true → hand_of place ≡ None
-running_hand c (Running d) runs = refl
-running_hand c (Hand w) runs = absurd (false≢true runs)
-running_hand c _ runs = refl
-
--- a thread that is queued is in no hand
-pub waiting_hand : (c : ℕ) (place : Place) → waits_on c place ≡ true → hand_of place ≡ None
-waiting_hand c (Queued d k b) waits = refl
-waiting_hand c (Hand w) waits = absurd (false≢true waits)
-waiting_hand c _ waits = refl
-
--- an insertion moves one thread, and to no hand
-pub queued_hands : (how : Insertion) (c t : ℕ) (s : Side) → SameOtherHands t s.members (queued how c t s).members × (holder_of (queued how c t s).members t ≡ None)
-queued_hands how c t s = at_thread (thread_of t s.members) refl
+-- a thread that is taken is the one that is found in the hand
+found_taken : (u t : ℕ) (taken old : Option Member) → is_some taken ≡ true → is_some old ≡ false → is_some (if u == t then taken else old) ≡ (u == t)
+found_taken u t taken old some none = by_test (u == t)
   where
-    moved : Member → List Member
-    moved m = moved_to m.thread.id (place_of_insertion how c s.line m.thread.priority) (order_of_insertion how c s.line m.thread.priority s.members) s.members
+    by_test : (b : Bool) → is_some (if b then taken else old) ≡ b
+    by_test true = some
+    by_test false = none
 
-    at_number : (m : Member) (u : ℕ) → m.thread.id ≡ u → SameOtherHands u s.members (moved m) × (holder_of (moved m) u ≡ None)
-    at_number m u is =
-        subst (λ v. SameOtherHands v s.members (moved m) × (holder_of (moved m) v ≡ None)) is
-        (moved_others m.thread.id (place_of_insertion how c s.line m.thread.priority) (order_of_insertion how c s.line m.thread.priority s.members) s.members, moved_off m.thread.id (place_of_insertion how c s.line m.thread.priority) (order_of_insertion how c s.line m.thread.priority s.members) s.members refl)
-
-    at_thread : (o : Option Member) → thread_of t s.members ≡ o → SameOtherHands t s.members (with_queued how c o s).members × (holder_of (with_queued how c o s).members t ≡ None)
-    at_thread None none = ((λ u other. refl), ap hand_in none)
-    at_thread (Some m) found = at_number m t (has_thread_of t m s.members found).1
-
--- the thread whose turn comes first is one of them
-pub least_has : (ridx : ℕ) (m : Member) (ms : List Member) → least ridx ms ≡ Some m → Has m ms
-least_has ridx m [] found = absurd (none-some m found)
-least_has ridx m (x ∷ xs) found = at_least (least ridx xs) (λ n is. least_has ridx n xs is) (same_Some (sooner ridx x (least ridx xs)) m found)
+-- a thread that is put down is found in the hand no longer
+found_put : (u t : ℕ) (old : Option Member) → is_some old ≡ (u == t) → is_some (if u == t then None else old) ≡ false
+found_put u t old was = by_test (u == t) was
   where
-    at_least : (o : Option Member) → ((n : Member) → o ≡ Some n → Has n xs) → sooner ridx x o ≡ m → Has m (x ∷ xs)
-    at_least None rest is = inl is
-    at_least (Some n) rest is =
-        cond_both (comes_before (turn_of ridx n) (turn_of ridx x)) n x (λ z. z ≡ m → Has m (x ∷ xs))
-        (λ sooner same. inr (subst (λ z. Has z xs) same (rest n refl))) (λ later same. inl same) is
+    by_test : (b : Bool) → is_some old ≡ b → is_some (if b then None else old) ≡ false
+    by_test true was = refl
+    by_test false was = was
 
--- the choice is one of the queued threads
-pub choice_stands : (c ridx : ℕ) (m : Member) (ms : List Member) → choice_of c ridx ms ≡ Some m → Has m ms × (waits_on c m.place ≡ true)
-choice_stands c ridx m ms found =
-    has_filtered (λ n. waits_on c n.place) m ms (least_has ridx m (filter (λ n. waits_on c n.place) ms) found)
+-- the worker's hand after the step of an event, by look-up, is the one that the stage after the reply says
+abbrev pub FollowsHand : World → ℕ → ℕ → Stage → Event → Type 0
+FollowsHand w worker now st e =
+    (u : ℕ) (old : Option Member) → is_some old ≡ is_number u (in_hand st) →
+    is_some (in_hand_after w worker e now (change_of e (step w worker e now).1) u old) ≡ is_number u (in_hand (stage_after (step w worker e now).1 st))
 
--- the choice of the next thread changes no hand
-pub choosing_hands : (c now : ℕ) (s : Side) → AreDistinct s.members → SameHands s.members (choosing_next c now s).0.members
-choosing_hands c now s distinct = at_choice (choice_of c s.line.ridx s.members) refl
+-- a thread that stands in the world can be taken
+taken_some : (w : World) (worker now : ℕ) (e : Event) (t : ℕ) (m : Member) → thread_of t w.members ≡ Some m → is_some (taken_member w worker e now t) ≡ true
+taken_some w worker now e t m found =
+    ap (λ o. is_some (option_map (λ (n : Member). held_member worker (taken_record w.settings now e n.thread)) o)) found
+
+-- after a drop the thread that left is in the hand
+drop_follows : (w : World) (worker channel now : ℕ) → IsWellMade w.members → FollowsHand w worker now (stage.Drops channel) (event.Drop worker channel)
+drop_follows w worker channel now made u old was = at_current (current_of worker w.members) refl
   where
-    at_choice : (o : Option Member) → choice_of c s.line.ridx s.members ≡ o → SameHands s.members (running_chosen c now o s).0.members
-    at_choice None none u = refl
-    at_choice (Some m) chosen u =
-        let stands = choice_stands c s.line.ridx m s.members chosen in
-        let free : holder_of s.members m.thread.id ≡ None = ap hand_in (found_by_number m s.members distinct stands.0) ∙ waiting_hand c m.place stands.1 in
-        let moved : List Member = moved_to m.thread.id (Running c) (pos 0) s.members in
-        record_hands m.thread.id (before_running now) moved (λ r. refl) u ∙
-        same_hands_from m.thread.id s.members moved (moved_others m.thread.id (Running c) (pos 0) s.members) free (moved_off m.thread.id (Running c) (pos 0) s.members refl) u
+    e : Event
+    e = event.Drop worker channel
 
--- ---- the current thread
-
--- the current thread is found by its number, and is in no hand
-pub current_free : (c : ℕ) (m : Member) (ms : List Member) → AreDistinct ms → current_of c ms ≡ Some m → (thread_of m.thread.id ms ≡ Some m) × (holder_of ms m.thread.id ≡ None)
-current_free c m ms distinct found =
-    let again = found_again (λ n. runs_on c n.place) m ms distinct found in
-    (again.0, ap hand_in again.0 ∙ running_hand c m.place again.1)
-
--- its giving way changes no hand
-pub given_way_hands : (c : ℕ) (preempted : Bool) (now : ℕ) (m : Member) (s : Side) → holder_of s.members m.thread.id ≡ None → SameHands s.members (given_way c preempted now m.thread.id s).members
-given_way_hands c preempted now m s free u =
-    let t = m.thread.id in
-    let noted : Side = counted (record s { members = with_record t (after_running now) s.members }) in
-    let hands = queued_hands (insertion_of preempted) c t noted in
-    let same : SameHands s.members noted.members = record_hands t (after_running now) s.members (λ r. refl) in
-    same_hands_from t noted.members (queued (insertion_of preempted) c t noted).members hands.0 (same t ∙ free) hands.1 u ∙ same u
-
--- ---- events
-
--- what an event does to the hands: nothing; or it fills the worker's with a thread that was in none;
--- or it takes a thread from one
-pub data HandsMove (worker : ℕ) (old new : List Member) (put gets : Option ℕ) : Type 0 where
-  stays : put ≡ None → gets ≡ None → SameHands old new → HandsMove worker old new put gets
-  fills : (t : ℕ) → put ≡ None → gets ≡ Some t → holder_of old t ≡ None → holder_of new t ≡ Some worker → SameOtherHands t old new →
-      HandsMove worker old new put gets
-  empties : (t : ℕ) → put ≡ Some t → gets ≡ None → holder_of new t ≡ None → SameOtherHands t old new →
-      HandsMove worker old new put gets
-
--- a tick does nothing
-pub ticked_hands : (c now : ℕ) (s : Side) → SameHands s.members (ticked c now s).0.members
-ticked_hands c now s = at_current (current_of c s.members)
-  where
-    at_current : (o : Option Member) → SameHands s.members (ticked_with o (load_of c s.members) (is_due c s.line.balance) now (clocked c s)).0.members
-    at_current None u = refl
-    at_current (Some m) u =
-        record_hands m.thread.id (λ r. (after_tick s.settings now (load_of c s.members) r).0) s.members (after_tick_id s.settings now (load_of c s.members)) u
-
--- a switch does nothing
-pub switched_hands : (c : ℕ) (why : Why) (now : ℕ) (s : Side) → AreDistinct s.members → SameHands s.members (switched c why now s).0.members
-switched_hands c why now s distinct = if_asked (is_unasked why s.line.resched)
-  where
-    preempted : Bool
-    preempted = is_preemption why s.line.slice_end
-
-    at_current : (o : Option Member) → current_of c s.members ≡ o → SameHands s.members (switched_from o c preempted now (unmarked s)).0.members
-    at_current None none u = choosing_hands c now (unmarked s) distinct u
-    at_current (Some m) found u =
-        let next : Side = given_way c preempted now m.thread.id (unmarked s) in
-        choosing_hands c now next (given_way_keeps s.settings now AreDistinct (distinct_kept s.settings now) c preempted m.thread.id (unmarked s) distinct) u ∙
-        given_way_hands c preempted now m (unmarked s) (current_free c m s.members distinct found).1 u
-
-    if_asked : (b : Bool) → SameHands s.members (if b then (s, Unmarked) else switched_from (current_of c s.members) c preempted now (unmarked s)).0.members
-    if_asked true u = refl
-    if_asked false u = at_current (current_of c s.members) refl u
-
--- a drop fills the hand with the current thread, if there is one
-pub dropped_hands : (c channel worker now : ℕ) (s : Side) → AreDistinct s.members → HandsMove worker s.members (dropped c worker now s).0.members None (put_by_first (following (event.Drop c channel) (dropped c worker now s).1))
-dropped_hands c channel worker now s distinct = at_current (current_of c s.members) refl
-  where
-    at_current : (o : Option Member) → current_of c s.members ≡ o → HandsMove worker s.members (dropped_with o c worker now s).0.members None (put_by_first (following (event.Drop c channel) (dropped_with o c worker now s).1))
-    at_current None none = stays refl refl (λ u. refl)
+    at_current : (o : Option Member) → current_of worker w.members ≡ o →
+        is_some (in_hand_after w worker e now (change_of e (dropped_with o worker worker now (side_of worker w)).1) u old) ≡
+        is_number u (in_hand (stage_after (dropped_with o worker worker now (side_of worker w)).1 (stage.Drops channel)))
+    at_current None none = was
     at_current (Some m) found =
-        let t = m.thread.id in
-        let next : Side = taken worker (before_sleep now) t s in
-        let noted : List Member = with_record t (before_sleep now) s.members in
-        let free = current_free c m s.members distinct found in
-        let same : SameHands s.members noted = record_hands t (before_sleep now) s.members (λ r. refl) in
-        let chosen : SameHands next.members (choosing_next c now next).0.members = choosing_hands c now next (taken_keeps s.settings now AreDistinct (distinct_kept s.settings now) worker t s distinct) in
-        fills t refl refl free.1
-        (chosen t ∙ moved_hand t (Hand worker) (pos 0) (recorded (before_sleep now) m) noted (thread_of-change t (recorded (before_sleep now)) s.members (λ n. refl) ∙ ap (option_map (recorded (before_sleep now))) free.0))
-        (λ u other. chosen u ∙ moved_others t (Hand worker) (pos 0) noted u other ∙ same u)
+        found_taken u m.thread.id (taken_member w worker e now m.thread.id) old
+        (taken_some w worker now e m.thread.id m (thread_of_within m.thread.id m w.members (within_current worker w.members m made found))) was
 
--- a bed empties it
-pub bedded_hands : (t channel worker : ℕ) (ms : List Member) → HandsMove worker ms (bedded t channel ms).0 (Some t) None
-bedded_hands t channel worker ms =
-    empties t refl refl (moved_off t (Asleep channel) (pos 0) ms refl) (moved_others t (Asleep channel) (pos 0) ms)
-
--- a landing empties it
-pub landed_hands : (t c worker : ℕ) (s : Side) → HandsMove worker s.members (landed t c worker s).0.members (Some t) None
-landed_hands t c worker s = at_thread (thread_of t s.members) refl
+-- after a wake the woken thread is in the hand
+wake_follows : (w : World) (worker t now : ℕ) → FollowsHand w worker now (stage.Wakes t) (event.Wake t)
+wake_follows w worker t now u old was = at_thread (thread_of t w.members) refl
   where
-    at_number : (m : Member) (u : ℕ) → m.thread.id ≡ u → HandsMove worker s.members (landed_with (Some m) c worker s).0.members (Some u) None
-    at_number m u is =
-        let noted : Side = record s { members = with_record m.thread.id (placed_on c) s.members } in
-        let hands = queued_hands Ordinary c m.thread.id noted in
-        subst (λ v. HandsMove worker s.members (landed_with (Some m) c worker s).0.members (Some v) None) is
-        (empties m.thread.id refl refl hands.1 (λ v other. hands.0 v other ∙ record_hands m.thread.id (placed_on c) s.members (λ r. refl) v))
+    e : Event
+    e = event.Wake t
 
-    at_thread : (o : Option Member) → thread_of t s.members ≡ o → HandsMove worker s.members (landed_with o c worker s).0.members (Some t) None
-    at_thread None none = empties t refl refl (ap hand_in none) (λ u other. refl)
-    at_thread (Some m) found = at_number m t (has_thread_of t m s.members found).1
+    at_place : (m : Member) → thread_of t w.members ≡ Some m → (place : Place) →
+        is_some (in_hand_after w worker e now (change_of e (woken_at place worker now w.settings m w.members).1) u old) ≡
+        is_number u (in_hand (stage_after (woken_at place worker now w.settings m w.members).1 (stage.Wakes t)))
+    at_place m found (Asleep channel) = found_taken u t (taken_member w worker e now t) old (taken_some w worker now e t m found) was
+    at_place m found (Running c) = was
+    at_place m found (Queued c k b) = was
+    at_place m found Unborn = was
+    at_place m found Gone = was
+    at_place m found (Hand h) = was
 
--- a wake fills it, if the thread sleeps
-pub woken_hands : (t worker now : ℕ) (settings : Settings) (ms : List Member) → HandsMove worker ms (woken t worker now settings ms).0 None (put_by_first (following (event.Wake t) (woken t worker now settings ms).1))
-woken_hands t worker now settings ms = at_thread (thread_of t ms) refl
+    at_thread : (o : Option Member) → thread_of t w.members ≡ o →
+        is_some (in_hand_after w worker e now (change_of e (woken_with o worker now w.settings w.members).1) u old) ≡
+        is_number u (in_hand (stage_after (woken_with o worker now w.settings w.members).1 (stage.Wakes t)))
+    at_thread None none = was
+    at_thread (Some m) found = at_place m found m.place
+
+-- the hand follows what the event at a stage and its reply did to it
+pub hand_follows : (w : World) (worker now : ℕ) (st : Stage) → IsWellMade w.members → AtItem worker st (FollowsHand w worker now st) (λ k. Unit {0})
+hand_follows w worker now stage.Ended made = tt
+hand_follows w worker now stage.Ticks made = λ u old was. was
+hand_follows w worker now (stage.Advances k) made = tt
+hand_follows w worker now (stage.Switches why) made = λ u old was. was
+hand_follows w worker now (stage.Drops channel) made = drop_follows w worker channel now made
+hand_follows w worker now (stage.Beds t channel) made = λ u old was. found_put u t old was
+hand_follows w worker now (stage.Wakes t) made = wake_follows w worker t now
+hand_follows w worker now (stage.Lands t c) made = λ u old was. found_put u t old was
+
+-- ---- all hands
+
+-- the thread that a worker has in hand
+abbrev pub hand_at : List Course → ℕ → Option ℕ
+hand_at courses worker = option_and_then held_at (slice_get courses worker)
+
+-- each worker has in hand the thread that its course says, and no other
+abbrev pub DoAgree : List Member → List Course → Type 0
+DoAgree ms courses = (h t : ℕ) → is_some (thread_in_hand h t ms) ≡ is_number t (hand_at courses h)
+
+-- hands and courses agree after one worker's hand and course change together
+pub agree_set : (courses : List Course) (worker : ℕ) (course reached : Course) (old new : List Member) → slice_get courses worker ≡ Some course →
+    DoAgree old courses → ((h t : ℕ) → h ≢ worker → is_some (thread_in_hand h t new) ≡ is_some (thread_in_hand h t old)) →
+    ((t : ℕ) → is_some (thread_in_hand worker t new) ≡ is_number t (held_at reached)) → DoAgree new (slice_set courses worker reached)
+agree_set courses worker course reached old new got agree others own h t =
+    ⊎_elim
+    (λ (same : h ≡ worker). subst (λ v. is_some (thread_in_hand v t new) ≡ is_number t (hand_at (slice_set courses worker reached) v)) (sym same)
+    (own t ∙ ap (λ o. is_number t (option_and_then held_at o)) (sym (slice_get-set_same courses worker reached (slice_get_within courses worker course got)))))
+    (λ (other : h ≡ worker → ⊥). others h t other ∙ agree h t ∙ ap (λ o. is_number t (option_and_then held_at o)) (sym (slice_get-set_other courses worker h reached other)))
+    (cases_eq h worker)
+
+-- hands and courses agree after the step of a worker's event
+pub agree_step : (w : World) (worker : ℕ) (e : Event) (now : ℕ) (courses : List Course) (course reached : Course) (st : Stage) → IsWellMadeWorld w →
+    IsPossible w worker e now → slice_get courses worker ≡ Some course → DoAgree w.members courses → hand_at courses worker ≡ in_hand st →
+    item_at worker st ≡ Some (item.Event e) → held_at reached ≡ in_hand (stage_after (step w worker e now).1 st) →
+    DoAgree (step w worker e now).0.members (slice_set courses worker reached)
+agree_step w worker e now courses course reached st made can got agree before at after =
+    agree_set courses worker course reached w.members (step w worker e now).0.members got agree
+    (λ h t other. ap (λ o. is_some o) (step_in_hand w worker e now made can h t other))
+    (λ t. ap (λ o. is_some o) (step_own_hand w worker e now made can t) ∙
+    at_event (FollowsHand w worker now st) (λ k. Unit {0}) worker st e (hand_follows w worker now st made.members) at t (thread_in_hand worker t w.members)
+    (agree worker t ∙ ap (is_number t) before) ∙ ap (is_number t) (sym after))
+
+-- ---- what an event needs
+
+-- a worker whose hand is as its event needs it
+pub hand_handled : (w : World) (worker : ℕ) (courses : List Course) (hand : Option ℕ) (needs : Handling) → IsWellMade w.members → DoAgree w.members courses →
+    hand_at courses worker ≡ hand → FitsHand hand needs → IsHandled w worker needs
+hand_handled w worker courses hand any made agree is fits = tt
+hand_handled w worker courses hand empty made agree is fits = λ t held.
+    true≢false (sym (held_found worker t w.members held) ∙ agree worker t ∙ ap (is_number t) (is ∙ fits))
+hand_handled w worker courses hand (unborn t) made agree is fits = absurd fits
+hand_handled w worker courses hand (has t) made agree is fits =
+    found_held worker t w.members made (agree worker t ∙ ap (is_number t) (is ∙ fits) ∙ eq-eqb t t refl)
+
+-- an event with the hand that it needs has its thread
+pub handled_thread : (w : World) (worker : ℕ) (needs : Handling) → IsHandled w worker needs → has_handled w.members worker needs ≡ true
+handled_thread w worker any handled = refl
+handled_thread w worker empty handled = refl
+handled_thread w worker (unborn t) handled = handled.1
+handled_thread w worker (has t) handled = subst (λ o. is_own worker o ≡ true) (sym handled) (eq-eqb worker worker refl)
+
+-- a thread that is sought in vain is in another worker's hand
+pub sought_held : (holder : ℕ → Option ℕ) (worker : ℕ) (sought : Option ℕ) → is_no_others worker (option_and_then holder sought) ≡ false →
+    (t : ℕ) × (h : ℕ) × (holder t ≡ Some h)
+sought_held holder worker None lost = absurd (true≢false lost)
+sought_held holder worker (Some t) lost = at_holder (holder t) refl lost
   where
-    asleep : (m : Member) (channel u : ℕ) → m.place ≡ Asleep channel → m.thread.id ≡ u → thread_of u ms ≡ Some m → HandsMove worker ms (woken_at (Asleep channel) worker now settings m ms).0 None (Some u)
-    asleep m channel u place is found =
-        let noted : List Member = with_record m.thread.id (after_sleep settings now) ms in
-        let own : thread_of m.thread.id ms ≡ Some m = subst (λ v. thread_of v ms ≡ Some m) (sym is) found in
-        subst (λ v. HandsMove worker ms (woken_at (Asleep channel) worker now settings m ms).0 None (Some v)) is
-        (fills m.thread.id refl refl (ap hand_in own ∙ ap hand_of place)
-        (moved_hand m.thread.id (Hand worker) (pos 0) (recorded (after_sleep settings now) m) noted (thread_of-change m.thread.id (recorded (after_sleep settings now)) ms (λ n. after_sleep_id settings now n.thread) ∙ ap (option_map (recorded (after_sleep settings now))) own))
-        (λ v other. moved_others m.thread.id (Hand worker) (pos 0) noted v other ∙ record_hands m.thread.id (after_sleep settings now) ms (after_sleep_id settings now) v))
-
-    at_place : (m : Member) → thread_of t ms ≡ Some m → (place : Place) → m.place ≡ place → HandsMove worker ms (woken_at place worker now settings m ms).0 None (put_by_first (following (event.Wake t) (woken_at place worker now settings m ms).1))
-    at_place m found (Asleep channel) is = asleep m channel t is (has_thread_of t m ms found).1 found
-    at_place m found (Running c) is = stays refl refl (λ u. refl)
-    at_place m found (Queued c k b) is = stays refl refl (λ u. refl)
-    at_place m found Unborn is = stays refl refl (λ u. refl)
-    at_place m found Gone is = stays refl refl (λ u. refl)
-    at_place m found (Hand w) is = stays refl refl (λ u. refl)
-
-    at_thread : (o : Option Member) → thread_of t ms ≡ o → HandsMove worker ms (woken_with o worker now settings ms).0 None (put_by_first (following (event.Wake t) (woken_with o worker now settings ms).1))
-    at_thread None none = stays refl refl (λ u. refl)
-    at_thread (Some m) found = at_place m found m.place refl
-
--- every event
-pub step_hands : (w : World) (worker : ℕ) (e : Event) (now : ℕ) → AreDistinct w.members → HandsMove worker w.members (step w worker e now).0.members (put_by e) (put_by_first (following e (step w worker e now).1))
-step_hands w worker (event.Tick c) now distinct = stays refl refl (ticked_hands c now (side_of c w))
-step_hands w worker (event.Switch c why) now distinct = stays refl refl (switched_hands c why now (side_of c w) distinct)
-step_hands w worker (event.Drop c channel) now distinct = dropped_hands c channel worker now (side_of c w) distinct
-step_hands w worker (event.Bed t channel) now distinct = bedded_hands t channel worker w.members
-step_hands w worker (event.Wake t) now distinct = woken_hands t worker now w.settings w.members
-step_hands w worker (event.Land t c) now distinct = landed_hands t c worker (side_of c w)
-step_hands w worker _ now distinct = stays refl refl (λ u. refl)
+    at_holder : (o : Option ℕ) → holder t ≡ o → is_no_others worker o ≡ false → (u : ℕ) × (h : ℕ) × (holder u ≡ Some h)
+    at_holder None is lost = absurd (true≢false lost)
+    at_holder (Some h) is lost = (t, h, is)

@@ -5,9 +5,9 @@ use Rattle.std.proofs.lemmas.Bool.{cond-true, cond-false, eq-eqb, ne_eqb}
 use Rattle.std.proofs.lemmas.List.{append-nil}
 use Rattle.std.proofs.lemmas.List.Elements.{filter-append}
 use Rattle.ule_types.specs.declared.event.Entry.{Entry}
-use Rattle.ule_model.specs.History.{KeepsAllRecords, KeepsRecords}
-use Rattle.ule_model.specs.Legal.{Locked, IsEntryOf, IsReplayed, IsInTime, after_entry, entries_of, replayed, share, with_locks}
-use Rattle.ule_model.specs.Step.{locks_of}
+use Rattle.ule_model.specs.Events.{locks_of}
+use Rattle.ule_model.specs.History.{HoldsThroughout}
+use Rattle.ule_model.specs.Legal.{Locked, IsEntryOf, IsReplayed, IsInTime, Timed, after_entry, entries_of, replayed, share, with_locks}
 use Rattle.ule_model.specs.World.{World}
 use Rattle.ule_members.proofs.Within.{all-append}
 
@@ -44,20 +44,25 @@ IsInTime-push (x ∷ xs) y timed early =
     (all-append (λ z. share x z ≡ true → x.entry.now ≤ z.entry.now) xs (y ∷ []) timed.0 ((λ shares. early.0), tt), IsInTime-push xs y timed.1 early.1)
 
 -- a worker's entries and one more of its own
-pub entries_of_own : (worker : ℕ) (es : List Entry) (e : Entry) → e.worker ≡ worker → entries_of worker (es ++ e ∷ []) ≡ entries_of worker es ++ e ∷ []
+pub entries_of_own : (worker : ℕ) (es : List Timed) (e : Timed) → e.entry.worker ≡ worker → entries_of worker (es ++ e ∷ []) ≡ entries_of worker es ++ e ∷ []
 entries_of_own worker es e own =
-    filter-append (λ x. x.worker == worker) es (e ∷ []) ∙
-    ap (λ ys. entries_of worker es ++ ys) (cond-true (e.worker == worker) (e ∷ []) [] (eq-eqb e.worker worker own))
+    filter-append (λ (x : Timed). x.entry.worker == worker) es (e ∷ []) ∙
+    ap (λ ys. entries_of worker es ++ ys) (cond-true (e.entry.worker == worker) (e ∷ []) [] (eq-eqb e.entry.worker worker own))
 
 -- a worker's entries and one more of another's
-pub entries_of_other : (worker : ℕ) (es : List Entry) (e : Entry) → (e.worker ≡ worker → ⊥) → entries_of worker (es ++ e ∷ []) ≡ entries_of worker es
+pub entries_of_other : (worker : ℕ) (es : List Timed) (e : Timed) → (e.entry.worker ≡ worker → ⊥) → entries_of worker (es ++ e ∷ []) ≡ entries_of worker es
 entries_of_other worker es e other =
-    filter-append (λ x. x.worker == worker) es (e ∷ []) ∙
-    ap (λ ys. entries_of worker es ++ ys) (cond-false (e.worker == worker) (e ∷ []) [] (ne_eqb e.worker worker other)) ∙
+    filter-append (λ (x : Timed). x.entry.worker == worker) es (e ∷ []) ∙
+    ap (λ ys. entries_of worker es ++ ys) (cond-false (e.entry.worker == worker) (e ∷ []) [] (ne_eqb e.entry.worker worker other)) ∙
     append-nil (entries_of worker es)
 
--- the records of every world of a history, and those of one more
-pub KeepsAllRecords-push : (w : World) (es : List Entry) (e : Entry) → KeepsAllRecords w es → KeepsRecords (after_entry (replayed w es) e) → KeepsAllRecords w (es ++ e ∷ [])
-unfolding KeepsAllRecords replayed
-KeepsAllRecords-push w [] e kept last = (kept, last)
-KeepsAllRecords-push w (x ∷ xs) e kept last = (kept.0, KeepsAllRecords-push (after_entry w x) xs e kept.1 last)
+-- what holds of every world of a history, and of that after one entry more
+pub HoldsThroughout-push : (P : World → Type 0) (w : World) (es : List Entry) (e : Entry) → HoldsThroughout P w es → P (after_entry (replayed w es) e) → HoldsThroughout P w (es ++ e ∷ [])
+unfolding HoldsThroughout replayed
+HoldsThroughout-push P w [] e holds last = (holds, last)
+HoldsThroughout-push P w (x ∷ xs) e holds last = (holds.0, HoldsThroughout-push P (after_entry w x) xs e holds.1 last)
+
+-- what holds of a world holds throughout a history of no entries
+pub HoldsThroughout-start : (P : World → Type 0) (w : World) → P w → HoldsThroughout P w []
+unfolding HoldsThroughout
+HoldsThroughout-start P w holds = holds

@@ -1,28 +1,30 @@
 -- What the rules of a setup say.
-use Rattle.std.proofs.Common.{◌≡◌, ℕ, zero, suc, ◌+◌, ◌≤◌, ◌&&◌, ◌==◌, Bool, true, nat_le, List, [], ◌∷◌, drop, flat_map, length, sum_by, take, refl, ap, arith}
+use Rattle.std.proofs.Common.{◌≡◌, ℕ, zero, suc, ◌+◌, ◌≤◌, ◌&&◌, ◌==◌, Bool, true, nat_le, nat_lt, List, [], ◌∷◌, drop, flat_map, length, sum_by, take, refl, ap, arith}
 use Rattle.std.specs.List.{AllByRecursion, list_all}
 use Rattle.std.proofs.lemmas.Bool.{and_parts, eqb-true, leb-true}
 use Rattle.std.proofs.lemmas.List.{nil_from_length}
 use Rattle.std.proofs.lemmas.List.Sums.{sum-map, sum_by-append, sum_by-cons}
 use Rattle.ule_prio.specs.Class.{is_within}
+use Rattle.ule_score.specs.Changes.{HasSlice}
 use Rattle.ule_types.specs.Commands.{is_among, is_command, forked_by}
-use Rattle.ule_types.specs.Rules.{are_scripts, are_settings, are_turns, budget_from, declared_ids, is_distinct, is_spec}
+use Rattle.ule_types.specs.Rules.{are_numbers, are_scripts, are_settings, are_turns, budget_from, declared_ids, is_distinct, is_spec}
 use Rattle.ule_types.specs.declared.command.Command.{Command}
 use Rattle.ule_types.specs.declared.setup.Setup.{Setup}
-use Rattle.ule_model.specs.Legal.{amount_of, end_time}
+use Rattle.ule_model.specs.Ends.{end_time}
+use Rattle.ule_model.specs.Legal.{amount_in, amount_in_all}
 use Rattle.ule_model.specs.Start.{starting_time}
-use Rattle.ule_rounds.proofs.Orderly.{amount_in}
 
 -- ---- the rules
 
--- four of the seven rules: the number of CPUs, the threads, their numbers, and the scripts
-pub rules_parts : (a b c d e f g : Bool) → (a && b && c && d && e && f && g) ≡ true → (b ≡ true) × (d ≡ true) × (e ≡ true) × (f ≡ true)
+-- five of the seven rules: the settings, the number of CPUs, the threads, their numbers, and the scripts
+pub rules_parts : (a b c d e f g : Bool) → (a && b && c && d && e && f && g) ≡ true → (a ≡ true) × (b ≡ true) × (d ≡ true) × (e ≡ true) × (f ≡ true)
 rules_parts a b c d e f g all =
     let six = (and_parts (a && b && c && d && e && f) g all).0 in
     let five = and_parts (a && b && c && d && e) f six in
     let four = and_parts (a && b && c && d) e five.0 in
     let three = and_parts (a && b && c) d four.0 in
-    ((and_parts a b (and_parts (a && b) c three.0).0).1, three.1, four.1, five.1)
+    let two = and_parts a b (and_parts (a && b) c three.0).0 in
+    (two.0, two.1, three.1, four.1, five.1)
 
 -- four of the six rules of scripts: how many there are, that those of no CPU are empty, the commands, and the budget
 pub scripts_parts : (a b c d e f : Bool) → (a && b && c && d && e && f) ≡ true → (a ≡ true) × (b ≡ true) × (c ≡ true) × (f ≡ true)
@@ -34,9 +36,10 @@ scripts_parts a b c d e f all =
     let one = and_parts a b two.0 in
     (one.0, one.1, two.1, five.1)
 
--- what a setup says of its threads: each one may be declared so, and no number stands twice
+-- what a setup says of its threads: each one may be declared so, and they have distinct numbers of 0 to 255
 pub record HasSpecs (s : Setup) : Type 0 where
   pub specs : list_all (is_spec s.cpus) s.threads ≡ true
+  pub numbers : list_all (λ t. nat_lt t 256) (declared_ids s.threads s.unborn) ≡ true
   pub distinct : is_distinct (declared_ids s.threads s.unborn) ≡ true
 
 -- what a setup says of its scripts: as many as there is room for, of valid commands, for no more
@@ -49,14 +52,37 @@ pub record HasScripts (s : Setup) : Type 0 where
   pub valid : list_all (λ script. list_all (is_command (declared_ids s.threads s.unborn) s.cpus) script) s.scripts ≡ true
   pub budget : budget_from 0 s.cpus s.scripts ≤ 65536
 
--- four of the rules that every setup keeps
-pub setup_rules : (s : Setup) → (is_within 1 16 s.cpus ≡ true) × (list_all (is_spec s.cpus) s.threads ≡ true) × (is_distinct (declared_ids s.threads s.unborn) ≡ true) × (are_scripts s.cpus (declared_ids s.threads s.unborn) s.unborn s.scripts ≡ true)
-setup_rules s =
-    rules_parts (are_settings s.settings) (is_within 1 16 s.cpus) (length s.groups == 0) (list_all (is_spec s.cpus) s.threads) (is_distinct (declared_ids s.threads s.unborn)) (are_scripts s.cpus (declared_ids s.threads s.unborn) s.unborn s.scripts) (are_turns s.cpus s.turns) s.rules
+-- five of the rules that every setup keeps
+pub record HasRules (s : Setup) : Type 0 where
+  pub settings : are_settings s.settings ≡ true
+  pub cpus : is_within 1 16 s.cpus ≡ true
+  pub specs : list_all (is_spec s.cpus) s.threads ≡ true
+  pub numbers : are_numbers (declared_ids s.threads s.unborn) ≡ true
+  pub scripts : are_scripts s.cpus (declared_ids s.threads s.unborn) s.unborn s.scripts ≡ true
 
--- every setup has such threads
+-- every setup keeps the rules
+pub setup_rules : (s : Setup) → HasRules s
+setup_rules s =
+    let ids = declared_ids s.threads s.unborn in
+    let parts = rules_parts (are_settings s.settings) (is_within 1 16 s.cpus) (length s.groups == 0) (list_all (is_spec s.cpus) s.threads) (are_numbers ids)
+    (are_scripts s.cpus ids s.unborn s.scripts) (are_turns s.cpus s.turns) s.rules in
+    record { settings = parts.0; cpus = parts.1; specs = parts.2; numbers = parts.3; scripts = parts.4 }
+
+-- every setup has threads with distinct numbers
 pub setup_specs : (s : Setup) → HasSpecs s
-setup_specs s = let rules = setup_rules s in record { specs = rules.1; distinct = rules.2 }
+setup_specs s =
+    let rules = setup_rules s in
+    let both = and_parts (list_all (λ t. nat_lt t 256) (declared_ids s.threads s.unborn)) (is_distinct (declared_ids s.threads s.unborn)) rules.numbers in
+    record { specs = rules.specs; numbers = both.0; distinct = both.1 }
+
+-- every setup has a slice in range
+pub setup_slice : (s : Setup) → HasSlice s.settings
+setup_slice s =
+    let rules = setup_rules s in
+    let ends = and_parts (is_within 1 100 s.settings.interact && is_within 6 1000 s.settings.slice) (is_within 1 64 s.settings.steal) rules.settings in
+    let slice = and_parts (is_within 1 100 s.settings.interact) (is_within 6 1000 s.settings.slice) ends.0 in
+    let both = and_parts (nat_le 6 s.settings.slice) (nat_le s.settings.slice 1000) slice.1 in
+    record { low = leb-true 6 s.settings.slice both.0; high = leb-true s.settings.slice 1000 both.1 }
 
 -- every setup has such scripts
 pub setup_scripts : (s : Setup) → HasScripts s
@@ -64,8 +90,8 @@ setup_scripts s =
     let ids = declared_ids s.threads s.unborn in
     let rules = setup_rules s in
     let scripts = scripts_parts (length s.scripts == 16) (list_all (λ script. length script == 0) (drop s.cpus s.scripts)) (list_all (λ script. list_all (is_command ids s.cpus) script) s.scripts)
-    (list_all (is_among s.unborn) (flat_map (λ script. flat_map forked_by script) s.scripts)) (is_distinct (flat_map (λ script. flat_map forked_by script) s.scripts)) (nat_le (budget_from 0 s.cpus s.scripts) 65536) rules.3 in
-    let within = and_parts (nat_le 1 s.cpus) (nat_le s.cpus 16) rules.0 in
+    (list_all (is_among s.unborn) (flat_map (λ script. flat_map forked_by script) s.scripts)) (is_distinct (flat_map (λ script. flat_map forked_by script) s.scripts)) (nat_le (budget_from 0 s.cpus s.scripts) 65536) rules.scripts in
+    let within = and_parts (nat_le 1 s.cpus) (nat_le s.cpus 16) rules.cpus in
     record {
       count = eqb-true (length s.scripts) 16 scripts.0;
       some = leb-true 1 s.cpus within.0;
@@ -91,16 +117,6 @@ all_take P (suc n) (x ∷ xs) all = (all.0, all_take P n xs all.1)
 
 -- ---- the time of all scripts
 
--- the time that all of these scripts add
-abbrev pub amount_in_all : List (List Command) → ℕ
-amount_in_all scripts = sum_by amount_in scripts
-
--- it is that of all their commands
-pub amount_in_commands : (scripts : List (List Command)) → sum_by amount_of (flat_map (λ script. script) scripts) ≡ amount_in_all scripts
-amount_in_commands [] = refl
-amount_in_commands (script ∷ scripts) =
-    omega (arith, sum_by-append amount_of script (flat_map (λ script. script) scripts), amount_in_commands scripts, sum_by-cons amount_in script scripts)
-
 -- empty scripts add none
 pub amount_in_empty : (scripts : List (List Command)) → list_all (λ script. length script == 0) scripts ≡ true → amount_in_all scripts ≡ 0
 amount_in_empty [] empty = refl
@@ -117,6 +133,6 @@ amount_in_parts (suc n) (script ∷ scripts) =
     omega (arith, amount_in_parts n scripts, sum_by-cons amount_in script (take n scripts), sum_by-cons amount_in script scripts)
 
 -- all scripts end when those of the CPUs have added their time to the start
-pub setup_end : (s : Setup) → starting_time + amount_in_all (take s.cpus s.scripts) ≡ end_time s
+pub setup_end : (s : Setup) → starting_time + amount_in_all (take s.cpus s.scripts) ≡ end_time s.scripts
 setup_end s =
-    omega (arith, sum-map amount_of (flat_map (λ script. script) s.scripts), amount_in_commands s.scripts, amount_in_parts s.cpus s.scripts, amount_in_empty (drop s.cpus s.scripts) (setup_scripts s).rest)
+    omega (arith, amount_in_parts s.cpus s.scripts, amount_in_empty (drop s.cpus s.scripts) (setup_scripts s).rest)

@@ -1,7 +1,10 @@
 //! The laws of the rounds: what holds of the history of rounds of every setup that a scenario can
-//! spell so far. Each law is the contract of a function that does nothing.
+//! spell so far; and an example of a legal history that no rounds make. Each law is the contract
+//! of a function that does nothing.
 #![tactic(auto)]
 
 pub use history::{rounds_are_legal, rounds_go_on};
+pub use late_switch::late_switch_is_legal;
 
 pub mod history;
+pub mod late_switch;

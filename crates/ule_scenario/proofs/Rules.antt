@@ -9,7 +9,7 @@ use Rattle.ule_prio.specs.Class.{is_within}
 use Rattle.ule_score.specs.declared.record.Settings.{Settings}
 use Rattle.ule_types.specs.Form.{default_settings, is_built, is_tick, has_few_ticks}
 use Rattle.ule_types.specs.Commands.{is_among, is_command, forked_by}
-use Rattle.ule_types.specs.Rules.{are_settings, are_turns, is_distinct, is_spec, declared_ids, budget_from, are_scripts, keeps_rules}
+use Rattle.ule_types.specs.Rules.{are_numbers, are_settings, are_turns, is_distinct, is_spec, declared_ids, budget_from, are_scripts, keeps_rules}
 use Rattle.ule_types.specs.declared.command.Command.{Command}
 use Rattle.ule_types.specs.declared.command.Command.TheVariants.{Tick, Time, Yield, Resched, Sleep, Wake, Lend, Unlend, Renice, Fork, Exit, Idle, Balance, Look}
 use Rattle.ule_types.specs.declared.setup.GroupLine.{GroupLine}
@@ -65,6 +65,13 @@ pub ticks_of_front : (cpus : ℕ) (scripts : List (List Command)) → 1 ≤ cpus
 ticks_of_front cpus scripts some =
     ap (λ (script : List Command). ltb cpus 2 || nat_le (count_by is_tick script) 63) (get_or-take cpus scripts 0 [] some)
 
+-- a test that each thread's number passes, all their numbers pass
+all_ids : (p : ℕ → Bool) (threads : List ThreadSpec) → list_all (λ spec. p spec.id) threads ≡ true → list_all p (ids_of threads) ≡ true
+all_ids p [] all = refl
+all_ids p (spec ∷ threads) all =
+    let parts = and_parts (p spec.id) (list_all (λ (x : ThreadSpec). p x.id) threads) all in
+    and_from (p spec.id) (list_all p (ids_of threads)) parts.0 (all_ids p threads parts.1)
+
 -- commands so far fork none
 forks_none : (c : Command) → is_built c ≡ true → forked_by c ≡ []
 forks_none Tick good = refl
@@ -116,9 +123,10 @@ module _ (cpus : ℕ) (threads : List ThreadSpec) (scripts : List (List Command)
   pub rules_of_form : list_all (is_thread cpus) threads ≡ true → is_distinct (ids_of threads) ≡ true → keeps_rules default_settings cpus [] threads [] scripts [] ≡ true
   rules_of_form all distinct =
       let ids : declared_ids threads [] ≡ ids_of threads = append-nil (ids_of threads) in
+      let range : list_all (λ t. ltb t 256) (ids_of threads) ≡ true = all_ids (λ t. ltb t 256) threads (all_weaker (is_thread cpus) is_in_range (λ spec good. (thread_parts cpus spec good).1) threads all) in
       let specs : list_all (is_spec cpus) threads ≡ true = all_weaker (is_thread cpus) (is_spec cpus) (λ spec good. (thread_parts cpus spec good).2) threads all in
       let within : is_within 1 16 cpus ≡ true = and_from (nat_le 1 cpus) (nat_le cpus 16) (le-leb 1 cpus some) (le-leb cpus 16 few) in
-      rw (within, specs, ids, distinct, scripts_kept) refl
+      rw (within, specs, ids, range, distinct, scripts_kept) refl
 
 -- what the rules say of a setup of the form
 pub record KeptRules (cpus : ℕ) (groups : List GroupLine) (threads : List ThreadSpec) (scripts : List (List Command)) : Type 0 where
@@ -139,9 +147,9 @@ parts_of_rules settings cpus groups threads scripts turns kept =
     let first = are_settings settings && is_within 1 16 cpus in
     let second = first && (length groups == 0) in
     let third = second && list_all (is_spec cpus) threads in
-    let p6 = and_parts (third && is_distinct ids && are_scripts cpus ids [] scripts) (are_turns cpus turns) kept in
-    let p5 = and_parts (third && is_distinct ids) (are_scripts cpus ids [] scripts) p6.0 in
-    let p4 = and_parts third (is_distinct ids) p5.0 in
+    let p6 = and_parts (third && are_numbers ids && are_scripts cpus ids [] scripts) (are_turns cpus turns) kept in
+    let p5 = and_parts (third && are_numbers ids) (are_scripts cpus ids [] scripts) p6.0 in
+    let p4 = and_parts third (are_numbers ids) p5.0 in
     let p3 = and_parts second (list_all (is_spec cpus) threads) p4.0 in
     let p2 = and_parts first (length groups == 0) p3.0 in
     let p1 = and_parts (are_settings settings) (is_within 1 16 cpus) p2.0 in
@@ -160,7 +168,7 @@ parts_of_rules settings cpus groups threads scripts turns kept =
       greatest = range.1;
       groups_none = nil_from_length groups (eqb-true (length groups) 0 p2.1);
       specs = p3.1;
-      distinct = ap is_distinct (sym same) ∙ p4.1;
+      distinct = ap is_distinct (sym same) ∙ (and_parts (list_all (λ t. ltb t 256) ids) (is_distinct ids) p4.1).1;
       number = number;
       others = empty_scripts (drop cpus scripts) s1.1 ∙ ap (λ n. replicate n []) (length-drop cpus scripts ∙ ap (λ n. n - cpus) number);
       commands = ap (λ numbers. list_all (list_all (is_command numbers cpus)) scripts) (sym same) ∙ s2.1;

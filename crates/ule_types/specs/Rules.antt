@@ -34,6 +34,10 @@ is_form (Idle p) = is_base_of class.Idle p
 abbrev pub is_spec : ℕ → ThreadSpec → Bool
 is_spec cpus spec = is_form spec.form && nat_lt spec.cpu cpus
 
+-- whether each is the number of a thread, 0 to 255, and none stands twice
+abbrev pub are_numbers : List ℕ → Bool
+are_numbers ids = list_all (λ t. nat_lt t 256) ids && is_distinct ids
+
 -- the numbers of all declared threads
 abbrev pub declared_ids : List ThreadSpec → List ℕ → List ℕ
 declared_ids threads unborn = map (λ spec. spec.id) threads ++ unborn
@@ -62,5 +66,5 @@ are_turns cpus turns = list_all (λ w. nat_lt w cpus) turns && nat_le (length tu
 abbrev pub keeps_rules : Settings → ℕ → List GroupLine → List ThreadSpec → List ℕ → List (List Command) → List ℕ → Bool
 keeps_rules settings cpus groups threads unborn scripts turns =
     are_settings settings && is_within 1 16 cpus && (length groups == 0) &&
-    list_all (is_spec cpus) threads && is_distinct (declared_ids threads unborn) &&
+    list_all (is_spec cpus) threads && are_numbers (declared_ids threads unborn) &&
     are_scripts cpus (declared_ids threads unborn) unborn scripts && are_turns cpus turns
