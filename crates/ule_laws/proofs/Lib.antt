@@ -20,3 +20,4 @@ pub mod SeekLaws
 pub mod CpuSteps
 pub mod StepLaws
 pub mod TellLaws
+pub mod StepConditions

@@ -102,7 +102,7 @@ limbo_at w nothing few stands = absurd (let e = stands.queue in omega arith)
 -- ---- threads with places
 
 -- the slot of a thread that the world has under the lock
-slot_of : (w : World) (l t : ℕ) (m : Member) (slots : List (Option Standing)) → AreThese l w.members slots → IsWellMade w.members → thread_of t w.members ≡ Some m →
+pub slot_of : (w : World) (l t : ℕ) (m : Member) (slots : List (Option Standing)) → AreThese l w.members slots → IsWellMade w.members → thread_of t w.members ≡ Some m →
     is_under l m.place ≡ true → standing_in slots t ≡ Some (standing_of m)
 slot_of w l t m slots these made found under =
     these t ∙ ap (option_map standing_of) (thread_at_within (is_under l) t m w.members (within_thread t w.members m made found) ∙ cond-true (is_under l m.place) (Some m) None under)
@@ -592,7 +592,7 @@ sought_stands v w worker t shows there ready empty = at_thread (thread_of t w.me
     at_thread (Some m) found some = at_place m m.place found refl
 
 -- an unborn thread
-unborn_stands : (w : World) (t : ℕ) → is_unborn_thread (thread_of t w.members) ≡ true → (m : Member) × (thread_of t w.members ≡ Some m) × (m.place ≡ Unborn)
+pub unborn_stands : (w : World) (t : ℕ) → is_unborn_thread (thread_of t w.members) ≡ true → (m : Member) × (thread_of t w.members ≡ Some m) × (m.place ≡ Unborn)
 unborn_stands w t is = at_thread (thread_of t w.members) refl is
   where
     at_place : (m : Member) (p : Place) → thread_of t w.members ≡ Some m → m.place ≡ p → is_unborn p ≡ true → (m : Member) × (thread_of t w.members ≡ Some m) × (m.place ≡ Unborn)

@@ -24,5 +24,6 @@ pub mod CpuStart
 pub mod Conditions
 pub mod Frames
 pub mod LockValue
+pub mod LockConditions
 pub mod WorldValue
 pub mod History

@@ -131,24 +131,24 @@ limbo_buried (Some r) v = record { hand = None; value = limbo (with_still r Gone
 -- ---- the step under one lock
 
 -- an event on a CPU
-abbrev pub queue_step : Settings → ℕ → Event → ℕ → Option ThreadRecord → CpuValue → Stepped
-queue_step settings worker (Tick c) now hand v = queue_stepped hand (value_ticked now v)
-queue_step settings worker (Switch c why) now hand v = queue_stepped hand (value_switched why now v)
-queue_step settings worker (Drop c channel) now hand v = queue_dropped hand (value_taken sleeps now v)
-queue_step settings worker (Bed t channel) now hand v = kept hand (queue v) Nothing
-queue_step settings worker (Wake t) now hand v = kept hand (queue v) (not_asleep (found_on v t))
-queue_step settings worker (Look c) now hand v = kept hand (queue v) Nothing
-queue_step settings worker (Land t c) now hand v = queue_landed worker hand v
-queue_step settings worker (Move a b why) now hand v = kept hand (queue v) Nothing
-queue_step settings worker (Lend t p) now hand v = kept hand (queue v) Nothing
-queue_step settings worker (Unlend t) now hand v = kept hand (queue v) Nothing
-queue_step settings worker (Renice t n) now hand v = kept hand (queue v) Nothing
-queue_step settings worker (Hatch t) now hand v = kept hand (queue v) Nothing
-queue_step settings worker (Fork c t) now hand v = kept hand (queue v) Nothing
-queue_step settings worker (Return t) now hand v = kept hand (queue v) Nothing
-queue_step settings worker (Exit c) now hand v = kept hand (queue v) Nothing
-queue_step settings worker (Bury t) now hand v = kept hand (queue v) Nothing
-queue_step settings worker (Inherit t run) now hand v = kept hand (queue v) Nothing
+abbrev pub queue_step : ℕ → Event → ℕ → Option ThreadRecord → CpuValue → Stepped
+queue_step worker (Tick c) now hand v = queue_stepped hand (value_ticked now v)
+queue_step worker (Switch c why) now hand v = queue_stepped hand (value_switched why now v)
+queue_step worker (Drop c channel) now hand v = queue_dropped hand (value_taken sleeps now v)
+queue_step worker (Bed t channel) now hand v = kept hand (queue v) Nothing
+queue_step worker (Wake t) now hand v = kept hand (queue v) (not_asleep (found_on v t))
+queue_step worker (Look c) now hand v = kept hand (queue v) Nothing
+queue_step worker (Land t c) now hand v = queue_landed worker hand v
+queue_step worker (Move a b why) now hand v = kept hand (queue v) Nothing
+queue_step worker (Lend t p) now hand v = kept hand (queue v) Nothing
+queue_step worker (Unlend t) now hand v = kept hand (queue v) Nothing
+queue_step worker (Renice t n) now hand v = kept hand (queue v) Nothing
+queue_step worker (Hatch t) now hand v = kept hand (queue v) Nothing
+queue_step worker (Fork c t) now hand v = kept hand (queue v) Nothing
+queue_step worker (Return t) now hand v = kept hand (queue v) Nothing
+queue_step worker (Exit c) now hand v = kept hand (queue v) Nothing
+queue_step worker (Bury t) now hand v = kept hand (queue v) Nothing
+queue_step worker (Inherit t run) now hand v = kept hand (queue v) Nothing
 
 -- an event on a sleep chain
 abbrev pub chain_step : Settings → Event → ℕ → Option ThreadRecord → ChainValue → Stepped
@@ -192,7 +192,7 @@ limbo_step (Inherit t run) hand v = kept hand (limbo v) Nothing
 
 -- the step of an event under one lock
 abbrev pub lock_step : Settings → ℕ → Event → ℕ → Option ThreadRecord → LockValue → Stepped
-lock_step settings worker e now hand (queue v) = queue_step settings worker e now hand v
+lock_step settings worker e now hand (queue v) = queue_step worker e now hand v
 lock_step settings worker e now hand (chain v) = chain_step settings e now hand v
 lock_step settings worker e now hand (limbo v) = limbo_step e hand v
 lock_step settings worker e now hand nothing = kept hand nothing Nothing

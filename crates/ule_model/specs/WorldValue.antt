@@ -13,6 +13,7 @@ use Rattle.ule_types.specs.declared.event.Event.{Event}
 use Rattle.ule_types.specs.declared.event.Reply.{Reply}
 use Rattle.ule_types.specs.declared.event.Reply.TheVariants.{Nothing}
 use Rattle.ule_types.specs.declared.outcome.ThreadLine.{ThreadLine}
+use Rattle.ule_model.specs.Conditions.{IsPossible}
 use Rattle.ule_model.specs.CpuValue.{CpuValue, StandsFor, first_found}
 use Rattle.ule_model.specs.Events.{Locking, locking, place_of, queues}
 use Rattle.ule_model.specs.Events as events
@@ -176,8 +177,16 @@ pub record Shows (v : WorldValue) (w : World) : Type 0 where
   pub past : (l : ℕ) → 25 ≤ l → HasNoneUnder w l
   pub hands : (h : ℕ) → IsHandOf w h (held_by v h)
 
--- the step from one scheduler to the next is that of each world that the first is the value of and in which
--- the worker can perform the event
+-- a scheduler shows some world
+abbrev pub IsShown : WorldValue → Type 0
+IsShown v = (w : World) × Shows v w
+
+-- a worker can perform an event, in a world that the scheduler shows
+abbrev pub CanStep : WorldValue → ℕ → Event → ℕ → Type 0
+CanStep v worker e now = (w : World) × Shows v w × IsPossible w worker e now
+
+-- the step from one scheduler to the next is that of each world that the first is the value of and in which the
+-- worker can perform the event
 abbrev pub Steps : WorldValue → ℕ → Event → ℕ → WorldValue → Reply → Type 0
 Steps old worker e now new reply =
-    (w : World) → Shows old w → Shows new (step w worker e now).0 × (reply ≡ (step w worker e now).1)
+    (w : World) → Shows old w → IsPossible w worker e now → Shows new (step w worker e now).0 × (reply ≡ (step w worker e now).1)

@@ -1,0 +1,110 @@
+-- Where a worker can perform an event in a world, the scheduler that shows it has what the step under the
+-- event's lock needs.
+use Rattle.std.proofs.Common.{◌≡◌, ◌≢◌, ℕ, ◌+◌, ◌%◌, ◌<◌, ◌≤◌, Bool, true, false, ◌==◌, ◌||◌, List, [], ◌∷◌, length, Option, Some, None, IfSome, if◌then◌else◌, refl, sym, ◌∙◌, ap, subst, arith, mod-lt}
+use Rattle.std.specs.List.{AllByRecursion, list_any}
+use Rattle.std.specs.Option.{option_map}
+use Rattle.std.proofs.lemmas.Bool.{cond-false, cond-true, eq-eqb, eqb-true, true≢false}
+use Rattle.std.proofs.lemmas.Option.{none-some}
+use Rattle.ule_score.specs.Changes.{IsBy}
+use Rattle.ule_score.specs.declared.place.Place.{Place}
+use Rattle.ule_score.specs.declared.place.Place.TheVariants.{Unborn, Hand}
+use Rattle.ule_score.specs.declared.record.ThreadRecord.{ThreadRecord}
+use Rattle.ule_sleep.specs.Chain.{standing_in}
+use Rattle.ule_threads.specs.declared.standing.Standing.{Standing}
+use Rattle.ule_types.specs.declared.event.Event.{Event}
+use Rattle.ule_types.specs.declared.event.Event.TheVariants.{Bed, Hatch, Land}
+use Rattle.ule_model.specs.Conditions.{IsByIfReached, IsHandled, IsPossible}
+use Rattle.ule_model.specs.CpuValue.{thread_in, thread_on}
+use Rattle.ule_model.specs.Events.{handling, is_reached, locks_of}
+use Rattle.ule_model.specs.Frames.{thread_in_hand, thread_under}
+use Rattle.ule_model.specs.LockConditions.{CanStepAt, IsTime}
+use Rattle.ule_model.specs.LockValue.{LockValue, chain, limbo, nothing, queue}
+use Rattle.ule_model.specs.Places.{hand_of, is_hand_of, is_number, is_under, lock_of}
+use Rattle.ule_model.specs.WellMade.{IsWellMade}
+use Rattle.ule_sleep.specs.Limbo.{HasUnborn}
+use Rattle.ule_model.specs.World.{Member, World, thread_of}
+use Rattle.ule_model.specs.WorldValue.{Shows, StandsUnder, WorldValue, held_by, if_thread, standing_of}
+use Rattle.ule_members.proofs.Membership.{all_has, has_within}
+use Rattle.ule_members.proofs.PlaceFinds.{thread_at_is, thread_at_stands, thread_at_within, within_thread_at}
+use Rattle.ule_members.proofs.Within.{Within, within_thread}
+use Rattle.ule_laws.proofs.ChainSteps.{place_from_hand_of}
+use Rattle.ule_laws.proofs.SeekLaws.{on_is_under}
+use Rattle.ule_laws.proofs.StepLaws.{IsAtEvent, slot_of, unborn_stands}
+use Rattle.ule_laws.proofs.WorldLaws.{HasValue, if_some}
+
+-- ---- reach
+
+-- a place under an event's one lock is within its reach
+reached_here : (w : World) (worker : ℕ) (e : Event) (l : ℕ) (p : Place) → locks_of w e ≡ l ∷ [] → is_under l p ≡ true → is_reached w worker e p ≡ true
+reached_here w worker e l p locks under =
+    ap (λ (ls : List ℕ). list_any (λ k. is_under k p) ls || is_hand_of worker p) locks ∙ ap (λ (b : Bool). (b || false) || is_hand_of worker p) under
+
+-- what is noted of a thread under the lock is by now
+by_now : (w : World) (worker : ℕ) (e : Event) (now l t : ℕ) (m : Member) → IsWellMade w.members → IsPossible w worker e now → locks_of w e ≡ l ∷ [] →
+    thread_under l t w.members ≡ Some m → IsBy now m.thread
+by_now w worker e now l t m made possible locks found =
+    all_has (IsByIfReached w worker e now) m w.members possible.in_time (has_within t m w.members (within_thread_at (is_under l) t m w.members made found))
+    (reached_here w worker e l m.place locks (thread_at_stands (is_under l) t m w.members found))
+
+-- ---- the thread in the hand
+
+-- a thread that a hand has is under no lock
+not_under : (v : WorldValue) (w : World) (worker l : ℕ) (r : ThreadRecord) → Shows v w → held_by v worker ≡ Some r → thread_under l r.id w.members ≡ None
+not_under v w worker l r shows held = at_thread (thread_in_hand worker r.id w.members) refl
+  where
+    some : Some r ≡ option_map (λ m. m.thread) (thread_in_hand worker r.id w.members)
+    some =
+        sym (cond-true (r.id == r.id) (Some r) None (eq-eqb r.id r.id refl)) ∙ sym (ap (if_thread r.id) held) ∙ shows.hands worker r.id
+
+    at_thread : (o : Option Member) → thread_in_hand worker r.id w.members ≡ o → thread_under l r.id w.members ≡ None
+    at_thread None is = absurd (none-some r (sym (some ∙ ap (option_map (λ (m : Member). m.thread)) is)))
+    at_thread (Some m) is =
+        thread_at_within (is_under l) r.id m w.members (within_thread_at (is_hand_of worker) r.id m w.members shows.made is) ∙
+        cond-false (is_under l m.place) (Some m) None (ap (is_under l) (place_from_hand_of m.place worker (number_from (hand_of m.place) (thread_at_stands (is_hand_of worker) r.id m w.members is))))
+      where
+        number_from : (o : Option ℕ) → is_number worker o ≡ true → o ≡ Some worker
+        number_from None not = absurd (true≢false (sym not))
+        number_from (Some h) is = ap (λ (i : ℕ). Some i) (sym (eqb-true worker h is))
+
+-- ---- what the step needs
+
+-- one lock is one number
+one_number : (l k : ℕ) → l ∷ [] ≡ k ∷ [] → l ≡ k
+one_number l k e = cc
+
+-- the step under an event's lock has what it needs
+pub can_step_at : (v : WorldValue) (w : World) (worker : ℕ) (e : Event) (now l : ℕ) (value : LockValue) → IsAtEvent v w worker e now → locks_of w e ≡ l ∷ [] →
+    StandsUnder w l value → CanStepAt value (held_by v worker) e now
+can_step_at v w worker e now l (queue u) at locks is = record {
+  time = record { begun = at.possible.begun; bounded = at.possible.bounded };
+  in_time = λ t. subst (λ (o : Option ThreadRecord). IfSome o (λ r. r.usage.ltick ≤ now)) (sym (is.stands.threads t)) (on t (thread_on u.cpu t w.members) refl);
+  absent = if_some (λ (r : ThreadRecord). thread_in u r.id ≡ None) (held_by v worker) (λ r held. is.stands.threads r.id ∙ ap (option_map (λ (m : Member). m.thread)) (under r.id ∙ not_under v w worker l r at.shows held));
+  cpu = λ t c same. is.cpu ∙ sym (one_number c l (sym (ap (locks_of w) same) ∙ locks));
+}
+  where
+    under : (t : ℕ) → thread_on u.cpu t w.members ≡ thread_under l t w.members
+    under t = let few = at.shows.cpus in let below = is.there in let e0 = is.cpu in on_is_under u.cpu t w.members (omega arith) ∙ ap (λ (c : ℕ). thread_under c t w.members) is.cpu
+
+    on : (t : ℕ) (o : Option Member) → thread_on u.cpu t w.members ≡ o → IfSome (option_map (λ m. m.thread) o) (λ r. r.usage.ltick ≤ now)
+    on t None found = tt
+    on t (Some m) found = (by_now w worker e now l t m at.shows.made at.possible locks (sym (under t) ∙ found)).ltick
+can_step_at v w worker e now l (chain c) at locks is = record {
+  time = record { begun = at.possible.begun; bounded = at.possible.bounded };
+  in_time = λ t. subst (λ (o : Option Standing). IfSome o (λ s. IsBy now s.thread)) (sym (is.under t)) (on t (thread_under l t w.members) refl);
+  absent = if_some (λ (r : ThreadRecord). standing_in c.slots r.id ≡ None) (held_by v worker) (λ r held. is.under r.id ∙ ap (option_map standing_of) (not_under v w worker l r at.shows held));
+  channel = λ t channel same. let number = is.number in let lock : 16 + channel % 8 ≡ l = one_number (16 + channel % 8) l (sym (ap (locks_of w) same) ∙ locks) in omega arith;
+}
+  where
+    on : (t : ℕ) (o : Option Member) → thread_under l t w.members ≡ o → IfSome (option_map standing_of o) (λ s. IsBy now s.thread)
+    on t None found = tt
+    on t (Some m) found = by_now w worker e now l t m at.shows.made at.possible locks found
+can_step_at v w worker e now l (limbo c) at locks is = record {
+  absent = if_some (λ (r : ThreadRecord). standing_in c.slots r.id ≡ None) (held_by v worker) (λ r held. is.under r.id ∙ ap (option_map standing_of) (not_under v w worker l r at.shows held));
+  unborn = λ t same. hatched t same;
+}
+  where
+    hatched : (t : ℕ) → e ≡ Hatch t → HasUnborn c t
+    hatched t same =
+        let m = unborn_stands w t (subst (λ (x : Event). IsHandled w worker (handling x)) same at.possible.hand).1 in
+        (m.0.thread, slot_of w l t m.0 c.slots is.under at.shows.made m.1 (ap (is_under l) m.2 ∙ ap (λ (i : ℕ). is_number i (Some 24)) is.number) ∙ ap (λ (p : Place). Some (record { thread = m.0.thread; place = p })) m.2)
+can_step_at v w worker e now l nothing at locks is = tt
