@@ -3,7 +3,6 @@ pub mod Within
 pub mod Threads
 pub mod Loads
 pub mod Lists
-pub mod Owed
 pub mod Touches
 pub mod WordLaws
 pub mod Apart
