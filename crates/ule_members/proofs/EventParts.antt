@@ -22,7 +22,7 @@ use Rattle.ule_members.proofs.Done.{IsDone, carried_from_hand, carried_to_hand, 
 use Rattle.ule_members.proofs.MadeWell.{IsApartFrom, apart_from_kept, apart_from_off, apart_from_queued, apart_from_running}
 use Rattle.ule_members.proofs.Membership.{has_thread_of}
 use Rattle.ule_members.proofs.Moves.{bucket_small, carried_between, changed_by, choice_stands, moved_between, moved_member, moved_recorded_between, queued_between, queued_member, recorded_between, within_has}
-use Rattle.ule_members.proofs.Owed.{changes_keep_numbers, changes_leave_the_number}
+use Rattle.ule_score.proofs.ChangeLaws.{change_numbers, change_number}
 use Rattle.ule_members.proofs.Reach.{IsHeld, lock_where_waits}
 use Rattle.ule_members.proofs.Touches.{goes_one}
 use Rattle.ule_members.proofs.Within.{Within, within_found}
@@ -37,7 +37,7 @@ module _ (w : World) (worker : ℕ) (e : Event) (now : ℕ) where
       let n : Member = changed_by w.settings now change m in
       done_one w worker e now None m n ms (with_change w.settings now m.thread.id change ms) v (recorded_between w.settings now change m ms v)
       (carried_under w worker e now l m n among under under (goes_one w.settings now change m.thread sound) v.made.place)
-      (apart_from_kept m n ms v (changes_leave_the_number w.settings now change m.thread) refl refl)
+      (apart_from_kept m n ms v (change_number w.settings now change m.thread) refl refl)
 
   -- the next thread of a CPU that has none is chosen, and runs
   pub done_choosing : (c : ℕ) (s : Side) → is_among (locks_of w e) c ≡ true → IsWellMade s.members → current_of c s.members ≡ None →
@@ -67,7 +67,7 @@ module _ (w : World) (worker : ℕ) (e : Event) (now : ℕ) where
       done_one w worker e now (Some (block t)) m n ms (put_in_hand w.settings now worker change m.thread.id ms) v
       (carried_between w.settings now change m ms v (Hand worker) (pos 0))
       (carried_to_hand w worker e now t l m n.thread among under number (goes_one w.settings now change m.thread sound) taken)
-      (apart_from_off m n ms v (changes_leave_the_number w.settings now change m.thread) (λ d. refl))
+      (apart_from_off m n ms v (change_number w.settings now change m.thread) (λ d. refl))
 
   -- a thread that goes as it is from under a lock to the worker's hand
   pub done_hatched : (t l : ℕ) (m : Member) (ms : List Member) → Within m.thread.id m ms → is_among (locks_of w e) l ≡ true → lock_of m.place ≡ Some l →
@@ -110,13 +110,13 @@ module _ (w : World) (worker : ℕ) (e : Event) (now : ℕ) where
     queued_apart =
         let p : ℕ = (record_after s.settings now change m.thread).priority in
         apart_from_queued how c (kind_at p) (bucket_of (kind_at p) how s.line p) m queued_one s.members v
-        (changes_leave_the_number s.settings now change m.thread) refl refl
+        (change_number s.settings now change m.thread) refl refl
 
     -- the bucket in which it is queued is one that there is
     queued_place : IsSoundChange now change → s.line.ridx < 64 → IsPlace queued_one.place
     queued_place sound index =
         let p : ℕ = (record_after s.settings now change m.thread).priority in
-        bucket_small (kind_at p) how s.line p (changes_keep_numbers s.settings now change m.thread sound v.made.numbers).priority index
+        bucket_small (kind_at p) how s.line p (change_numbers s.settings now change m.thread sound v.made.numbers).priority index
 
     -- the threads after a thread is queued with its record changed
     abbrev queued_all : List Member

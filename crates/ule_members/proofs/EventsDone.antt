@@ -25,7 +25,7 @@ use Rattle.ule_members.proofs.Done.{IsDone, done_further, done_nothing, held_mem
 use Rattle.ule_members.proofs.EventParts.{done_choosing, done_hatched, done_landed, done_noted, done_put, done_requeued, done_taken}
 use Rattle.ule_members.proofs.Membership.{has_thread_of}
 use Rattle.ule_members.proofs.Moves.{carried_between, current_of-between, changed_by, queued_between, queued_member}
-use Rattle.ule_members.proofs.Reach.{IsHeld, IsUnbornIn, held_by, lock_where_runs, takes_itself, unborn_in}
+use Rattle.ule_members.proofs.Reach.{IsHeld, IsUnbornIn, held_found, lock_where_runs, takes_itself, unborn_found}
 use Rattle.ule_members.proofs.Threads.{current_runs, thread_of_within, within_current}
 use Rattle.ule_members.proofs.Within.{Within, within_found}
 
@@ -112,7 +112,7 @@ module _ (w : World) (worker now : ℕ) where
       IsDone w worker (event.Bed t channel) now (change_of (event.Bed t channel) (bedded t channel w.members).1) w.members (bedded t channel w.members).0
   bedded_done t channel made held =
       done_put w worker (event.Bed t channel) now t (16 + channel % 8) (Asleep channel) w.members made (takes_itself (16 + channel % 8))
-      (held_by w.members t worker held) refl tt (λ c. refl)
+      (held_found w.members t worker held) refl tt (λ c. refl)
 
   -- a wake takes the thread if it sleeps
   pub woken_done : (t : ℕ) → IsWellMade w.members →
@@ -152,7 +152,7 @@ module _ (w : World) (worker now : ℕ) where
   pub landed_done : (t c : ℕ) → IsWellMade w.members → (slice_index_or w.lines c fresh_line).ridx < 64 → holder_of w.members t ≡ Some worker →
       IsDone w worker (event.Land t c) now (Some (point t c)) w.members (landed t c worker now (side_of c w)).0.members
   landed_done t c made index held =
-      let h : IsHeld w.members t worker = held_by w.members t worker held in
+      let h : IsHeld w.members t worker = held_found w.members t worker held in
       let m : Member = h.member in
       subst (λ (o : Option Member). IsDone w worker (event.Land t c) now (Some (point t c)) w.members (landed_with o c worker now (side_of c w)).0.members) (sym h.found)
       (done_landed w worker (event.Land t c) now Ordinary c (placed c) m (side_of c w) (within_found (is_thread t) w.members m made h.found) t refl (takes_itself c)
@@ -164,7 +164,7 @@ module _ (w : World) (worker now : ℕ) where
   pub hatched_done : (t : ℕ) → IsWellMade w.members → is_unborn_thread (thread_of t w.members) ≡ true →
       IsDone w worker (event.Hatch t) now (Some (block t)) w.members (hatched t worker w.members).0
   hatched_done t made unborn =
-      let h : IsUnbornIn w.members t = unborn_in w.members t unborn in
+      let h : IsUnbornIn w.members t = unborn_found w.members t unborn in
       let m : Member = h.member in
       let number : m.thread.id ≡ t = (has_thread_of t m w.members h.found).1 in
       subst (λ (u : ℕ). IsDone w worker (event.Hatch t) now (Some (block t)) w.members (hatched u worker w.members).0) number
@@ -175,10 +175,10 @@ module _ (w : World) (worker now : ℕ) where
   pub returned_done : (t : ℕ) → IsWellMade w.members → holder_of w.members t ≡ Some worker →
       IsDone w worker (event.Return t) now (Some (point t 24)) w.members (returned t w.members).0
   returned_done t made held =
-      done_put w worker (event.Return t) now t 24 Unborn w.members made (takes_itself 24) (held_by w.members t worker held) refl tt (λ c. refl)
+      done_put w worker (event.Return t) now t 24 Unborn w.members made (takes_itself 24) (held_found w.members t worker held) refl tt (λ c. refl)
 
   -- a burial makes the thread in hand gone
   pub buried_done : (t : ℕ) → IsWellMade w.members → holder_of w.members t ≡ Some worker →
       IsDone w worker (event.Bury t) now (Some (point t 24)) w.members (buried t w.members).0
   buried_done t made held =
-      done_put w worker (event.Bury t) now t 24 Gone w.members made (takes_itself 24) (held_by w.members t worker held) refl tt (λ c. refl)
+      done_put w worker (event.Bury t) now t 24 Gone w.members made (takes_itself 24) (held_found w.members t worker held) refl tt (λ c. refl)

@@ -4,7 +4,6 @@ pub mod Threads
 pub mod PlaceFinds
 pub mod Loads
 pub mod Lists
-pub mod Owed
 pub mod Touches
 pub mod WordLaws
 pub mod Apart

@@ -19,7 +19,7 @@ use Rattle.ule_model.specs.Places.{runs_on, waits_on}
 use Rattle.ule_model.specs.WellMade.{IsWellMade}
 use Rattle.ule_model.specs.World.{Member, Side, current_of, is_thread, moved_to, others, thread_of, with_change}
 use Rattle.ule_members.proofs.Membership.{Has, has_filtered, thread_of_has}
-use Rattle.ule_members.proofs.Owed.{changes_leave_the_number}
+use Rattle.ule_score.proofs.ChangeLaws.{change_number}
 use Rattle.ule_members.proofs.Threads.{changed_further, find_nowhere, no_other_runs, thread_of-changed_same, thread_of_within}
 use Rattle.ule_members.proofs.Within.{Lacks, Within, all-append, changed_within, within_thread}
 
@@ -69,7 +69,7 @@ pub carried_between : (settings : Settings) (now : ℕ) (change : RecordChange) 
     moved_to m.thread.id place order (with_change settings now m.thread.id change ms) ≡
     v.before ++ moved_member place order (changed_by settings now change m) ∷ v.after
 carried_between settings now change m ms v place order =
-    changed_further m.thread.id (changed_by settings now change) (moved_member place order) ms (λ n. changes_leave_the_number settings now change n.thread) ∙
+    changed_further m.thread.id (changed_by settings now change) (moved_member place order) ms (λ n. change_number settings now change n.thread) ∙
     changed_within m.thread.id m ms v (λ n. moved_member place order (changed_by settings now change n))
 
 -- the list with one thread moved and its record changed
@@ -104,11 +104,11 @@ queued_between how c now change m s v =
     side = record s { members = with_change s.settings now m.thread.id change s.members }
 
     number : n.thread.id ≡ m.thread.id
-    number = changes_leave_the_number s.settings now change m.thread
+    number = change_number s.settings now change m.thread
 
     found : thread_of m.thread.id side.members ≡ Some n
     found =
-        thread_of-changed_same m.thread.id (changed_by s.settings now change) s.members (λ x. changes_leave_the_number s.settings now change x.thread) ∙
+        thread_of-changed_same m.thread.id (changed_by s.settings now change) s.members (λ x. change_number s.settings now change x.thread) ∙
         ap (option_map (changed_by s.settings now change)) (thread_of_within m.thread.id m s.members v)
 
     rest : others m.thread.id side.members ≡ v.before ++ v.after

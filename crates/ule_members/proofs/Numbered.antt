@@ -15,7 +15,7 @@ use Rattle.ule_model.specs.Shows.{ids_of}
 use Rattle.ule_model.specs.Step.{step}
 use Rattle.ule_model.specs.WellMade.{IsMade, IsWellMadeWorld}
 use Rattle.ule_model.specs.World.{Member, World, is_thread, thread_of}
-use Rattle.ule_members.proofs.Owed.{changes_are_by_now, changes_keep_bounds, changes_keep_numbers}
+use Rattle.ule_score.proofs.ChangeLaws.{change_by_now, change_bounds, change_numbers}
 use Rattle.ule_members.proofs.Steps.{step_is_made, step_touches}
 use Rattle.ule_members.proofs.Touches.{touched_number}
 use Rattle.ule_members.proofs.Within.{all_along, all_both}
@@ -39,9 +39,9 @@ pub record IsInBounds (now : ℕ) (r : ThreadRecord) : Type 0 where
 in_bounds_after : (settings : Settings) (now : ℕ) → HasSlice settings → now < 2 ^ 36 → (change : RecordChange) (r : ThreadRecord) → IsSoundChange now change →
     IsInBounds now r → IsInBounds now (record_after settings now change r)
 in_bounds_after settings now slice below change r sound h = record {
-  numbers = changes_keep_numbers settings now change r sound h.numbers;
-  by_now = changes_are_by_now settings now change r h.by_now;
-  bounds = changes_keep_bounds settings now change r slice sound h.numbers.nice h.by_now below h.bounds;
+  numbers = change_numbers settings now change r sound h.numbers;
+  by_now = change_by_now settings now change r h.by_now;
+  bounds = change_bounds settings now change r slice sound h.numbers.nice h.by_now below h.bounds;
 }
 
 -- ---- lists
@@ -109,7 +109,7 @@ module _ (w : World) (worker : ℕ) (e : Event) (now : ℕ) where
 
     -- what is noted of each thread happened by now, where it had before
     pub step_by_now : AllByRecursion (λ m. IsBy now m.thread) w.members → AllByRecursion (λ m. IsBy now m.thread) (step w worker e now).0.members
-    step_by_now all = step_records (IsBy now) (λ change r sound h. changes_are_by_now w.settings now change r h) all
+    step_by_now all = step_records (IsBy now) (λ change r sound h. change_by_now w.settings now change r h) all
 
     -- the numbers of each record stay in range
     pub step_in_range : AllByRecursion (λ m. HasNumbers m.thread) (step w worker e now).0.members

@@ -110,8 +110,8 @@ pub record IsHeld (ms : List Member) (t worker : ℕ) : Type 0 where
   pub hand : hand_of member.place ≡ Some worker
 
 -- the thread whose holder is a worker is in its hand
-pub held_by : (ms : List Member) (t worker : ℕ) → holder_of ms t ≡ Some worker → IsHeld ms t worker
-held_by ms t worker is = split (thread_of t ms) refl is
+pub held_found : (ms : List Member) (t worker : ℕ) → holder_of ms t ≡ Some worker → IsHeld ms t worker
+held_found ms t worker is = split (thread_of t ms) refl is
   where
     split : (o : Option Member) → thread_of t ms ≡ o → option_and_then (λ m. hand_of m.place) o ≡ Some worker → IsHeld ms t worker
     split None found hand = absurd (none-some worker hand)
@@ -133,8 +133,8 @@ unborn_place Gone is = absurd (both_ways false refl is)
 unborn_place (Hand w) is = absurd (both_ways false refl is)
 
 -- a thread that passes the test of an unborn one is there and unborn
-pub unborn_in : (ms : List Member) (t : ℕ) → is_unborn_thread (thread_of t ms) ≡ true → IsUnbornIn ms t
-unborn_in ms t is = split (thread_of t ms) refl is
+pub unborn_found : (ms : List Member) (t : ℕ) → is_unborn_thread (thread_of t ms) ≡ true → IsUnbornIn ms t
+unborn_found ms t is = split (thread_of t ms) refl is
   where
     split : (o : Option Member) → thread_of t ms ≡ o → is_unborn_thread o ≡ true → IsUnbornIn ms t
     split None found unborn = absurd (both_ways false refl unborn)

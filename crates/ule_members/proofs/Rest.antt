@@ -170,13 +170,17 @@ rest_left w e ms = record { settings = refl; count = refl; lines = λ c none. re
 
 -- each event leaves what its locks don't guard
 pub step_leaves_rest : StepLeavesRest
-step_leaves_rest w worker (event.Tick c) now = side_leaves w (event.Tick c) c (ticked c now (side_of c w)).0 refl (ticked_kept c now (side_of c w)).balance_word
-step_leaves_rest w worker (event.Switch c why) now = side_leaves w (event.Switch c why) c (switched c why now (side_of c w)).0 refl (λ other. (switched_kept c why now (side_of c w)).balance_word)
-step_leaves_rest w worker (event.Drop c channel) now = side_leaves w (event.Drop c channel) c (dropped c worker now (side_of c w)).0 refl (λ other. (dropped_kept c worker now (side_of c w)).balance_word)
+step_leaves_rest w worker (event.Tick c) now =
+    side_leaves w (event.Tick c) c (ticked c now (side_of c w)).0 refl (ticked_kept c now (side_of c w)).balance_word
+step_leaves_rest w worker (event.Switch c why) now =
+    side_leaves w (event.Switch c why) c (switched c why now (side_of c w)).0 refl (λ other. (switched_kept c why now (side_of c w)).balance_word)
+step_leaves_rest w worker (event.Drop c channel) now =
+    side_leaves w (event.Drop c channel) c (dropped c worker now (side_of c w)).0 refl (λ other. (dropped_kept c worker now (side_of c w)).balance_word)
 step_leaves_rest w worker (event.Bed t channel) now = rest_left w (event.Bed t channel) (step w worker (event.Bed t channel) now).0.members
 step_leaves_rest w worker (event.Wake t) now = rest_left w (event.Wake t) (step w worker (event.Wake t) now).0.members
 step_leaves_rest w worker (event.Look c) now = rest_left w (event.Look c) w.members
-step_leaves_rest w worker (event.Land t c) now = side_leaves w (event.Land t c) c (landed t c worker now (side_of c w)).0 refl (λ other. (landed_kept t c worker now (side_of c w)).balance_word)
+step_leaves_rest w worker (event.Land t c) now =
+    side_leaves w (event.Land t c) c (landed t c worker now (side_of c w)).0 refl (λ other. (landed_kept t c worker now (side_of c w)).balance_word)
 step_leaves_rest w worker (event.Move a b why) now = rest_left w (event.Move a b why) w.members
 step_leaves_rest w worker (event.Lend t p) now = rest_left w (event.Lend t p) w.members
 step_leaves_rest w worker (event.Unlend t) now = rest_left w (event.Unlend t) w.members
@@ -191,13 +195,13 @@ step_leaves_rest w worker (event.Inherit t run) now = rest_left w (event.Inherit
 -- ---- the removal indexes
 
 -- what each element keeps, each keeps once another that keeps it is put for one
-all_set : {X : Type 0} (P : X → Type 0) (xs : List X) (i : ℕ) (x : X) → AllByRecursion P xs → P x → AllByRecursion P (slice_set xs i x)
+pub all_set : {X : Type 0} (P : X → Type 0) (xs : List X) (i : ℕ) (x : X) → AllByRecursion P xs → P x → AllByRecursion P (slice_set xs i x)
 all_set P [] i x all one = tt
 all_set P (y ∷ ys) zero x all one = (one, all.1)
 all_set P (y ∷ ys) (suc i) x all one = (all.0, all_set P ys i x all.1 one)
 
 -- what each element and the one past the end keep, each place keeps
-all_at : {X : Type 0} (P : X → Type 0) (xs : List X) (i : ℕ) (past : X) → AllByRecursion P xs → P past → P (slice_index_or xs i past)
+pub all_at : {X : Type 0} (P : X → Type 0) (xs : List X) (i : ℕ) (past : X) → AllByRecursion P xs → P past → P (slice_index_or xs i past)
 all_at P [] i past all none = none
 all_at P (x ∷ xs) zero past all none = all.0
 all_at P (x ∷ xs) (suc i) past all none = all_at P xs i past all.1 none

@@ -6,7 +6,7 @@ use Rattle.ule_score.specs.declared.record.ThreadRecord.{ThreadRecord}
 use Rattle.ule_types.specs.declared.event.Event.{Event}
 use Rattle.ule_model.specs.Frames.{AreTouched, IsTouched, left, reached}
 use Rattle.ule_model.specs.World.{Member, World}
-use Rattle.ule_members.proofs.Owed.{changes_keep_numbers, changes_leave_the_number}
+use Rattle.ule_score.proofs.ChangeLaws.{change_numbers, change_number}
 
 -- ---- one record through changes
 
@@ -26,13 +26,13 @@ goes_further (goes change r m sound rest) second = goes change r _ sound (goes_f
 pub goes_number : {settings : Settings} {now : ℕ} {r n : ThreadRecord} → GoesThrough settings now r n → n.id ≡ r.id
 goes_number (stays r) = refl
 goes_number {settings = settings} {now = now} (goes change r n sound rest) =
-    goes_number rest ∙ changes_leave_the_number settings now change r
+    goes_number rest ∙ change_number settings now change r
 
 -- a record that went through changes has its numbers in range where it had them
 pub goes_numbers : {settings : Settings} {now : ℕ} {r n : ThreadRecord} → GoesThrough settings now r n → HasNumbers r → HasNumbers n
 goes_numbers (stays r) numbers = numbers
 goes_numbers {settings = settings} {now = now} (goes change r n sound rest) numbers =
-    goes_numbers rest (changes_keep_numbers settings now change r sound numbers)
+    goes_numbers rest (change_numbers settings now change r sound numbers)
 
 -- ---- threads
 
