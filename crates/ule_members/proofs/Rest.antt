@@ -191,13 +191,13 @@ step_leaves_rest w worker (event.Inherit t run) now = rest_left w (event.Inherit
 -- ---- the removal indexes
 
 -- what each element keeps, each keeps once another that keeps it is put for one
-all_set : {X : Type 0} (P : X → Type 0) (xs : List X) (i : ℕ) (x : X) → AllByRecursion P xs → P x → AllByRecursion P (slice_set xs i x)
+pub all_set : {X : Type 0} (P : X → Type 0) (xs : List X) (i : ℕ) (x : X) → AllByRecursion P xs → P x → AllByRecursion P (slice_set xs i x)
 all_set P [] i x all one = tt
 all_set P (y ∷ ys) zero x all one = (one, all.1)
 all_set P (y ∷ ys) (suc i) x all one = (all.0, all_set P ys i x all.1 one)
 
 -- what each element and the one past the end keep, each place keeps
-all_at : {X : Type 0} (P : X → Type 0) (xs : List X) (i : ℕ) (past : X) → AllByRecursion P xs → P past → P (slice_index_or xs i past)
+pub all_at : {X : Type 0} (P : X → Type 0) (xs : List X) (i : ℕ) (past : X) → AllByRecursion P xs → P past → P (slice_index_or xs i past)
 all_at P [] i past all none = none
 all_at P (x ∷ xs) zero past all none = all.0
 all_at P (x ∷ xs) (suc i) past all none = all_at P xs i past all.1 none

@@ -14,7 +14,7 @@ use Rattle.ule_types.specs.declared.event.Reply.{Reply}
 use Rattle.ule_types.specs.declared.stage.Stage.TheVariants as stage
 use Rattle.ule_model.specs.Events.{handling, sought_by}
 use Rattle.ule_model.specs.Legal.{Performs, Timed, acts, advances, amount_in, amount_of, stays}
-use Rattle.ule_model.specs.Program.{Course, Own, Stage, after_giving, begun, course_of, first_stage, in_hand, item_at, most_from, next_in, next_of, next_step, or_else, stage_after, stepped, told_last}
+use Rattle.ule_model.specs.Program.{Course, Own, after_giving, begun, course_of, in_hand, item_at, most_from, next_in, next_of, next_step, or_else, stage_after, stepped, told_last}
 use Rattle.ule_rounds.proofs.Stages.{FitsHand, IsSoundReply, IsSoundStage, advance_lowers, at_advance, at_event, ended_stage, first_charged, first_hand, first_sound, first_time, given_sound, given_stage, item_fits, item_time, reply_lowers, reply_sound, reply_time, time_at}
 
 -- ---- where the next item is found

@@ -1,7 +1,7 @@
 -- Each round performs an item where a worker has a further one, until all workers are at their ends.
-use Rattle.std.proofs.Common.{◌≡◌, ℕ, zero, suc, ◌+◌, ◌<◌, ◌≤◌, ◌⊎◌, Bool, true, false, length, slice_get, Option, Some, None, IfSome, inl, inr, if◌then◌else◌, option_and_then, refl, sym, ◌∙◌, ap, subst, ⊎_elim, eq-eqb, arith}
+use Rattle.std.proofs.Common.{◌≡◌, ℕ, zero, suc, ◌+◌, ◌<◌, ◌≤◌, ◌⊎◌, Bool, true, false, length, slice_get, Some, None, IfSome, inl, inr, if◌then◌else◌, option_and_then, refl, sym, ◌∙◌, ap, subst, ⊎_elim, arith}
 use Rattle.std.specs.List.{range_with_len}
-use Rattle.std.proofs.lemmas.Bool.{cases_lt, false≢true, true≢false}
+use Rattle.std.proofs.lemmas.Bool.{cases_lt, true≢false}
 use Rattle.std.proofs.lemmas.List.{length_push}
 use Rattle.std.proofs.lemmas.Option.{option_and_then_some, slice_get_within}
 use Rattle.ule_types.specs.declared.event.Event.{Event}
@@ -9,12 +9,12 @@ use Rattle.ule_types.specs.declared.event.Item.{Item}
 use Rattle.ule_types.specs.declared.event.Item.TheVariants as item
 use Rattle.ule_types.specs.declared.setup.Setup.{Setup}
 use Rattle.ule_model.specs.Events.{holder_of, is_no_others, is_ready, sought_by}
-use Rattle.ule_model.specs.Places.{is_number}
 use Rattle.ule_model.specs.Program.{Course, next_step}
 use Rattle.ule_model.specs.Rounds.{Play, after_item, entry_of, performed, round, rounds, turn}
 use Rattle.ule_model.specs.Step.{step}
-use Rattle.ule_rounds.proofs.Courses.{GoesOnAs, course_advanced, held_at, held_goes_on, left_of}
-use Rattle.ule_rounds.proofs.Hands.{hand_at, held_found, number_is, sought_held}
+use Rattle.ule_members.proofs.Reach.{number_from_test}
+use Rattle.ule_rounds.proofs.Courses.{course_advanced, held_at, held_goes_on, left_of}
+use Rattle.ule_rounds.proofs.Hands.{hand_at, held_found, sought_held}
 use Rattle.ule_rounds.proofs.Keeping.{HasNext, IsUnderWay, advance_within, has_next, ids_in, kept_next, next_told, under_way_turn}
 use Rattle.ule_rounds.proofs.Plays.{all_left, sum_set}
 use Rattle.ule_rounds.proofs.RoundsLaws.{IsFinished, round_finished, rounds_none, rounds_still, rounds_suc, turn_cases, turns, turns_keep, turns_more}
@@ -150,7 +150,7 @@ idle_finished s p kept idle worker course got =
     is_lost lost =
         let held = sought_held (holder_of p.world.members) worker (sought_by lost.event) lost.ready in
         let in_hand = sym (kept.hands held.1 held.0) ∙ held_found held.1 held.0 p.world.members held.2 in
-        held_not_idle s p held.0 held.1 kept (number_is held.0 (hand_at p.courses held.1) in_hand) idle
+        held_not_idle s p held.0 held.1 kept (number_from_test held.0 (hand_at p.courses held.1) in_hand) idle
 
 -- a round performs an item, or all workers are at their ends
 pub round_goes : (s : Setup) (p : Play) → IsUnderWay s p → IsFurther s.cpus p (round p) ⊎ ((worker : ℕ) → IsFinished p worker)
