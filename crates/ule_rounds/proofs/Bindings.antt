@@ -58,7 +58,7 @@ charged_in_bound Rt settings load r = refl
 charged_in_bound Fifo settings load r = refl
 charged_in_bound Idle settings load r = refl
 
--- a thread that is bound to a CPU of which this holds, or to none, stays so over every change
+-- a change leaves a thread bound to a CPU with a property, or to none
 pub change_binds : (P : ℕ → Type 0) (settings : Settings) (now : ℕ) (change : RecordChange) (r : ThreadRecord) → IfSome r.bound P →
     IfSome (record_after settings now change r).bound P
 change_binds P settings now ran r binds = binds

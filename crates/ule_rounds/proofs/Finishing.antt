@@ -55,7 +55,8 @@ turn_goes s p worker kept =
     reached : Event → Course → Course
     reached e after = record after { last = Some ((step p.world worker e p.now).1, p.now) }
 
-    goes : (course after : Course) (i : Item) → slice_get p.courses worker ≡ Some course → next_step course ≡ Some (i, after) → IsFurther s.cpus p (after_item worker i after p) ⊎ ((after_item worker i after p ≡ p) × IsIdle p worker)
+    goes : (course after : Course) (i : Item) → slice_get p.courses worker ≡ Some course → next_step course ≡ Some (i, after) →
+        IsFurther s.cpus p (after_item worker i after p) ⊎ ((after_item worker i after p ≡ p) × IsIdle p worker)
     goes course after (item.Advance k) got next =
         inl (record {
           entries = omega arith;
@@ -65,7 +66,8 @@ turn_goes s p worker kept =
         })
     goes course after (item.Event e) got next = if_ready (is_ready p.world worker e) refl
       where
-        if_ready : (b : Bool) → is_ready p.world worker e ≡ b → IsFurther s.cpus p (if b then performed worker e after p else p) ⊎ (((if b then performed worker e after p else p) ≡ p) × IsIdle p worker)
+        if_ready : (b : Bool) → is_ready p.world worker e ≡ b →
+            IsFurther s.cpus p (if b then performed worker e after p else p) ⊎ (((if b then performed worker e after p else p) ≡ p) × IsIdle p worker)
         if_ready true is =
             let pushed = length_push p.entries (entry_of p worker e) in
             inl (record {
@@ -110,7 +112,8 @@ turns_go s (suc n) p kept =
         inl (further_still s.cpus p (turns n p) (turn (turns n p) n) further
         (turn_goes_on s (turns n p) n (turns_keep (IsUnderWay s) (under_way_turn s) (range_with_len 0 n) p kept)))
 
-    after_same : (turns n p ≡ p) × ((worker : ℕ) → worker < n → IsIdle p worker) → IsFurther s.cpus p (turn (turns n p) n) ⊎ ((turn (turns n p) n ≡ p) × ((worker : ℕ) → worker < suc n → IsIdle p worker))
+    after_same : (turns n p ≡ p) × ((worker : ℕ) → worker < n → IsIdle p worker) →
+        IsFurther s.cpus p (turn (turns n p) n) ⊎ ((turn (turns n p) n ≡ p) × ((worker : ℕ) → worker < suc n → IsIdle p worker))
     after_same same =
         subst (λ q. IsFurther s.cpus p (turn q n) ⊎ ((turn q n ≡ p) × ((worker : ℕ) → worker < suc n → IsIdle p worker))) (sym same.0)
         (⊎_elim (λ (further : IsFurther s.cpus p (turn p n)). inl further)

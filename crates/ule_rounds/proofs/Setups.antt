@@ -84,7 +84,7 @@ setup_slice s =
     let both = and_parts (nat_le 6 s.settings.slice) (nat_le s.settings.slice 1000) slice.1 in
     record { low = leb-true 6 s.settings.slice both.0; high = leb-true s.settings.slice 1000 both.1 }
 
--- every setup has such scripts
+-- every setup has a script of valid commands for each CPU, within the budget
 pub setup_scripts : (s : Setup) → HasScripts s
 setup_scripts s =
     let ids = declared_ids s.threads s.unborn in

@@ -182,7 +182,7 @@ pub record IsLaid (cpus : ℕ) (settings : Settings) (ids : List ℕ) (w : World
   pub made : IsWellMadeWorld w
   pub free : AreFree w.members
 
--- one thread more
+-- laying one thread more keeps what the world keeps while threads are laid
 pub laid_once : (cpus : ℕ) (settings : Settings) (ids : List ℕ) (w : World) (spec : ThreadSpec) → IsGood cpus spec → is_among ids spec.id ≡ false →
     IsLaid cpus settings ids w → IsLaid cpus settings (ids ++ spec.id ∷ []) (laid w spec)
 laid_once cpus settings ids w spec good new so_far = record {
@@ -219,7 +219,7 @@ laid_once cpus settings ids w spec good new so_far = record {
     made_new : IsWellMade (w.members ++ unborn_member r ∷ [])
     made_new = made_with_new r w.members fresh.1 (ap (λ us. is_among us spec.id) so_far.ids_are ∙ new) so_far.made.members
 
--- all of them
+-- laying all declared threads keeps what the world keeps while threads are laid
 pub laid_all : (cpus : ℕ) (settings : Settings) (ids : List ℕ) (w : World) (specs : List ThreadSpec) → AllByRecursion (IsGood cpus) specs →
     is_distinct (ids ++ map (λ spec. spec.id) specs) ≡ true → IsLaid cpus settings ids w → IsLaid cpus settings (ids ++ map (λ spec. spec.id) specs) (fold laid w specs)
 laid_all cpus settings ids w [] good distinct so_far = subst (λ us. IsLaid cpus settings us w) (sym (append-nil ids)) so_far
@@ -231,7 +231,7 @@ laid_all cpus settings ids w (spec ∷ specs) good distinct so_far =
 
 -- ---- the start
 
--- the threads of a setup that can be spelled so far are such
+-- each thread of a setup that can be spelled so far can be declared
 pub form_good : (cpus : ℕ) (specs : List ThreadSpec) → list_all (is_plain cpus) specs ≡ true → list_all (is_spec cpus) specs ≡ true →
     list_all (λ t. nat_lt t 256) (map (λ spec. spec.id) specs) ≡ true → AllByRecursion (IsGood cpus) specs
 form_good cpus [] plain valid numbers = tt
@@ -241,7 +241,7 @@ form_good cpus (spec ∷ specs) plain valid numbers =
     let third = and_parts (nat_lt spec.id 256) (list_all (λ t. nat_lt t 256) (map (λ (x : ThreadSpec). x.id) specs)) numbers in
     ((first.0, second.0, ltb-true spec.id 256 third.0), form_good cpus specs first.1 second.1 third.1)
 
--- the world at the start of such a setup
+-- what the world at the start of a setup keeps
 pub start_laid : (s : Setup) → IsOfForm s → IsLaid s.cpus s.settings (declared_ids s.threads s.unborn) (world_at_start s)
 start_laid s form =
     subst (λ us. IsLaid s.cpus s.settings (map (λ spec. spec.id) s.threads ++ us) (fold with_unborn (fold laid (empty_world s) s.threads) us)) (sym form.unborn)
