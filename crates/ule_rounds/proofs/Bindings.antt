@@ -1,13 +1,12 @@
 -- The CPUs that threads are bound to: no change binds a thread to another CPU.
-use Rattle.std.proofs.Common.{◌≡◌, ℕ, ◌-◌, ◌*◌, ◌<◌, ◌==◌, Bool, true, false, List, [], ◌∷◌, Option, Some, None, IfSome, if◌then◌else◌, refl, sym, ◌∙◌, subst}
+use Rattle.std.proofs.Common.{◌≡◌, ℕ, ◌-◌, ◌*◌, ◌<◌, ◌==◌, Bool, true, false, List, Option, Some, None, IfSome, if◌then◌else◌, refl, sym, ◌∙◌, subst}
 use Rattle.std.specs.List.{AllByRecursion}
 use Rattle.ule_history.specs.CpuUseUpdate.{updated_use}
 use Rattle.ule_history.specs.HistoryUpdate.{charged_history, rested_history}
 use Rattle.ule_prio.specs.declared.class.Class.{Class}
 use Rattle.ule_prio.specs.declared.class.Class.TheVariants.{Ithd, Rt, Fifo, Ts, Idle}
 use Rattle.ule_score.specs.Bounds.{with_history, with_use}
-use Rattle.ule_score.specs.Changes.{GoesThrough, IsSoundChange, RecordChange, after_fork, after_sleep, after_tick, changed, charged, charged_in, child_of, forked, forks, goes, placed, ran, rebased, rebased_in, record_after, rested, runs, sleeps, stays, tick_length, ticked, used, woken}
-use Rattle.ule_score.specs.declared.record.Change.{Change}
+use Rattle.ule_score.specs.Changes.{RecordChange, after_sleep, changed, charged_in, child_of, forked, forks, placed, ran, rebased, rebased_in, record_after, rested, runs, sleeps, tick_length, ticked, used, woken}
 use Rattle.ule_score.specs.declared.record.Change.TheVariants.{Lend, Unlend, Renice, Inherit}
 use Rattle.ule_score.specs.declared.record.Settings.{Settings}
 use Rattle.ule_score.specs.declared.record.ThreadRecord.{ThreadRecord}
@@ -16,14 +15,13 @@ use Rattle.ule_score.specs.declared.place.Place.TheVariants.{Running, Queued, As
 use Rattle.ule_types.specs.declared.event.Event.{Event}
 use Rattle.ule_types.specs.declared.stage.Stage.TheVariants as stage
 use Rattle.ule_model.specs.Conditions.{IsPossible}
-use Rattle.ule_model.specs.Frames.{AreTouched, IsTouched, left, reached}
 use Rattle.ule_model.specs.Program.{Stage, landing_cpu}
 use Rattle.ule_model.specs.Sleep.{woken as woken_of, woken_at, woken_with}
 use Rattle.ule_model.specs.Step.{step}
 use Rattle.ule_model.specs.WellMade.{IsWellMadeWorld}
 use Rattle.ule_model.specs.World.{Member, World, thread_of}
 use Rattle.ule_members.proofs.Membership.{all_has, has_thread_of}
-use Rattle.ule_rounds.proofs.Owed.{step_touches}
+use Rattle.ule_members.proofs.Numbered.{step_records}
 use Rattle.ule_rounds.proofs.Stages.{AtItem, IsSoundReply, LandsWithin}
 
 -- ---- one record
@@ -60,7 +58,7 @@ charged_in_bound Rt settings load r = refl
 charged_in_bound Fifo settings load r = refl
 charged_in_bound Idle settings load r = refl
 
--- a thread that is bound to a CPU of which this holds, or to none, stays so over every change
+-- a change leaves a thread bound to a CPU with a property, or to none
 pub change_binds : (P : ℕ → Type 0) (settings : Settings) (now : ℕ) (change : RecordChange) (r : ThreadRecord) → IfSome r.bound P →
     IfSome (record_after settings now change r).bound P
 change_binds P settings now ran r binds = binds
@@ -81,32 +79,13 @@ change_binds P settings now (forked parent c load) r binds = subst (λ o. IfSome
     free : (parent : ThreadRecord) → (child_of settings now parent c load r).bound ≡ None
     free parent = rebased_in_bound parent.class settings _
 
--- so it stays over any number of changes
-pub changes_bind : (P : ℕ → Type 0) {settings : Settings} {now : ℕ} {r n : ThreadRecord} → GoesThrough settings now r n → IfSome r.bound P → IfSome n.bound P
-changes_bind P (stays r) binds = binds
-changes_bind P {settings = settings} {now = now} (goes change r n sound rest) binds = changes_bind P rest (change_binds P settings now change r binds)
-
 -- ---- all records
-
--- what each record keeps over any number of changes, each keeps over a step
-pub touched_all : (Q : ThreadRecord → Type 0) (w : World) (worker : ℕ) (e : Event) (now : ℕ) →
-    ((r n : ThreadRecord) → GoesThrough w.settings now r n → Q r → Q n) → (ms ns : List Member) → AreTouched w worker e now ms ns →
-    AllByRecursion (λ m. Q m.thread) ms → AllByRecursion (λ m. Q m.thread) ns
-touched_all Q w worker e now keeps [] [] touched all = tt
-touched_all Q w worker e now keeps [] (n ∷ ns) touched all = absurd touched
-touched_all Q w worker e now keeps (m ∷ ms) [] touched all = absurd touched
-touched_all Q w worker e now keeps (m ∷ ms) (n ∷ ns) touched all = (one touched.0, touched_all Q w worker e now keeps ms ns touched.1 all.1)
-  where
-    one : IsTouched w worker e now m n → Q n.thread
-    one (left same) = subst (λ (x : Member). Q x.thread) same all.0
-    one (reached from to through) = keeps m.thread n.thread through all.0
 
 -- no step binds a thread to another CPU
 pub step_binds : (P : ℕ → Type 0) (w : World) (worker : ℕ) (e : Event) (now : ℕ) → IsWellMadeWorld w → IsPossible w worker e now →
     AllByRecursion (λ m. IfSome m.thread.bound P) w.members → AllByRecursion (λ m. IfSome m.thread.bound P) (step w worker e now).0.members
 step_binds P w worker e now made can all =
-    touched_all (λ r. IfSome r.bound P) w worker e now (λ r n through binds. changes_bind P through binds) w.members (step w worker e now).0.members
-    (step_touches w worker e now made can) all
+    step_records w worker e now made can (λ r. IfSome r.bound P) (λ change r sound binds. change_binds P w.settings now change r binds) all
 
 -- ---- where a woken thread lands
 

@@ -14,12 +14,12 @@ use Rattle.ule_types.specs.declared.event.Reply.{Reply}
 use Rattle.ule_types.specs.declared.stage.Stage.TheVariants as stage
 use Rattle.ule_model.specs.Events.{handling, sought_by}
 use Rattle.ule_model.specs.Legal.{Performs, Timed, acts, advances, amount_in, amount_of, stays}
-use Rattle.ule_model.specs.Program.{Course, Own, Stage, after_giving, begun, course_of, first_stage, in_hand, item_at, most_from, next_in, next_of, next_step, or_else, stage_after, stepped, told_last}
+use Rattle.ule_model.specs.Program.{Course, Own, after_giving, begun, course_of, in_hand, item_at, most_from, next_in, next_of, next_step, or_else, stage_after, stepped, told_last}
 use Rattle.ule_rounds.proofs.Stages.{FitsHand, IsSoundReply, IsSoundStage, advance_lowers, at_advance, at_event, ended_stage, first_charged, first_hand, first_sound, first_time, given_sound, given_stage, item_fits, item_time, reply_lowers, reply_sound, reply_time, time_at}
 
 -- ---- where the next item is found
 
--- a worker's own part once it is told of its last event
+-- a worker's own part once it knows the reply to its last event
 abbrev pub told_at : Course → Own
 told_at course = told_last course.last course.own
 
@@ -32,7 +32,7 @@ abbrev pub next_from : List Command → Own → Option (Item × Course)
 next_from [] own = stepped [] (item_at own.worker own.stage) (given own)
 next_from (c ∷ cs) own = or_else (stepped (c ∷ cs) (item_at own.worker own.stage) (given own)) (next_from cs (begun c own))
 
--- the next item of a program is found from where its worker stands once it is told
+-- the next item of a program is found from where its worker stands once it knows the last reply
 pub next_in_is : (script : List Command) (own : Own) (last : Option (Reply × ℕ)) → next_in script own last ≡ next_from script (told_last last own)
 unfolding next_in
 next_in_is [] own last = refl
@@ -71,7 +71,7 @@ found_from P kept (c ∷ cs) own i after holds next = at_item (item_at own.worke
         let parts = some_pair_parts j i (course_of (given own) (c ∷ cs)) after some in
         record { script = c ∷ cs; own = own; holds = holds; item = is ∙ ap (λ (k : Item). Some k) parts.0; gone = sym parts.1 }
 
--- the next item of a course is found from where its worker stands once it is told
+-- the next item of a course is found from where its worker stands once it knows the last reply
 pub next_found : (P : List Command → Own → Type 0) → KeptAtBegin P → (course : Course) (i : Item) (after : Course) → P course.script (told_at course) →
     next_step course ≡ Some (i, after) → IsFound P i after
 next_found P kept course i after holds next =
@@ -269,7 +269,7 @@ held_goes_on t course held none = at_item (item_at (told_at course).worker (told
 
 -- ---- a worker's entries, one step more
 
--- a worker's entries, and then time that goes on
+-- a worker that made its entries goes on to an advance of time
 pub performs_advanced : {course end : Course} {amount total : ℕ} {es : List Timed} (k : ℕ) (after : Course) → Performs course amount es end total →
     next_step end ≡ Some (item.Advance k, after) → Performs course amount es after (total + k)
 performs_advanced k after (stays course amount) next =
@@ -279,7 +279,7 @@ performs_advanced k after (advances course second end amount j total es first re
 performs_advanced k after (acts course second end amount total e es first rest) next =
     acts course second after amount (total + k) e es first (performs_advanced k after rest next)
 
--- a worker's entries, and then one more
+-- a worker that made its entries goes on to one more
 pub performs_acted : {course end : Course} {amount total : ℕ} {es : List Timed} (e : Entry) (after : Course) → Performs course amount es end total →
     next_step end ≡ Some (item.Event e.event, after) →
     Performs course amount (es ++ record { entry = e; amount = total } ∷ []) (record after { last = Some (e.reply, e.now) }) total

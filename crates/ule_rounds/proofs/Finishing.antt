@@ -1,7 +1,7 @@
 -- Each round performs an item where a worker has a further one, until all workers are at their ends.
-use Rattle.std.proofs.Common.{◌≡◌, ℕ, zero, suc, ◌+◌, ◌<◌, ◌≤◌, ◌⊎◌, Bool, true, false, length, slice_get, Option, Some, None, IfSome, inl, inr, if◌then◌else◌, option_and_then, refl, sym, ◌∙◌, ap, subst, ⊎_elim, eq-eqb, arith}
+use Rattle.std.proofs.Common.{◌≡◌, ℕ, zero, suc, ◌+◌, ◌<◌, ◌≤◌, ◌⊎◌, Bool, true, false, length, slice_get, Some, None, IfSome, inl, inr, if◌then◌else◌, option_and_then, refl, sym, ◌∙◌, ap, subst, ⊎_elim, arith}
 use Rattle.std.specs.List.{range_with_len}
-use Rattle.std.proofs.lemmas.Bool.{cases_lt, false≢true, true≢false}
+use Rattle.std.proofs.lemmas.Bool.{cases_lt, true≢false}
 use Rattle.std.proofs.lemmas.List.{length_push}
 use Rattle.std.proofs.lemmas.Option.{option_and_then_some, slice_get_within}
 use Rattle.ule_types.specs.declared.event.Event.{Event}
@@ -9,12 +9,12 @@ use Rattle.ule_types.specs.declared.event.Item.{Item}
 use Rattle.ule_types.specs.declared.event.Item.TheVariants as item
 use Rattle.ule_types.specs.declared.setup.Setup.{Setup}
 use Rattle.ule_model.specs.Events.{holder_of, is_no_others, is_ready, sought_by}
-use Rattle.ule_model.specs.Places.{is_number}
 use Rattle.ule_model.specs.Program.{Course, next_step}
 use Rattle.ule_model.specs.Rounds.{Play, after_item, entry_of, performed, round, rounds, turn}
 use Rattle.ule_model.specs.Step.{step}
-use Rattle.ule_rounds.proofs.Courses.{GoesOnAs, course_advanced, held_at, held_goes_on, left_of}
-use Rattle.ule_rounds.proofs.Hands.{hand_at, held_found, number_is, sought_held}
+use Rattle.ule_members.proofs.Reach.{number_from_test}
+use Rattle.ule_rounds.proofs.Courses.{course_advanced, held_at, held_goes_on, left_of}
+use Rattle.ule_rounds.proofs.Hands.{hand_at, held_found, sought_held}
 use Rattle.ule_rounds.proofs.Keeping.{HasNext, IsUnderWay, advance_within, has_next, ids_in, kept_next, next_told, under_way_turn}
 use Rattle.ule_rounds.proofs.Plays.{all_left, sum_set}
 use Rattle.ule_rounds.proofs.RoundsLaws.{IsFinished, round_finished, rounds_none, rounds_still, rounds_suc, turn_cases, turns, turns_keep, turns_more}
@@ -55,7 +55,8 @@ turn_goes s p worker kept =
     reached : Event → Course → Course
     reached e after = record after { last = Some ((step p.world worker e p.now).1, p.now) }
 
-    goes : (course after : Course) (i : Item) → slice_get p.courses worker ≡ Some course → next_step course ≡ Some (i, after) → IsFurther s.cpus p (after_item worker i after p) ⊎ ((after_item worker i after p ≡ p) × IsIdle p worker)
+    goes : (course after : Course) (i : Item) → slice_get p.courses worker ≡ Some course → next_step course ≡ Some (i, after) →
+        IsFurther s.cpus p (after_item worker i after p) ⊎ ((after_item worker i after p ≡ p) × IsIdle p worker)
     goes course after (item.Advance k) got next =
         inl (record {
           entries = omega arith;
@@ -65,7 +66,8 @@ turn_goes s p worker kept =
         })
     goes course after (item.Event e) got next = if_ready (is_ready p.world worker e) refl
       where
-        if_ready : (b : Bool) → is_ready p.world worker e ≡ b → IsFurther s.cpus p (if b then performed worker e after p else p) ⊎ (((if b then performed worker e after p else p) ≡ p) × IsIdle p worker)
+        if_ready : (b : Bool) → is_ready p.world worker e ≡ b →
+            IsFurther s.cpus p (if b then performed worker e after p else p) ⊎ (((if b then performed worker e after p else p) ≡ p) × IsIdle p worker)
         if_ready true is =
             let pushed = length_push p.entries (entry_of p worker e) in
             inl (record {
@@ -110,7 +112,8 @@ turns_go s (suc n) p kept =
         inl (further_still s.cpus p (turns n p) (turn (turns n p) n) further
         (turn_goes_on s (turns n p) n (turns_keep (IsUnderWay s) (under_way_turn s) (range_with_len 0 n) p kept)))
 
-    after_same : (turns n p ≡ p) × ((worker : ℕ) → worker < n → IsIdle p worker) → IsFurther s.cpus p (turn (turns n p) n) ⊎ ((turn (turns n p) n ≡ p) × ((worker : ℕ) → worker < suc n → IsIdle p worker))
+    after_same : (turns n p ≡ p) × ((worker : ℕ) → worker < n → IsIdle p worker) →
+        IsFurther s.cpus p (turn (turns n p) n) ⊎ ((turn (turns n p) n ≡ p) × ((worker : ℕ) → worker < suc n → IsIdle p worker))
     after_same same =
         subst (λ q. IsFurther s.cpus p (turn q n) ⊎ ((turn q n ≡ p) × ((worker : ℕ) → worker < suc n → IsIdle p worker))) (sym same.0)
         (⊎_elim (λ (further : IsFurther s.cpus p (turn p n)). inl further)
@@ -150,7 +153,7 @@ idle_finished s p kept idle worker course got =
     is_lost lost =
         let held = sought_held (holder_of p.world.members) worker (sought_by lost.event) lost.ready in
         let in_hand = sym (kept.hands held.1 held.0) ∙ held_found held.1 held.0 p.world.members held.2 in
-        held_not_idle s p held.0 held.1 kept (number_is held.0 (hand_at p.courses held.1) in_hand) idle
+        held_not_idle s p held.0 held.1 kept (number_from_test held.0 (hand_at p.courses held.1) in_hand) idle
 
 -- a round performs an item, or all workers are at their ends
 pub round_goes : (s : Setup) (p : Play) → IsUnderWay s p → IsFurther s.cpus p (round p) ⊎ ((worker : ℕ) → IsFinished p worker)

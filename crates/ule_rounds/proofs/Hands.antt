@@ -1,16 +1,15 @@
 -- The threads in hands: each worker has in hand the thread that its program says.
-use Rattle.std.proofs.Common.{◌≡◌, ◌≢◌, ℕ, ◌<◌, ◌==◌, ◌&&◌, Bool, true, false, List, [], ◌∷◌, slice_get, slice_set, is_some, Option, Some, None, IfSome, IsSome, if◌then◌else◌, option_and_then, refl, sym, ◌∙◌, ap, subst, ⊎_elim, eq-eqb}
-use Rattle.std.specs.List.{find}
+use Rattle.std.proofs.Common.{◌≡◌, ◌≢◌, ℕ, ◌==◌, ◌&&◌, Bool, true, false, List, [], ◌∷◌, slice_get, slice_set, is_some, Option, Some, None, if◌then◌else◌, option_and_then, refl, sym, ◌∙◌, ap, subst, ⊎_elim, eq-eqb}
 use Rattle.std.specs.Option.{option_map}
-use Rattle.std.proofs.lemmas.Bool.{and_parts, cases_eq, cond_both, eqb-true, false≢true, true≢false}
-use Rattle.std.proofs.lemmas.Option.{none-some, same_Some, slice_get_within}
+use Rattle.std.proofs.lemmas.Bool.{and_parts, cases_eq, eqb-true, false≢true, true≢false}
+use Rattle.std.proofs.lemmas.Option.{none-some, slice_get_within}
 use Rattle.ule_score.specs.declared.place.Place.{Place}
 use Rattle.ule_score.specs.declared.place.Place.TheVariants.{Running, Queued, Asleep, Unborn, Gone, Hand}
 use Rattle.ule_types.specs.declared.event.Event.{Event}
 use Rattle.ule_types.specs.declared.event.Event.TheVariants as event
 use Rattle.ule_types.specs.declared.event.Item.TheVariants as item
 use Rattle.ule_types.specs.declared.stage.Stage.TheVariants as stage
-use Rattle.ule_model.specs.Conditions.{HasEmptyHand, IsHandled, IsPossible}
+use Rattle.ule_model.specs.Conditions.{IsHandled, IsPossible}
 use Rattle.ule_model.specs.Events.{Handling, any, empty, has, has_handled, holder_of, is_no_others, is_own, unborn}
 use Rattle.ule_model.specs.Frames.{thread_in_hand}
 use Rattle.ule_model.specs.Places.{hand_of, is_hand_of, is_number}
@@ -19,20 +18,18 @@ use Rattle.ule_model.specs.Sleep.{dropped_with, woken_at, woken_with}
 use Rattle.ule_model.specs.Step.{step}
 use Rattle.ule_model.specs.WellMade.{IsWellMade, IsWellMadeWorld}
 use Rattle.ule_model.specs.Words.{change_of}
-use Rattle.ule_model.specs.World.{Member, Side, World, current_of, is_thread, side_of, thread_of}
+use Rattle.ule_model.specs.World.{Member, World, current_of, is_thread, side_of, thread_of}
+use Rattle.ule_members.proofs.Done.{held_member, in_hand_after, taken_member, taken_record}
 use Rattle.ule_members.proofs.Lists.{slice_get-set_other, slice_get-set_same}
+use Rattle.ule_members.proofs.Reach.{number_from_test}
+use Rattle.ule_members.proofs.Steps.{step_own_hand}
 use Rattle.ule_members.proofs.Threads.{thread_of_within, within_current}
+use Rattle.ule_members.proofs.Untouched.{step_in_hand}
 use Rattle.ule_members.proofs.Within.{found_at, within_found}
 use Rattle.ule_rounds.proofs.Courses.{held_at}
-use Rattle.ule_rounds.proofs.Owed.{held_member, in_hand_after, step_in_hand, step_own_hand, taken_member, taken_record}
 use Rattle.ule_rounds.proofs.Stages.{AtItem, FitsHand, at_event}
 
 -- ---- look-ups in a hand
-
--- an optional number that passes the test of a number is that number
-pub number_is : (n : ℕ) (o : Option ℕ) → is_number n o ≡ true → o ≡ Some n
-number_is n None is = absurd (false≢true is)
-number_is n (Some m) is = ap (λ (v : ℕ). Some v) (sym (eqb-true n m is))
 
 -- a thread whose place is a worker's hand is found there
 pub held_found : (h t : ℕ) (ms : List Member) → holder_of ms t ≡ Some h → is_some (thread_in_hand h t ms) ≡ true
@@ -58,7 +55,7 @@ found_held h t ms made found = at_found (thread_in_hand h t ms) refl found
         let both = and_parts (is_thread t m) (is_hand_of h m.place) (found_at test ms m is).passes in
         let by_number : thread_of m.thread.id ms ≡ Some m = thread_of_within m.thread.id m ms (within_found test ms m made is) in
         ap (holder_of ms) (sym (eqb-true m.thread.id t both.0)) ∙ ap (option_and_then (λ (x : Member). hand_of x.place)) by_number ∙
-        number_is h (hand_of m.place) both.1
+        number_from_test h (hand_of m.place) both.1
 
 -- ---- the event of a stage
 

@@ -11,13 +11,13 @@ use Rattle.ule_model.specs.Legal.{Locked, IsEntryOf, IsReplayed, IsInTime, Timed
 use Rattle.ule_model.specs.World.{World}
 use Rattle.ule_members.proofs.Within.{all-append}
 
--- the world after one entry more
+-- the world after some entries and one more is that after them and then the one
 pub replayed_push : (w : World) (es : List Entry) (e : Entry) → replayed w (es ++ e ∷ []) ≡ after_entry (replayed w es) e
 unfolding replayed
 replayed_push w [] e = refl
 replayed_push w (x ∷ xs) e = replayed_push (after_entry w x) xs e
 
--- a history that the world can make, and one entry more that it can make then
+-- a history that the world can make stays one with an entry more that it can make then
 pub IsReplayed-push : (w : World) (es : List Entry) (e : Entry) → IsReplayed w es → IsEntryOf (replayed w es) e → IsReplayed w (es ++ e ∷ [])
 unfolding IsReplayed replayed
 IsReplayed-push w [] e made last = (last, tt)
@@ -36,27 +36,27 @@ unfolding with_locks
 all-with_locks P w [] all = tt
 all-with_locks P w (e ∷ es) all = (all.0, all-with_locks P (after_entry w e) es all.1)
 
--- one entry more, no earlier than any before it
+-- entries in time stay so with one more that is no earlier than any before it
 pub IsInTime-push : (xs : List Locked) (y : Locked) → IsInTime xs → AllByRecursion (λ x. x.entry.now ≤ y.entry.now) xs → IsInTime (xs ++ y ∷ [])
 unfolding IsInTime
 IsInTime-push [] y timed early = (tt, tt)
 IsInTime-push (x ∷ xs) y timed early =
     (all-append (λ z. share x z ≡ true → x.entry.now ≤ z.entry.now) xs (y ∷ []) timed.0 ((λ shares. early.0), tt), IsInTime-push xs y timed.1 early.1)
 
--- a worker's entries and one more of its own
+-- one entry more of a worker's own is the last of its entries
 pub entries_of_own : (worker : ℕ) (es : List Timed) (e : Timed) → e.entry.worker ≡ worker → entries_of worker (es ++ e ∷ []) ≡ entries_of worker es ++ e ∷ []
 entries_of_own worker es e own =
     filter-append (λ (x : Timed). x.entry.worker == worker) es (e ∷ []) ∙
     ap (λ ys. entries_of worker es ++ ys) (cond-true (e.entry.worker == worker) (e ∷ []) [] (eq-eqb e.entry.worker worker own))
 
--- a worker's entries and one more of another's
+-- one entry more of another's leaves a worker's entries
 pub entries_of_other : (worker : ℕ) (es : List Timed) (e : Timed) → (e.entry.worker ≡ worker → ⊥) → entries_of worker (es ++ e ∷ []) ≡ entries_of worker es
 entries_of_other worker es e other =
     filter-append (λ (x : Timed). x.entry.worker == worker) es (e ∷ []) ∙
     ap (λ ys. entries_of worker es ++ ys) (cond-false (e.entry.worker == worker) (e ∷ []) [] (ne_eqb e.entry.worker worker other)) ∙
     append-nil (entries_of worker es)
 
--- what holds of every world of a history, and of that after one entry more
+-- what holds throughout a history holds throughout it with an entry more, where it holds of the world behind that
 pub HoldsThroughout-push : (P : World → Type 0) (w : World) (es : List Entry) (e : Entry) → HoldsThroughout P w es → P (after_entry (replayed w es) e) → HoldsThroughout P w (es ++ e ∷ [])
 unfolding HoldsThroughout replayed
 HoldsThroughout-push P w [] e holds last = (holds, last)

@@ -1,7 +1,7 @@
 -- The rounds of a setup that a scenario can spell so far make a legal and whole history of it.
-use Rattle.std.proofs.Common.{◌≡◌, ℕ, ◌+◌, ◌<◌, ◌≤◌, ◌==◌, Bool, true, false, List, [], ◌∷◌, inl, inr, get_or, length, map, slice_get, is_some, Option, Some, None, option_and_then, refl, sym, ◌∙◌, ap, subst, le_of_eq, le_trans, ⊎_elim, eq-eqb, arith}
+use Rattle.std.proofs.Common.{◌≡◌, ℕ, ◌+◌, ◌<◌, ◌≤◌, List, [], ◌∷◌, inl, inr, get_or, length, map, slice_get, Option, Some, None, option_and_then, refl, sym, ◌∙◌, ap, subst, le_of_eq, le_trans, ⊎_elim, arith}
 use Rattle.std.specs.List.{AllByRecursion}
-use Rattle.std.proofs.lemmas.Bool.{cases_lt, true≢false}
+use Rattle.std.proofs.lemmas.Bool.{cases_lt}
 use Rattle.std.proofs.lemmas.Option.{none-some, slice_get-get_or}
 use Rattle.ule_types.specs.Form.{IsOfForm}
 use Rattle.ule_types.specs.declared.event.Entry.{Entry}
@@ -17,9 +17,10 @@ use Rattle.ule_model.specs.Start.{starting_time, world_at_start}
 use Rattle.ule_model.specs.World.{Member, thread_of}
 use Rattle.ule_members.proofs.Membership.{Has, all_from_has, thread_of_has}
 use Rattle.ule_members.proofs.Within.{all_along}
+use Rattle.ule_members.proofs.Reach.{number_from_test}
 use Rattle.ule_rounds.proofs.Courses.{ended_time, held_at, held_goes_on, time_of}
 use Rattle.ule_rounds.proofs.Finishing.{IsFurther, round_goes, rounds_finish}
-use Rattle.ule_rounds.proofs.Hands.{hand_at, held_found, number_is}
+use Rattle.ule_rounds.proofs.Hands.{hand_at, held_found}
 use Rattle.ule_rounds.proofs.Keeping.{IsUnderWay, ids_in, under_way_opening, under_way_turn}
 use Rattle.ule_rounds.proofs.LegalLaws.{IsLegalSoFar, StandsAt}
 use Rattle.ule_rounds.proofs.Plays.{all_time, opening_left, sum_none}
@@ -93,7 +94,7 @@ hands_empty s p kept ended = all_from_has (λ m. hand_of m.place ≡ None) p.wor
         let found : thread_of m.thread.id p.world.members ≡ Some m = thread_of_has m p.world.members kept.made.members.apart has in
         let held : holder_of p.world.members m.thread.id ≡ Some h = ap (option_and_then (λ (x : Member). hand_of x.place)) found ∙ is in
         absurd (at_worker m.thread.id h (slice_get p.courses h) refl
-        (number_is m.thread.id (hand_at p.courses h) (sym (kept.hands h m.thread.id) ∙ held_found h m.thread.id p.world.members held)))
+        (number_from_test m.thread.id (hand_at p.courses h) (sym (kept.hands h m.thread.id) ∙ held_found h m.thread.id p.world.members held)))
 
 -- a play under way whose workers are at their ends is a history of its setup
 pub history_of : (s : Setup) (p : Play) → IsUnderWay s p → ((worker : ℕ) → IsFinished p worker) → IsHistoryOf s p

@@ -1,5 +1,5 @@
 -- What every play of a setup that can be spelled so far keeps, and what its next event needs.
-use Rattle.std.proofs.Common.{◌≡◌, ℕ, ◌+◌, ◌*◌, ◌^◌, ◌<◌, ◌≤◌, ◌==◌, ◌&&◌, ◌||◌, Bool, true, false, nat_le, List, [], ◌∷◌, length, slice_get, take, Option, Some, None, IfSome, IsSome, IsTrue, is_some, if◌then◌else◌, option_and_then, refl, sym, ◌∙◌, ap, subst, arith}
+use Rattle.std.proofs.Common.{◌≡◌, ℕ, ◌+◌, ◌*◌, ◌^◌, ◌<◌, ◌≤◌, ◌&&◌, ◌||◌, Bool, true, false, nat_le, List, [], ◌∷◌, length, slice_get, take, Some, None, IfSome, IsSome, IsTrue, is_some, if◌then◌else◌, option_and_then, refl, sym, ◌∙◌, ap, subst, arith}
 use Rattle.std.specs.List.{AllByRecursion}
 use Rattle.std.proofs.lemmas.Bool.{and_parts, cond_both, false≢true, leb-true}
 use Rattle.std.proofs.lemmas.List.{length_push}
@@ -20,22 +20,24 @@ use Rattle.ule_model.specs.Events.{handling, is_reached, is_ready, names_cpus, s
 use Rattle.ule_model.specs.Frames.{LeavesRest, thread_in_hand}
 use Rattle.ule_model.specs.History.{HoldsThroughout, KeepsRecords}
 use Rattle.ule_model.specs.Legal.{after_entry}
-use Rattle.ule_model.specs.Places.{hand_of, is_hand_of, is_number}
+use Rattle.ule_model.specs.Places.{is_hand_of, is_number}
 use Rattle.ule_model.specs.Program.{Course, in_hand, item_at, next_step}
-use Rattle.ule_model.specs.Rounds.{Play, after_item, entry_of, greatest_rounds, opening, opening_courses, performed, turn}
+use Rattle.ule_model.specs.Rounds.{Play, after_item, entry_of, greatest_rounds, opening, performed, turn}
 use Rattle.ule_model.specs.Shows.{ids_of}
 use Rattle.ule_model.specs.Start.{starting_time, world_at_start}
 use Rattle.ule_model.specs.Step.{step}
 use Rattle.ule_model.specs.WellMade.{IsWellMade, IsWellMadeWorld}
-use Rattle.ule_model.specs.World.{Member, World, is_thread, thread_of}
+use Rattle.ule_model.specs.World.{Member, is_thread, thread_of}
+use Rattle.ule_members.proofs.Numbered.{step_bounds, step_by_now, step_numbers}
+use Rattle.ule_members.proofs.Rest.{step_leaves_rest}
+use Rattle.ule_members.proofs.Steps.{step_is_made}
 use Rattle.ule_members.proofs.Within.{all_along}
 use Rattle.ule_rounds.proofs.Bindings.{step_binds, step_replies}
 use Rattle.ule_rounds.proofs.Courses.{GoesOnAs, HasOrder, IsNext, course_advanced, course_told, held_advanced, held_at, held_told, left_of, next_is, time_of}
 use Rattle.ule_rounds.proofs.Hands.{DoAgree, agree_set, agree_step, hand_at, hand_handled, handled_thread}
 use Rattle.ule_rounds.proofs.Histories.{HoldsThroughout-push, HoldsThroughout-start}
 use Rattle.ule_rounds.proofs.LegalLaws.{IsLegalSoFar, each_after_set, legal_advanced, legal_opening, legal_performed}
-use Rattle.ule_rounds.proofs.Owed.{step_bounds, step_by_now, step_is_made, step_leaves_rest, step_numbers}
-use Rattle.ule_rounds.proofs.Plays.{all_left, all_time, hands_at_start, left_at_start, opening_count, opening_is, opening_left, opening_order, sum_set, time_at_start}
+use Rattle.ule_rounds.proofs.Plays.{all_left, all_time, hands_at_start, opening_count, opening_is, opening_left, opening_order, sum_set, time_at_start}
 use Rattle.ule_rounds.proofs.RoundsLaws.{turn_cases}
 use Rattle.ule_rounds.proofs.Setups.{setup_end, setup_scripts, setup_slice}
 use Rattle.ule_rounds.proofs.Stages.{FitsHand, IsSoundReply, NamesWhatIs, at_advance, at_event, item_fits, item_names}

@@ -1,17 +1,14 @@
 -- A legal history in which an entry is earlier than the one before it, by computing.
-use Rattle.std.proofs.Common.{◌≡◌, ℕ, zero, suc, ◌+◌, ◌<◌, ◌≤◌, true, false, List, [], ◌∷◌, map, Some, None, IsTrue, refl, lit<, lit≤, arith}
-use Rattle.std.specs.List.{AllByRecursion}
+use Rattle.std.proofs.Common.{ℕ, zero, suc, ◌+◌, ◌<◌, List, [], ◌∷◌, Some, None, refl, arith}
 use Rattle.std.proofs.lemmas.Bool.{false≢true}
 use Rattle.ule_history.specs.CpuUseUpdate.{updated_use, slid_use, ran_ticks}
-use Rattle.ule_score.specs.Changes.{IsBy}
 use Rattle.ule_score.specs.Score.{score_of}
 use Rattle.ule_score.specs.TimesharePriority.{timeshare_priority, priority_at, batch_priority, use_steps}
 use Rattle.ule_score.specs.declared.record.Why.TheVariants as why
-use Rattle.ule_types.specs.declared.command.Command.TheVariants.{Time, Yield}
-use Rattle.ule_types.specs.declared.event.Item.TheVariants as item
+use Rattle.ule_types.specs.declared.command.Command.TheVariants.{Yield}
 use Rattle.ule_types.specs.declared.stage.Stage.TheVariants as stage
 use Rattle.ule_model.specs.Conditions.{IsPossible}
-use Rattle.ule_model.specs.Legal.{Begins, IsEntryOf, IsInTime, IsLegal, IsReplayed, KeepsTime, Timed, acts, advances, after_entry, opening_of, stays, with_locks}
+use Rattle.ule_model.specs.Legal.{Begins, IsEntryOf, IsInTime, IsReplayed, KeepsTime, Timed, acts, advances, opening_of, stays, with_locks}
 use Rattle.ule_model.specs.Program.{Course, next_in}
 use Rattle.ule_model.specs.Start.{world_at_start}
 use Rattle.ule_rounds.specs.LateSwitch.{LateSwitchIsLegal, between_switches, earlier_switch, late_lists, later_switch, two_cpus}

@@ -23,7 +23,8 @@ use Rattle.ule_members.proofs.Within.{all-append, all_along}
 -- ---- one course changed among all
 
 -- what holds of the element written, and of each other, holds of each afterwards
-pub each_after_set : {X : Type 0} (Q : ℕ → X → Type 0) (xs : List X) (i : ℕ) (x v : X) → slice_get xs i ≡ Some x → Q i v → ((j : ℕ) (y : X) → (j ≡ i → ⊥) → slice_get xs j ≡ Some y → Q j y) → (j : ℕ) (y : X) → slice_get (slice_set xs i v) j ≡ Some y → Q j y
+pub each_after_set : {X : Type 0} (Q : ℕ → X → Type 0) (xs : List X) (i : ℕ) (x v : X) → slice_get xs i ≡ Some x → Q i v →
+    ((j : ℕ) (y : X) → (j ≡ i → ⊥) → slice_get xs j ≡ Some y → Q j y) → (j : ℕ) (y : X) → slice_get (slice_set xs i v) j ≡ Some y → Q j y
 each_after_set Q xs i x v got here others j y found =
     ⊎_elim
     (λ (same : j ≡ i).
@@ -41,7 +42,7 @@ pub record StandsAt (s : Setup) (es : List Timed) (now worker : ℕ) (course : C
   pub performs : Performs (opening_of s s.scripts worker) 0 (entries_of worker es) course total
   pub by_now : starting_time + total ≤ now
 
--- a play that is legal so far
+-- what a play keeps at every turn for its entries to be a legal history
 pub record IsLegalSoFar (s : Setup) (p : Play) : Type 0 where
   pub timed : List Timed
   pub entries : map (λ x. x.entry) timed ≡ p.entries

@@ -1,4 +1,3 @@
-pub mod Owed
 pub mod Stages
 pub mod Courses
 pub mod Bindings

@@ -1,5 +1,5 @@
 -- The items and the time of all workers of a play, and its opening.
-use Rattle.std.proofs.Common.{◌≡◌, ℕ, zero, suc, ◌+◌, ◌<◌, ◌≤◌, ◌==◌, true, List, [], ◌∷◌, length, map, sum, sum_by, slice_get, slice_index_or, slice_set, take, Some, None, refl, sym, ◌∙◌, ap, subst, arith}
+use Rattle.std.proofs.Common.{◌≡◌, ℕ, zero, suc, ◌+◌, ◌≤◌, true, List, [], ◌∷◌, length, map, sum, sum_by, slice_get, slice_index_or, slice_set, take, Some, None, refl, sym, ◌∙◌, ap, subst, arith}
 use Rattle.std.specs.List.{AllByRecursion, enumerate_from, list_all}
 use Rattle.std.proofs.lemmas.List.{length-map, length-take-le}
 use Rattle.std.proofs.lemmas.List.FromFn.{length-enumerate_from}
@@ -11,8 +11,8 @@ use Rattle.ule_types.specs.declared.command.Command.{Command}
 use Rattle.ule_types.specs.declared.setup.Setup.{Setup}
 use Rattle.ule_model.specs.Legal.{amount_in, amount_in_all, opening_of}
 use Rattle.ule_model.specs.Program.{Course, course_of, own_of}
-use Rattle.ule_model.specs.Rounds.{Play, greatest_rounds, opening, opening_courses}
-use Rattle.ule_rounds.proofs.Courses.{HasOrder, greatest_in, held_at, left_of, time_of}
+use Rattle.ule_model.specs.Rounds.{greatest_rounds, opening_courses}
+use Rattle.ule_rounds.proofs.Courses.{HasOrder, greatest_in, left_of, time_of}
 use Rattle.ule_rounds.proofs.Hands.{hand_at}
 use Rattle.ule_rounds.proofs.Setups.{HasScripts, all_from_list_all, all_take, setup_scripts}
 

@@ -20,7 +20,8 @@ abbrev pub IsFinished : Play → ℕ → Type 0
 IsFinished p worker = (course : Course) → slice_get p.courses worker ≡ Some course → next_step course ≡ None
 
 -- a turn changes nothing where the worker is at its end, and performs its next item where there is one
-pub turn_cases : (P : Play → Type 0) (p : Play) (worker : ℕ) → (IsFinished p worker → P p) → ((course after : Course) (i : Item) → slice_get p.courses worker ≡ Some course → next_step course ≡ Some (i, after) → P (after_item worker i after p)) → P (turn p worker)
+pub turn_cases : (P : Play → Type 0) (p : Play) (worker : ℕ) → (IsFinished p worker → P p) →
+    ((course after : Course) (i : Item) → slice_get p.courses worker ≡ Some course → next_step course ≡ Some (i, after) → P (after_item worker i after p)) → P (turn p worker)
 turn_cases P p worker ended goes = at_course (slice_get p.courses worker) refl
   where
     at_step : (course : Course) → slice_get p.courses worker ≡ Some course → (found : Option (Item × Course)) → next_step course ≡ found → P (after_step worker found p)
@@ -59,17 +60,17 @@ turns n p = fold turn p (range_with_len 0 n)
 pub round_is_turns : (p : Play) → round p ≡ turns (length p.courses) p
 round_is_turns p = refl
 
--- no turn
+-- the turns of no workers change nothing
 pub turns_none : (p : Play) → turns 0 p ≡ p
 turns_none p = refl
 
--- the numbers of one worker more
+-- the numbers of some workers and one more are those numbers and then its number
 pub range_push : (n : ℕ) → range_with_len 0 (n + 1) ≡ range_with_len 0 n ++ n ∷ []
 range_push n =
     sym (map-id (range_with_len 0 (n + 1))) ∙ map-range_with_len_more (λ i. i) 0 n n (omega arith) ∙
     ap (λ ws. ws ++ n ∷ []) (map-id (range_with_len 0 n))
 
--- the turn of one worker more
+-- the turns of some workers and one more are those turns and then its turn
 pub turns_more : (n : ℕ) (p : Play) → turns (n + 1) p ≡ turn (turns n p) n
 turns_more n p = ap (fold turn p) (range_push n) ∙ fold_push turn p (range_with_len 0 n) n
 
@@ -94,17 +95,17 @@ round_count p =
 pub round_finished : (p : Play) → ((worker : ℕ) → IsFinished p worker) → round p ≡ p
 round_finished p ended = turns_finished p ended (range_with_len 0 (length p.courses))
 
--- no rounds
+-- no rounds change nothing
 pub rounds_none : (p : Play) → rounds 0 p ≡ p
 unfolding rounds
 rounds_none p = refl
 
--- a round, and then the others
+-- some rounds are a round and then the others
 pub rounds_suc : (n : ℕ) (p : Play) → rounds (suc n) p ≡ rounds n (round p)
 unfolding rounds
 rounds_suc n p = refl
 
--- some rounds, and then others
+-- so many rounds and so many more are the first and then the others
 pub rounds_add : (n m : ℕ) (p : Play) → rounds (n + m) p ≡ rounds m (rounds n p)
 rounds_add zero m p =
     let same : 0 + m ≡ m = omega arith in
@@ -113,7 +114,7 @@ rounds_add (suc n) m p =
     let same : suc n + m ≡ suc (n + m) = omega arith in
     ap (λ k. rounds k p) same ∙ rounds_suc (n + m) p ∙ rounds_add n m (round p) ∙ ap (rounds m) (sym (rounds_suc n p))
 
--- some rounds, and then one
+-- one round more is a round behind the others
 pub rounds_more : (n : ℕ) (p : Play) → rounds (n + 1) p ≡ round (rounds n p)
 rounds_more n p = rounds_add n 1 p ∙ rounds_suc 0 (rounds n p) ∙ rounds_none (round (rounds n p))
 

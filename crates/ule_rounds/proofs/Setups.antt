@@ -1,9 +1,9 @@
 -- What the rules of a setup say.
-use Rattle.std.proofs.Common.{◌≡◌, ℕ, zero, suc, ◌+◌, ◌≤◌, ◌&&◌, ◌==◌, Bool, true, nat_le, nat_lt, List, [], ◌∷◌, drop, flat_map, length, sum_by, take, refl, ap, arith}
+use Rattle.std.proofs.Common.{◌≡◌, ℕ, zero, suc, ◌+◌, ◌≤◌, ◌&&◌, ◌==◌, Bool, true, nat_le, nat_lt, List, [], ◌∷◌, drop, flat_map, length, take, refl, ap, arith}
 use Rattle.std.specs.List.{AllByRecursion, list_all}
 use Rattle.std.proofs.lemmas.Bool.{and_parts, eqb-true, leb-true}
 use Rattle.std.proofs.lemmas.List.{nil_from_length}
-use Rattle.std.proofs.lemmas.List.Sums.{sum-map, sum_by-append, sum_by-cons}
+use Rattle.std.proofs.lemmas.List.Sums.{sum_by-cons}
 use Rattle.ule_prio.specs.Class.{is_within}
 use Rattle.ule_score.specs.Changes.{HasSlice}
 use Rattle.ule_types.specs.Commands.{is_among, is_command, forked_by}
@@ -84,7 +84,7 @@ setup_slice s =
     let both = and_parts (nat_le 6 s.settings.slice) (nat_le s.settings.slice 1000) slice.1 in
     record { low = leb-true 6 s.settings.slice both.0; high = leb-true s.settings.slice 1000 both.1 }
 
--- every setup has such scripts
+-- every setup has a script of valid commands for each CPU, within the budget
 pub setup_scripts : (s : Setup) → HasScripts s
 setup_scripts s =
     let ids = declared_ids s.threads s.unborn in

@@ -1,16 +1,12 @@
 -- The laws of programs, with a line for each stage: that items run out, what an item and its reply do to the
 -- worker's hand, that each item names threads and CPUs that there are, and the time that it adds.
-use Rattle.std.proofs.Common.{◌≡◌, ℕ, ◌+◌, ◌*◌, ◌<◌, ◌≤◌, ◌==◌, ◌&&◌, true, nat_lt, List, Option, Some, None, IfSome, IsTrue, refl, subst, lt-ltb, eq-eqb, arith}
-use Rattle.std.proofs.lemmas.Bool.{cond_both, cond-true}
-use Rattle.std.proofs.lemmas.Option.{none-some}
+use Rattle.std.proofs.Common.{◌≡◌, ℕ, ◌+◌, ◌*◌, ◌<◌, ◌≤◌, ◌==◌, ◌&&◌, true, nat_lt, List, Option, Some, None, IfSome, IsTrue, refl, subst, lt-ltb, arith}
+use Rattle.std.proofs.lemmas.Bool.{cond_both}
 use Rattle.ule_prio.specs.Class.{is_within}
-use Rattle.ule_score.specs.declared.place.Place.{Place}
-use Rattle.ule_score.specs.declared.place.Place.TheVariants.{Running, Queued, Asleep, Unborn, Gone, Hand}
 use Rattle.ule_types.specs.Commands.{greatest_of, greatest_of_tick, is_among, is_command}
 use Rattle.ule_types.specs.declared.command.Command.{Command}
 use Rattle.ule_types.specs.declared.command.Command.TheVariants.{Tick, Time, Yield, Resched, Sleep, Wake, Lend, Unlend, Renice, Fork, Exit, Idle, Balance, Look}
 use Rattle.ule_types.specs.declared.event.Event.{Event}
-use Rattle.ule_types.specs.declared.event.Event.TheVariants as event
 use Rattle.ule_types.specs.declared.event.Item.{Item}
 use Rattle.ule_types.specs.declared.event.Item.TheVariants as item
 use Rattle.ule_types.specs.declared.event.Reply.{Reply}

@@ -1,7 +1,7 @@
 -- The world at the start of a setup that can be spelled so far: its threads' numbers, records and places.
-use Rattle.std.proofs.Common.{◌≡◌, ℕ, ◌<◌, ◌≤◌, ◌==◌, ◌||◌, Bool, true, false, not, ◌&&◌, ℤ, pos, negsuc, nat_lt, List, [], ◌∷◌, ◌++◌, zero, suc, fold, length, map, replicate, slice_index_or, slice_set, Option, Some, None, IfSome, if◌then◌else◌, refl, sym, ◌∙◌, ap, subst, arith}
+use Rattle.std.proofs.Common.{◌≡◌, ℕ, ◌<◌, ◌≤◌, ◌==◌, ◌||◌, Bool, true, false, not, ℤ, pos, negsuc, nat_lt, List, [], ◌∷◌, ◌++◌, zero, suc, fold, length, map, replicate, slice_index_or, Option, Some, None, IfSome, refl, sym, ◌∙◌, ap, subst, arith}
 use Rattle.std.specs.List.{AllByRecursion, list_all}
-use Rattle.std.proofs.lemmas.Bool.{and_parts, both_ways, cond_both, eq-eqb, false≢true, leb-true, ltb-true, not-true, or_parts, ne_eqb, eqb-true}
+use Rattle.std.proofs.lemmas.Bool.{and_parts, both_ways, cond_both, eq-eqb, false≢true, leb-true, ltb-true, not-true, or_parts, ne_eqb}
 use Rattle.std.proofs.lemmas.Int.{ints}
 use Rattle.std.proofs.lemmas.List.{append-nil, append_assoc, length-replicate, length-set, map-append}
 use Rattle.ule_score.proofs.TimesharePriorityLemmas.{timeshare_priority-bounds}
@@ -22,14 +22,15 @@ use Rattle.ule_types.specs.declared.setup.Setup.{Setup}
 use Rattle.ule_types.specs.declared.setup.ThreadSpec.{ThreadSpec}
 use Rattle.ule_model.specs.declared.insertion.Insertion.{Insertion}
 use Rattle.ule_model.specs.declared.insertion.Insertion.TheVariants.{Ordinary}
-use Rattle.ule_model.specs.Insertion.{order_of_insertion, place_of_insertion, queued, with_queued}
+use Rattle.ule_model.specs.Insertion.{order_of_insertion, queued, with_queued}
 use Rattle.ule_model.specs.Places.{hand_of}
 use Rattle.ule_model.specs.Shows.{ids_of}
 use Rattle.ule_model.specs.Start.{base_of, empty_world, first_line, fresh_history, fresh_use, laid, laid_on, nice_of, record_of, starting_time, unborn_member, with_unborn, world_at_start}
-use Rattle.ule_model.specs.WellMade.{AreApart, HaveIndexes, IsMade, IsWellMade, IsWellMadeWorld}
+use Rattle.ule_model.specs.WellMade.{AreApart, IsWellMade, IsWellMadeWorld}
 use Rattle.ule_model.specs.World.{Member, Side, World, fresh_line, is_thread, moved_to, others, side_of, thread_of}
+use Rattle.ule_members.proofs.MadeWell.{queued_made}
+use Rattle.ule_members.proofs.Rest.{all_at, all_set}
 use Rattle.ule_members.proofs.Within.{all-append, well_made_between}
-use Rattle.ule_rounds.proofs.Owed.{queued_made}
 use Rattle.ule_rounds.proofs.Setups.{setup_specs}
 
 -- ---- a declared thread's record
@@ -144,18 +145,6 @@ made_with_new r ms numbers new made =
 
 -- ---- lists
 
--- what holds of each element and of one more holds of each where that one is put for another
-pub all_set : {X : Type 0} (P : X → Type 0) (xs : List X) (i : ℕ) (v : X) → AllByRecursion P xs → P v → AllByRecursion P (slice_set xs i v)
-all_set P [] i v all here = tt
-all_set P (x ∷ xs) zero v all here = (here, all.1)
-all_set P (x ∷ xs) (suc i) v all here = (all.0, all_set P xs i v all.1 here)
-
--- what holds of each element and of a spare one holds of the one at a place
-pub all_at : {X : Type 0} (P : X → Type 0) (xs : List X) (i : ℕ) (d : X) → AllByRecursion P xs → P d → P (slice_index_or xs i d)
-all_at P [] i d all spare = spare
-all_at P (x ∷ xs) zero d all spare = all.0
-all_at P (x ∷ xs) (suc i) d all spare = all_at P xs i d all.1 spare
-
 -- what holds of an element holds of each of its copies
 pub all_copies : {X : Type 0} (P : X → Type 0) (n : ℕ) (x : X) → P x → AllByRecursion P (replicate n x)
 all_copies P zero x holds = tt
@@ -193,7 +182,7 @@ pub record IsLaid (cpus : ℕ) (settings : Settings) (ids : List ℕ) (w : World
   pub made : IsWellMadeWorld w
   pub free : AreFree w.members
 
--- one thread more
+-- laying one thread more keeps what the world keeps while threads are laid
 pub laid_once : (cpus : ℕ) (settings : Settings) (ids : List ℕ) (w : World) (spec : ThreadSpec) → IsGood cpus spec → is_among ids spec.id ≡ false →
     IsLaid cpus settings ids w → IsLaid cpus settings (ids ++ spec.id ∷ []) (laid w spec)
 laid_once cpus settings ids w spec good new so_far = record {
@@ -230,7 +219,7 @@ laid_once cpus settings ids w spec good new so_far = record {
     made_new : IsWellMade (w.members ++ unborn_member r ∷ [])
     made_new = made_with_new r w.members fresh.1 (ap (λ us. is_among us spec.id) so_far.ids_are ∙ new) so_far.made.members
 
--- all of them
+-- laying all declared threads keeps what the world keeps while threads are laid
 pub laid_all : (cpus : ℕ) (settings : Settings) (ids : List ℕ) (w : World) (specs : List ThreadSpec) → AllByRecursion (IsGood cpus) specs →
     is_distinct (ids ++ map (λ spec. spec.id) specs) ≡ true → IsLaid cpus settings ids w → IsLaid cpus settings (ids ++ map (λ spec. spec.id) specs) (fold laid w specs)
 laid_all cpus settings ids w [] good distinct so_far = subst (λ us. IsLaid cpus settings us w) (sym (append-nil ids)) so_far
@@ -242,7 +231,7 @@ laid_all cpus settings ids w (spec ∷ specs) good distinct so_far =
 
 -- ---- the start
 
--- the threads of a setup that can be spelled so far are such
+-- each thread of a setup that can be spelled so far can be declared
 pub form_good : (cpus : ℕ) (specs : List ThreadSpec) → list_all (is_plain cpus) specs ≡ true → list_all (is_spec cpus) specs ≡ true →
     list_all (λ t. nat_lt t 256) (map (λ spec. spec.id) specs) ≡ true → AllByRecursion (IsGood cpus) specs
 form_good cpus [] plain valid numbers = tt
@@ -252,7 +241,7 @@ form_good cpus (spec ∷ specs) plain valid numbers =
     let third = and_parts (nat_lt spec.id 256) (list_all (λ t. nat_lt t 256) (map (λ (x : ThreadSpec). x.id) specs)) numbers in
     ((first.0, second.0, ltb-true spec.id 256 third.0), form_good cpus specs first.1 second.1 third.1)
 
--- the world at the start of such a setup
+-- what the world at the start of a setup keeps
 pub start_laid : (s : Setup) → IsOfForm s → IsLaid s.cpus s.settings (declared_ids s.threads s.unborn) (world_at_start s)
 start_laid s form =
     subst (λ us. IsLaid s.cpus s.settings (map (λ spec. spec.id) s.threads ++ us) (fold with_unborn (fold laid (empty_world s) s.threads) us)) (sym form.unborn)

@@ -1,6 +1,6 @@
 -- An example of a legal history that no rounds make: an entry is earlier than the one before it, with
 -- which it shares neither a lock nor the worker.
-use Rattle.std.specs.Prelude.{ℕ, pos, true, false, List, [], ◌∷◌, replicate, Some, None, refl}
+use Rattle.std.specs.Prelude.{pos, true, false, List, [], ◌∷◌, replicate, Some, None, refl}
 use Rattle.ule_score.specs.declared.record.Why.TheVariants as why
 use Rattle.ule_types.specs.Form.{default_settings}
 use Rattle.ule_types.specs.declared.command.Command.{Command}
