@@ -1,7 +1,1 @@
-pub mod Hands
-pub mod Chains
-pub mod Worlds
-pub mod Readiness
-pub mod Outcomes
-pub mod Playing
-pub mod Programs
+pub mod Locks

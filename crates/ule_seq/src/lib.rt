@@ -2,15 +2,5 @@
 //! a setup in rounds.
 #![tactic(auto)]
 
-pub use program::Program;
-pub use rounds::play;
-pub use world::{Ready, World};
-
-pub mod chains;
-mod finals;
-pub mod hands;
-mod opening;
-pub mod program;
-pub mod records;
-pub mod rounds;
-pub mod world;
+pub mod hand;
+pub mod lock;
