@@ -5,7 +5,7 @@ use Rattle.ule_runq.specs.Runq.{times}
 use Rattle.ule_tdq.specs.Queues.{once}
 use Rattle.ule_score.specs.Bounds.{KeepsBounds}
 use Rattle.ule_score.specs.declared.record.ThreadRecord.{ThreadRecord}
-use Rattle.ule_types.specs.Rules.{are_settings}
+use Rattle.ule_score.specs.Settings.{are_settings}
 
 -- once for the current thread, and not at all for another
 abbrev pub times_current : Option ℕ → ℕ → ℕ

@@ -2,13 +2,11 @@
 //! queues, and what an event under its queue lock does to them.
 #![tactic(auto)]
 
-pub use queues::Queues;
+pub use lines::line_of;
 pub use tdq::{Arrival, Clocked, SwitchOut, Tdq};
 
-pub mod balance;
-pub mod lines;
-pub mod queues;
-pub mod records;
+mod balance;
+mod lines;
+mod queues;
+mod records;
 pub mod tdq;
-#[cfg(test)]
-mod tests;

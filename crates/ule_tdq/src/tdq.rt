@@ -1,15 +1,14 @@
 ghost use Rattle.std.specs.Prelude.{◌≡◌, ℕ, ◌≤◌, ◌<◌, ◌^◌, None, Some, IfOk, IfSome, IsTrue};
-ghost use Rattle.ule_types.specs.Rules.{are_settings};
+ghost use Rattle.ule_score.specs.Settings.{are_settings};
 ghost use Rattle.std.specs.Option.{option_map};
-ghost use Rattle.ule_model.specs.WorldValue.{value_line, value_place};
 ghost use Rattle.ule_score.specs.Bounds.{KeepsBounds};
-ghost use Rattle.ule_model.specs.CpuValue.{chosen_next, current_in, takes_over_in, thread_in, value_added, value_clocked, value_laid, value_switched, value_taken, value_ticked, value_ticked_with, with_given_way, without_current, without_marks};
+ghost use Rattle.ule_model.specs.CpuValue.{IsNoEarlier, chosen_next, current_in, takes_over_in, thread_in, value_added, value_clocked, value_laid, value_line, value_place, value_switched, value_taken, value_ticked, value_ticked_with, with_given_way, without_current, without_marks};
 ghost use Rattle.ule_model.specs.Switch.{started_reply};
-ghost use Rattle.ule_model.specs.Conditions.{IsNoEarlier};
 ghost use Rattle.ule_model.specs.CpuStart.{StartsAs};
 ghost use Rattle.ule_model.specs.Insertion.{bucket_of};
 ghost use Rattle.ule_model.specs.declared.insertion.Insertion.TheVariants.{Ordinary};
 ghost use Rattle.ule_prio.specs.Kind.{kind_at};
+ghost use Rattle.ule_tdq.specs.Cpu.{KeepsCpu};
 ghost use Rattle.ule_tdq.specs.Records.{leaving};
 ghost use Rattle.ule_tdq.specs.Replies.{reply_of, ticked_reply};
 
@@ -17,15 +16,17 @@ use crate::balance::{balance_after_tick, first_balance, first_word, is_due, word
 use crate::lines::{line_of, queued};
 use crate::queues::Queues;
 use crate::records::{
-    after_running, after_tick, before_running, current_priority, either, insertion_of,
-    is_preemption, is_unasked, leaving, placed_on,
+    current_priority, either, insertion_of, is_preemption, is_unasked, leaving,
 };
 use std::alloc::Global;
 use std::marker::Model;
 use ule_io::Memory;
 use ule_model::Insertion;
 use ule_prio::{Cpu, Kind, LockId, Priority, ThreadId, kind_of, preempts};
-use ule_score::{CpuLine, Place, Settings, ThreadRecord, Why};
+use ule_score::{
+    CpuLine, Place, Settings, ThreadRecord, Why, after_running, after_tick, before_running,
+    placed_on,
+};
 use ule_threads::Threads;
 use ule_types::ThreadLine;
 
@@ -54,8 +55,8 @@ pub struct Clocked {
     pub ended: bool,
 }
 
-/// What a thread's coming to a CPU came to: where it is queued, and whether it set the mark that
-/// asks for a switch.
+/// What a thread's coming to a CPU came to: the queue and the bucket, 0..=63, in which it is
+/// queued, and whether the preemption test said yes, also where the mark was set already.
 #[derive(Clone, Copy, Debug, PartialEq, Eq)]
 pub struct Arrival {
     pub kind: Kind,
@@ -112,7 +113,8 @@ impl Tdq {
     /// CPU 0's balance word starts; its first draw gives that CPU's balance count, 64..=191.
     pub fn start(alloc: Global, cpu: Cpu, s: &Settings, balance_word: u32) -> Result<Tdq, Memory>
         requires { IsTrue (are_settings s.now) }
-        ensures { IfOk result (λ d. StartsAs d cpu s.now balance_word) }
+        ensures start { IfOk result (λ d. StartsAs d cpu s.now balance_word) }
+        ensures kept { IfOk result (λ d. KeepsCpu d) }
     {
         let settings = *s;
         let threads = Threads::none(alloc)?;
@@ -135,14 +137,21 @@ impl Tdq {
         })
     }
 
-    /// Chooses what the CPU runs next, after `sched_switch`. A switch that wants to be asked for
-    /// does nothing where the mark isn't set.
+    /// Chooses what the CPU runs next, at `now`, a time in hz ticks of 20000 or more that is no
+    /// earlier than any CPU-use update of a thread here. After `sched_switch`.
+    ///
+    /// The answer is `Unmarked` where `why` is `Resched` and the mark that asks for a switch isn't
+    /// set; then nothing changes. Otherwise both marks are taken away, the current thread, if there
+    /// is one, is queued again, at the head of its bucket where it was preempted, and the thread
+    /// whose turn comes first runs. It is `Nothing` where there was no current thread and none was
+    /// queued.
     pub fn switch(&mut self, why: Why, now: u64) -> SwitchOut
         requires begun { 20000 ≤ now }
         requires bounded { now < 2 ^ 36 }
         requires in_time { IsNoEarlier self.old now }
         ensures value { self.new ≡ (value_switched why now self.old).0 }
         ensures reply { reply_of result ≡ (value_switched why now self.old).1 }
+        ensures kept { KeepsCpu self.new }
         ensures no_earlier { IsNoEarlier self.new now }
     {
         if is_unasked(why, self.resched) {
@@ -168,18 +177,27 @@ impl Tdq {
         requires absent { thread_in self.old r.id ≡ None }
         requires bounds { KeepsBounds r }
         ensures value { self.new ≡ value_laid r self.old }
+        ensures kept { KeepsCpu self.new }
         ensures no_earlier { (now : ℕ) → IsNoEarlier self.old now → r.usage.ltick ≤ now → IsNoEarlier self.new now }
     {
         self.file(r);
     }
 
-    /// A stathz tick, after `sched_clock`.
+    /// A stathz tick at `now`, a time in hz ticks of 20000 or more that is no earlier than any
+    /// CPU-use update of a thread here. After `sched_clock`.
+    ///
+    /// The count of switches becomes the load, the calendar turns, and on CPU 0 the balance count
+    /// falls by one, and is drawn anew where it comes to 0, which makes a balance due. The current
+    /// thread is charged the tick, and where that ends its slice both marks are set. `cur` is `None`
+    /// exactly where there is no current thread.
     pub fn clock(&mut self, now: u64) -> Clocked
         requires begun { 20000 ≤ now }
         requires bounded { now < 2 ^ 36 }
         requires in_time { IsNoEarlier self.old now }
         ensures value { self.new ≡ (value_ticked now self.old).0 }
         ensures reply { ticked_reply result ≡ (value_ticked now self.old).1 }
+        ensures cur { result.cur ≡ self.old.current }
+        ensures kept { KeepsCpu self.new }
         ensures no_earlier { IsNoEarlier self.new now }
     {
         let due = is_due(self.cpu, self.balance);
@@ -195,8 +213,13 @@ impl Tdq {
         }
     }
 
-    /// The current thread leaves the CPU, and the next is chosen, after `sched_sleep` and
-    /// `sched_switch`. `sleeping` says that it goes to sleep, and notes when.
+    /// The current thread leaves the CPU at `now`, a time in hz ticks of 20000 or more that is no
+    /// earlier than any CPU-use update of a thread here, and the thread whose turn comes first
+    /// runs. After `sched_sleep` and `sched_switch`.
+    ///
+    /// The answer has the record of the thread that left, and the number of the one that runs now,
+    /// if one was queued. `sleeping` says that the first goes to sleep, and notes when. It is `None`
+    /// exactly where there is no current thread; then nothing changes.
     pub fn take_current(
         &mut self,
         now: u64,
@@ -205,9 +228,11 @@ impl Tdq {
         requires begun { 20000 ≤ now }
         requires bounded { now < 2 ^ 36 }
         requires in_time { IsNoEarlier self.old now }
-        ensures value { self.new ≡ (value_taken (leaving sleeping now) now self.old).0 }
-        ensures taken { option_map (λ r. record { thread = r.0; into = r.1 }) result ≡ (value_taken (leaving sleeping now) now self.old).1 }
+        ensures value { self.new ≡ (value_taken (leaving sleeping) now self.old).0 }
+        ensures taken { option_map (λ r. record { thread = r.0; into = r.1 }) result ≡ (value_taken (leaving sleeping) now self.old).1 }
+        ensures left { option_map (λ r. r.0.id) result ≡ self.old.current }
         ensures bounds { IfSome result (λ r. KeepsBounds r.0) }
+        ensures kept { KeepsCpu self.new }
         ensures no_earlier { IsNoEarlier self.new now }
     {
         let t = self.current?;
@@ -226,6 +251,7 @@ impl Tdq {
         ensures kind { result.kind ≡ kind_at r.priority }
         ensures bucket { result.bucket ≡ bucket_of (kind_at r.priority) Ordinary self.old.line r.priority }
         ensures marked { result.marked ≡ takes_over_in r.priority remote self.old }
+        ensures kept { KeepsCpu self.new }
         ensures no_earlier { (now : ℕ) → IsNoEarlier self.old now → r.usage.ltick ≤ now → IsNoEarlier self.new now }
     {
         let priority = r.priority;
@@ -317,6 +343,7 @@ impl Tdq {
         requires bounds { KeepsBounds r }
         ensures value { self.new ≡ value_laid r self.old }
         ensures bucket { result ≡ bucket_of (kind_at r.priority) Ordinary self.old.line r.priority }
+        ensures kept { KeepsCpu self.new }
         ensures no_earlier { (now : ℕ) → IsNoEarlier self.old now → r.usage.ltick ≤ now → IsNoEarlier self.new now }
     {
         let t = r.id;
@@ -362,6 +389,7 @@ impl Tdq {
         requires current { current_in self.old ≡ Some r }
         ensures value { self.new ≡ (value_ticked_with (Some r) due now self.old).0 }
         ensures reply { ticked_reply result ≡ (value_ticked_with (Some r) due now self.old).1 }
+        ensures kept { KeepsCpu self.new }
         ensures no_earlier { IsNoEarlier self.new now }
     {
         let t = r.id;
@@ -424,6 +452,7 @@ impl Tdq {
         requires idle { self.old.current ≡ None }
         ensures value { self.new ≡ (chosen_next now self.old).0 }
         ensures into { result ≡ (chosen_next now self.old).1 }
+        ensures kept { KeepsCpu self.new }
         ensures no_earlier { IsNoEarlier self.new now }
     {
         let (kind, t) = self.queues.first()?;

@@ -1,6 +1,5 @@
 use Rattle.std.proofs.Common.{sym, subst, arith}
-use Rattle.ule_model.specs.CpuValue.{CpuValue}
-use Rattle.ule_model.specs.Conditions.{IsNoEarlier}
+use Rattle.ule_model.specs.CpuValue.{CpuValue, IsNoEarlier}
 use Rattle.ule_tdq.proofs.CpuLaws.{AllNoEarlier-with}
 use Rattle.ule_tdq.proofs.tdq.Tdq.give_way.Goals as goal
 

@@ -8,3 +8,9 @@ invariant_of-result c =
     let empty = c.in_ok-queues.ensures in
     KeepsCpu_start _ c.requires c.in_ok-threads.ensures.slots c.in_ok-threads.ensures.none refl refl
     (ap (λ (q : QueuesValue). q.real) empty) (ap (λ (q : QueuesValue). q.batch.lists) empty) (ap (λ (q : QueuesValue). q.idle) empty)
+
+pub returns-clause-kept : goal.returns-clause-kept
+returns-clause-kept c =
+    let empty = c.in_ok-queues.ensures in
+    KeepsCpu_start _ c.requires c.in_ok-threads.ensures.slots c.in_ok-threads.ensures.none refl refl
+    (ap (λ (q : QueuesValue). q.real) empty) (ap (λ (q : QueuesValue). q.batch.lists) empty) (ap (λ (q : QueuesValue). q.idle) empty)
