@@ -13,3 +13,4 @@ pub mod CpuLaws
 pub mod CpuEvents
 pub mod CpuPlaces
 pub mod FrameLaws
+pub mod CpuStarts
