@@ -1,6 +1,6 @@
 -- A CPU's value beside one thread: how a thread is lifted out of what the value stands for, running, queued or
 -- absent, and how it is put back, to run, to wait, or away.
-use Rattle.std.proofs.Common.{◌≡◌, ◌≢◌, ℕ, ◌+◌, ◌-◌, ◌%◌, ◌<◌, ◌==◌, ℤ, pos, Bool, true, false, cond, not, ◌&&◌, List, [], ◌∷◌, ◌++◌, length, slice_index_or, slice_set, if◌then◌else◌, Option, Some, None, ⊎_elim, refl, sym, ◌∙◌, ap, subst, arith, length-set, get_or-set_same, get_or-set_other}
+use Rattle.std.proofs.Common.{◌≡◌, ◌≢◌, ℕ, ◌+◌, ◌-◌, ◌%◌, ◌<◌, ◌==◌, ℤ, pos, Bool, true, false, cond, not, ◌&&◌, List, ◌++◌, length, slice_index_or, slice_set, if◌then◌else◌, Some, None, ⊎_elim, refl, sym, ◌∙◌, ap, subst, arith, length-set, get_or-set_same, get_or-set_other}
 use Rattle.std.specs.List.{AllByRecursion}
 use Rattle.std.specs.Option.{option_map}
 use Rattle.std.proofs.lemmas.Bool.{cases_eq, eq-eqb, ne_eqb, and_left, and_right, or_parts, or_left, or_right, both_ways, false_from_ne_true}
@@ -10,15 +10,12 @@ use Rattle.ule_runq.specs.Runq.{is_empty_at, without}
 use Rattle.ule_score.specs.declared.place.Place.{Place}
 use Rattle.ule_score.specs.declared.place.Place.TheVariants.{Running, Queued, Asleep, Unborn, Gone, Hand}
 use Rattle.ule_score.specs.declared.record.CpuLine.{CpuLine}
-use Rattle.ule_score.specs.declared.record.ThreadRecord.{ThreadRecord}
 use Rattle.ule_model.specs.CalendarIndexes.{ridx_after_removal}
 use Rattle.ule_model.specs.CpuValue.{CpuValue, StandsFor, queue_of, thread_in, thread_on, removed_from, with_queue}
-use Rattle.ule_model.specs.Insertion.{members_in}
 use Rattle.ule_model.specs.Places.{rank_of, is_kind, runs_on, waits_on, waits_in, is_on}
 use Rattle.ule_model.specs.Shows.{ShowsQueue}
 use Rattle.ule_model.specs.Switch.{after_batch_removal, after_leaving, after_removal, lifted}
 use Rattle.ule_model.specs.Tick.{load_of}
-use Rattle.ule_model.specs.WellMade.{IsWellMade}
 use Rattle.ule_model.specs.World.{Member, Side, current_of, is_thread, moved_to, others}
 use Rattle.ule_laws.proofs.Buckets.{IsOut, empty_shown, shows-changed, shows-others, shows-without}
 use Rattle.ule_laws.proofs.QueueKinds.{by_kind, each_queue, removed_whole}
@@ -288,7 +285,7 @@ running_put m v s w beside none = record {
     found : current_of v.cpu moved ≡ Some (record m { place = Running v.cpu; order = pos 0 })
     found =
         let idle : AllByRecursion (λ n. runs_on v.cpu n.place ≡ false) (w.before ++ w.after) =
-            none_passes (λ n. runs_on v.cpu n.place) (w.before ++ w.after) none in
+        none_passes (λ n. runs_on v.cpu n.place) (w.before ++ w.after) none in
         ap (current_of v.cpu) (changed_within m.thread.id m s.members w (λ n. record n { place = Running v.cpu; order = pos 0 })) ∙
         find_only (λ n. runs_on v.cpu n.place) w.before (record m { place = Running v.cpu; order = pos 0 }) w.after
         (all_front (λ n. runs_on v.cpu n.place ≡ false) w.before w.after idle) (all_back (λ n. runs_on v.cpu n.place ≡ false) w.before w.after idle) ∙

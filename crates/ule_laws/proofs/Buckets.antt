@@ -14,9 +14,9 @@ use Rattle.ule_model.specs.Insertion.{members_in, tail_order, head_order}
 use Rattle.ule_model.specs.Places.{rank_of, waits_in}
 use Rattle.ule_model.specs.Shows.{ShowsQueue, by_order, ids_of, bucket_ids}
 use Rattle.ule_model.specs.WellMade.{AreApart}
-use Rattle.ule_model.specs.World.{Member, is_thread, moved_to, others, with_record}
-use Rattle.ule_laws.proofs.Orders.{length-by_order, map-by_order, filter_passed, ids_lacking, ids_without, all-by_order, by_order_last, by_order_first}
-use Rattle.ule_members.proofs.Within.{Lacks, Within, changed, changed_within, all-append, all_along, all_front, all_back}
+use Rattle.ule_model.specs.World.{Member, is_thread, moved_to, with_record}
+use Rattle.ule_laws.proofs.Orders.{length-by_order, map-by_order, ids_lacking, ids_without, all-by_order, by_order_last, by_order_first}
+use Rattle.ule_members.proofs.Within.{Lacks, Within, changed, changed_within, all-append, all_front, all_back}
 use Rattle.ule_members.proofs.Apart.{all_from_map, head_order_below, orders_in, tail_order_above}
 
 -- ---- the threads of a bucket
@@ -57,11 +57,13 @@ filter-map_kept p g kept (x ∷ xs) = rw (kept x) (step (p x) (filter-map_kept p
 -- ---- the numbers of a bucket
 
 -- a thread that isn't in a bucket adds nothing to it
-pub bucket_ids_out : (c : ℕ) (k : Kind) (b : ℕ) (before : List Member) (m : Member) (after : List Member) → waits_in c k b m.place ≡ false → bucket_ids c k b (before ++ m ∷ after) ≡ bucket_ids c k b (before ++ after)
+pub bucket_ids_out : (c : ℕ) (k : Kind) (b : ℕ) (before : List Member) (m : Member) (after : List Member) → waits_in c k b m.place ≡ false →
+    bucket_ids c k b (before ++ m ∷ after) ≡ bucket_ids c k b (before ++ after)
 bucket_ids_out c k b before m after out = ap (λ ns. ids_of (by_order ns)) (filter_skips (λ n. waits_in c k b n.place) before m after out)
 
 -- what holds of each order in a bucket of two lists holds of the threads of each
-orders_front : (P : ℤ → Type 0) (c : ℕ) (k : Kind) (b : ℕ) (before after : List Member) → AllByRecursion P (orders_in c k b (before ++ after)) → AllByRecursion (λ n. P n.order) (members_in c k b before) × AllByRecursion (λ n. P n.order) (members_in c k b after)
+orders_front : (P : ℤ → Type 0) (c : ℕ) (k : Kind) (b : ℕ) (before after : List Member) → AllByRecursion P (orders_in c k b (before ++ after)) →
+    AllByRecursion (λ n. P n.order) (members_in c k b before) × AllByRecursion (λ n. P n.order) (members_in c k b after)
 orders_front P c k b before after all =
     let both : AllByRecursion (λ n. P n.order) (members_in c k b before ++ members_in c k b after) =
     subst (AllByRecursion (λ n. P n.order)) (filter-append (λ n. waits_in c k b n.place) before after) (all_from_map (λ n. n.order) P (members_in c k b (before ++ after)) all) in
@@ -91,16 +93,19 @@ bucket_ids_first c k b before m after here order =
     ap (λ ns. m.thread.id ∷ ids_of (by_order ns)) (sym (filter-append (λ n. waits_in c k b n.place) before after))
 
 -- threads of one bucket that are apart have two orders
-orders_apart : (c : ℕ) (k : Kind) (b : ℕ) (m : Member) (ns : List Member) → waits_in c k b m.place ≡ true → AllByRecursion (AreApart m) ns → AllByRecursion (λ n. n.order ≢ m.order) (members_in c k b ns)
+orders_apart : (c : ℕ) (k : Kind) (b : ℕ) (m : Member) (ns : List Member) → waits_in c k b m.place ≡ true → AllByRecursion (AreApart m) ns →
+    AllByRecursion (λ n. n.order ≢ m.order) (members_in c k b ns)
 orders_apart c k b m [] here all = tt
 orders_apart c k b m (n ∷ ns) here all = step (waits_in c k b n.place) refl (orders_apart c k b m ns here all.1)
   where
-    step : (d : Bool) → waits_in c k b n.place ≡ d → AllByRecursion (λ x. x.order ≢ m.order) (members_in c k b ns) → AllByRecursion (λ x. x.order ≢ m.order) (if d then n ∷ members_in c k b ns else members_in c k b ns)
+    step : (d : Bool) → waits_in c k b n.place ≡ d → AllByRecursion (λ x. x.order ≢ m.order) (members_in c k b ns) →
+        AllByRecursion (λ x. x.order ≢ m.order) (if d then n ∷ members_in c k b ns else members_in c k b ns)
     step true is rest = (λ e. all.0.orders c k b here is (sym e), rest)
     step false is rest = rest
 
 -- without the number of one thread they are those of the others
-pub bucket_ids_without : (c : ℕ) (k : Kind) (b : ℕ) (t : ℕ) (m : Member) (ms : List Member) (w : Within t m ms) → filter (λ u. not (u == t)) (bucket_ids c k b ms) ≡ bucket_ids c k b (w.before ++ w.after)
+pub bucket_ids_without : (c : ℕ) (k : Kind) (b : ℕ) (t : ℕ) (m : Member) (ms : List Member) (w : Within t m ms) →
+    filter (λ u. not (u == t)) (bucket_ids c k b ms) ≡ bucket_ids c k b (w.before ++ w.after)
 bucket_ids_without c k b t m ms w =
     ap (λ ns. filter (λ u. not (u == t)) (bucket_ids c k b ns)) w.whole ∙ split (waits_in c k b m.place) refl
   where
@@ -121,7 +126,7 @@ bucket_ids_without c k b t m ms w =
 abbrev recorded : ℕ → (ThreadRecord → ThreadRecord) → Member → Member
 recorded t change n = if is_thread t n then record n { thread = change n.thread } else n
 
--- it keeps its number
+-- a thread whose record changes keeps its number where the change does
 recorded_id : (t : ℕ) (change : ThreadRecord → ThreadRecord) (n : Member) → ((r : ThreadRecord) → (change r).id ≡ r.id) → (recorded t change n).thread.id ≡ n.thread.id
 recorded_id t change n kept = step (is_thread t n)
   where
@@ -130,7 +135,8 @@ recorded_id t change n kept = step (is_thread t n)
     step false = refl
 
 -- a change of records alone leaves them
-pub bucket_ids-with_record : (c : ℕ) (k : Kind) (b : ℕ) (t : ℕ) (change : ThreadRecord → ThreadRecord) (ms : List Member) → ((r : ThreadRecord) → (change r).id ≡ r.id) → bucket_ids c k b (with_record t change ms) ≡ bucket_ids c k b ms
+pub bucket_ids-with_record : (c : ℕ) (k : Kind) (b : ℕ) (t : ℕ) (change : ThreadRecord → ThreadRecord) (ms : List Member) →
+    ((r : ThreadRecord) → (change r).id ≡ r.id) → bucket_ids c k b (with_record t change ms) ≡ bucket_ids c k b ms
 bucket_ids-with_record c k b t change ms kept =
     ap (λ ns. ids_of (by_order ns)) (filter-map_kept (λ n. waits_in c k b n.place) (recorded t change) (λ n. place_kept n (is_thread t n)) ms) ∙
     ap ids_of (map-by_order (recorded t change) (λ n. order_kept n (is_thread t n)) (members_in c k b ms)) ∙
@@ -154,7 +160,7 @@ bucket_ids-with_record c k b t change ms kept =
 abbrev pub IsOut : ℕ → Kind → Place → Type 0
 IsOut c k place = (b : ℕ) → waits_in c k b place ≡ false
 
--- lists show what has the same numbers in each bucket
+-- lists that show threads show others that have those numbers in each bucket
 shows_same : (lists : List (List ℕ)) (c : ℕ) (k : Kind) (ms ns : List Member) → ((b : ℕ) → bucket_ids c k b ns ≡ bucket_ids c k b ms) →
     ShowsQueue lists c k ms → ShowsQueue lists c k ns
 shows_same lists c k ms ns same shows = record { buckets = shows.buckets; each = λ b small. shows.each b small ∙ sym (same b) }

@@ -95,19 +95,22 @@ bucket_from_depth ridx Batch b e small one other same = omega arith
 bucket_from_depth ridx Idle b e small one other same = same
 
 -- the turns of two threads, by their places
-turns_at : (ridx : ℕ) (m n : Member) (p q : Place) → m.place ≡ p → n.place ≡ q → comes_before (turn_at ridx p m.order) (turn_at ridx q n.order) ≡ true → comes_before (turn_of ridx m) (turn_of ridx n) ≡ true
+turns_at : (ridx : ℕ) (m n : Member) (p q : Place) → m.place ≡ p → n.place ≡ q →
+    comes_before (turn_at ridx p m.order) (turn_at ridx q n.order) ≡ true → comes_before (turn_of ridx m) (turn_of ridx n) ≡ true
 turns_at ridx m n p q one other before =
     subst₂ (λ x y. comes_before (turn_at ridx x m.order) (turn_at ridx y n.order) ≡ true) (sym one) (sym other) before
 
--- a test on numbers that aren't equal, and where they are on more
+-- a test on numbers of which the first is less, and on more
 lexical_less : (a b : ℕ) (p : Bool) → a < b → (nat_lt a b || ((a == b) && p)) ≡ true
 lexical_less a b p less = or_left (nat_lt a b) ((a == b) && p) (lt-ltb a b less)
 
+-- a test on numbers that are equal, and on more that holds
 lexical_same : (a b : ℕ) (p : Bool) → a ≡ b → p ≡ true → (nat_lt a b || ((a == b) && p)) ≡ true
 lexical_same a b p same more = or_right (nat_lt a b) ((a == b) && p) (and_from (a == b) p (eq-eqb a b same) more)
 
--- a thread of the same queue is the next one or follows it
-follows_in_queue : (ridx c : ℕ) (k : Kind) (b e : ℕ) (m n : Member) (ms : List Member) → ridx < 64 → IsWellMade ms → IsNext ridx c k b m ms → Has n ms → n.place ≡ Queued c k e → e < 64 → IsOrFollows ridx m n
+-- a thread of the next one's queue is the next one or follows it
+follows_in_queue : (ridx c : ℕ) (k : Kind) (b e : ℕ) (m n : Member) (ms : List Member) → ridx < 64 → IsWellMade ms → IsNext ridx c k b m ms →
+    Has n ms → n.place ≡ Queued c k e → e < 64 → IsOrFollows ridx m n
 follows_in_queue ridx c k b e m n ms small made next has place within =
     let mine = has_filtered (λ z. waits_in c k b z.place) m ms next.head.here in
     let stands : m.place ≡ Queued c k b = place_from_waits_in c k b m.place mine.1 in
@@ -129,8 +132,9 @@ follows_in_queue ridx c k b e m n ms small made next has place within =
     apart)
     (cases_order (depth_of ridx k b) (depth_of ridx k e))
 
--- so is a thread of any of the queues
-follows_next : (ridx c : ℕ) (k j : Kind) (b e : ℕ) (m n : Member) (ms : List Member) → ridx < 64 → IsWellMade ms → IsNext ridx c k b m ms → Has n ms → n.place ≡ Queued c j e → e < 64 → IsOrFollows ridx m n
+-- a thread of any of the CPU's queues is the next one or follows it
+follows_next : (ridx c : ℕ) (k j : Kind) (b e : ℕ) (m n : Member) (ms : List Member) → ridx < 64 → IsWellMade ms → IsNext ridx c k b m ms → Has n ms →
+    n.place ≡ Queued c j e → e < 64 → IsOrFollows ridx m n
 follows_next ridx c k j b e m n ms small made next has place within =
     let mine = has_filtered (λ z. waits_in c k b z.place) m ms next.head.here in
     let stands : m.place ≡ Queued c k b = place_from_waits_in c k b m.place mine.1 in
@@ -185,7 +189,8 @@ empty_from_shown lists c k ms shows b within empty =
     no_ids m (n ∷ ns) none has = cc
 
 -- where a queue's first thread is none, none waits in the queue
-none_from_first : (lists : List (List ℕ)) (c : ℕ) (k : Kind) (from : ℕ) (ms : List Member) → ShowsQueue lists c k ms → from < 64 → first_from lists from ≡ None → (b : ℕ) → b < 64 → members_in c k b ms ≡ []
+none_from_first : (lists : List (List ℕ)) (c : ℕ) (k : Kind) (from : ℕ) (ms : List Member) → ShowsQueue lists c k ms → from < 64 →
+    first_from lists from ≡ None → (b : ℕ) → b < 64 → members_in c k b ms ≡ []
 none_from_first lists c k from ms shows start none b within =
     empty_from_shown lists c k ms shows b within (first_from_None lists from shows.buckets start none b within)
 
@@ -207,7 +212,9 @@ pub record IsFirstThread (ridx c : ℕ) (k : Kind) (b t : ℕ) (m : Member) (ms 
   pub next : IsNext ridx c k b m ms
 
 -- a queue's first thread is the next one, where the queues before it are empty
-next_from_first : (lists : List (List ℕ)) (ridx c : ℕ) (k : Kind) (b t : ℕ) (ms : List Member) → ShowsQueue lists c k ms → ridx < 64 → first_from lists (start_of ridx k) ≡ Some (b, t) → ((j : Kind) → rank_of j < rank_of k → (e : ℕ) → e < 64 → members_in c j e ms ≡ []) → (m : Member) × IsFirstThread ridx c k b t m ms
+next_from_first : (lists : List (List ℕ)) (ridx c : ℕ) (k : Kind) (b t : ℕ) (ms : List Member) → ShowsQueue lists c k ms → ridx < 64 →
+    first_from lists (start_of ridx k) ≡ Some (b, t) → ((j : Kind) → rank_of j < rank_of k → (e : ℕ) → e < 64 → members_in c j e ms ≡ []) →
+    (m : Member) × IsFirstThread ridx c k b t m ms
 next_from_first lists ridx c k b t ms shows small found earlier =
     let start : start_of ridx k < 64 = start_within ridx k small in
     let first : IsFirstFrom lists (start_of ridx k) b t = first_from_Some lists (start_of ridx k) b t shows.buckets start found in
@@ -281,7 +288,8 @@ choice_agrees real batch idle ridx c ms shows_real shows_batch shows_idle made s
     all_empty is_r is_b is_i Batch = none_from_first batch c Batch ridx ms shows_batch small is_b
     all_empty is_r is_b is_i Idle = none_from_first idle c Idle 0 ms shows_idle (omega arith) is_i
 
-    look : (r b i : Option (ℕ × ℕ)) → first_from real 0 ≡ r → first_from batch ridx ≡ b → first_from idle 0 ≡ i → Agrees c ms (first_of (in_kind Real r) (first_of (in_kind Batch b) (in_kind Idle i))) (choice_of c ridx ms)
+    look : (r b i : Option (ℕ × ℕ)) → first_from real 0 ≡ r → first_from batch ridx ≡ b → first_from idle 0 ≡ i →
+        Agrees c ms (first_of (in_kind Real r) (first_of (in_kind Batch b) (in_kind Idle i))) (choice_of c ridx ms)
     look (Some r) b i is_r is_b is_i =
         let first = next_from_first real ridx c Real r.0 r.1 ms shows_real small is_r (λ j less. absurd (omega arith)) in
         chosen_from_first ridx c Real r.0 r.1 first.0 ms small made first.1

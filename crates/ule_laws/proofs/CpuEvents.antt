@@ -5,7 +5,6 @@ use Rattle.std.specs.Option.{option_map}
 use Rattle.std.proofs.lemmas.Bool.{cases_eq, ne_eqb, or_left}
 use Rattle.ule_prio.specs.Kind.{kind_at}
 use Rattle.ule_prio.specs.Preemption.{takes_over}
-use Rattle.ule_prio.specs.declared.kind.Kind.{Kind}
 use Rattle.ule_prio.specs.declared.kind.Kind.TheVariants.{Real, Batch, Idle}
 use Rattle.ule_runq.specs.Runq.{is_empty_at}
 use Rattle.ule_score.proofs.ChangeLaws.{change_number}

@@ -1,5 +1,5 @@
 -- Where a CPU's value has a thread, with its position and its line, is where the side of a world has it.
-use Rattle.std.proofs.Common.{◌≡◌, ◌≢◌, ℕ, ◌==◌, Bool, true, false, ◌&&◌, List, Option, Some, None, ⊎_elim, if◌then◌else◌, refl, sym, ◌∙◌, ap}
+use Rattle.std.proofs.Common.{◌≡◌, ◌≢◌, ℕ, Bool, true, false, ◌&&◌, List, Option, Some, None, ⊎_elim, if◌then◌else◌, refl, sym, ◌∙◌, ap}
 use Rattle.std.specs.Prelude.{option_and_then}
 use Rattle.std.specs.Option.{option_map}
 use Rattle.std.proofs.lemmas.Bool.{and_from, both_ways, eq-eqb, ne_eqb, or_cases, or_left, or_right}
@@ -10,7 +10,6 @@ use Rattle.ule_runq.specs.Runq.{place_in}
 use Rattle.ule_score.specs.declared.place.Place.{Place}
 use Rattle.ule_score.specs.declared.place.Place.TheVariants.{Running, Queued, Asleep, Unborn, Gone, Hand}
 use Rattle.ule_score.specs.declared.record.ThreadRecord.{ThreadRecord}
-use Rattle.ule_types.specs.declared.outcome.ThreadLine.{ThreadLine}
 use Rattle.ule_model.specs.CpuValue.{CpuValue, StandsFor, current_place, first_found, queued_place, thread_in, thread_on, value_line, value_place}
 use Rattle.ule_model.specs.Finals.{line_of, position_of, thread_line}
 use Rattle.ule_model.specs.Places.{is_on, rank_of, runs_on, waits_on}
@@ -64,7 +63,7 @@ runner_of_current v s stands made u is = split (current_of v.cpu s.members) refl
 
 -- ---- a thread that isn't on the CPU
 
--- where no thread of that number is found on a CPU, none stands there
+-- a thread whose number finds none on a CPU doesn't stand there
 none_stands_on : (c t : ℕ) (ms : List Member) → thread_on c t ms ≡ None → (n : Member) → Has n ms → n.thread.id ≡ t → is_on c n.place ≡ true → ⊥
 none_stands_on c t ms none n has number on =
     both_ways (is_thread t n && is_on c n.place)

@@ -21,3 +21,4 @@ pub mod CpuSteps
 pub mod StepLaws
 pub mod TellLaws
 pub mod StepConditions
+pub mod CpuStarts

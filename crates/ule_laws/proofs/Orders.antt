@@ -1,11 +1,8 @@
 -- The laws of lists in order, and of the orders that an insertion gives.
-use Rattle.std.proofs.Common.{◌≡◌, ◌≢◌, ℕ, suc, ◌==◌, ℤ, pos, ◌+ℤ◌, ◌-ℤ◌, ◌≤ℤ◌, Bool, true, false, not, List, [], ◌∷◌, ◌++◌, map, filter, fold, length, if◌then◌else◌, refl, sym, ◌∙◌, ap, arith, int_lt}
-use Rattle.std.specs.Int.{int_max, int_min}
+use Rattle.std.proofs.Common.{◌≡◌, ◌≢◌, ℕ, suc, ◌==◌, ℤ, Bool, true, false, not, List, [], ◌∷◌, ◌++◌, map, filter, length, if◌then◌else◌, refl, sym, ◌∙◌, ap, arith, int_lt}
 use Rattle.std.specs.List.{AllByRecursion}
 use Rattle.std.proofs.lemmas.Bool.{eq-eqb}
-use Rattle.std.proofs.lemmas.Int.{ints, fold-int_max_bounds, fold-int_min_bounds}
-use Rattle.std.proofs.lemmas.List.Elements.{recursion_from_All}
-use Rattle.ule_model.specs.Insertion.{tail_order, head_order}
+use Rattle.std.proofs.lemmas.Int.{ints}
 use Rattle.ule_model.specs.Shows.{with_ordered, by_order, ids_of}
 use Rattle.ule_model.specs.World.{Member, is_thread}
 use Rattle.ule_members.proofs.Within.{Lacks, all-append, all_along}
@@ -82,7 +79,7 @@ with_ordered_comm x m (n ∷ ns) apart =
 
 -- ---- threads in order
 
--- they are as many
+-- threads in order are as many
 pub length-by_order : (ms : List Member) → length (by_order ms) ≡ length ms
 unfolding by_order
 length-by_order [] = refl
@@ -95,13 +92,14 @@ all-by_order P [] all = tt
 all-by_order P (m ∷ ms) all = all-with_ordered P m (by_order ms) all.0 (all-by_order P ms all.1)
 
 -- one among them whose order differs from those before it comes in order whenever
-pub by_order-between : (before : List Member) (m : Member) (after : List Member) → AllByRecursion (λ n. n.order ≢ m.order) before → by_order (before ++ m ∷ after) ≡ with_ordered m (by_order (before ++ after))
+pub by_order-between : (before : List Member) (m : Member) (after : List Member) → AllByRecursion (λ n. n.order ≢ m.order) before →
+    by_order (before ++ m ∷ after) ≡ with_ordered m (by_order (before ++ after))
 unfolding by_order
 by_order-between [] m after apart = refl
 by_order-between (b ∷ bs) m after apart =
     ap (with_ordered b) (by_order-between bs m after apart.1) ∙ with_ordered_comm b m (by_order (bs ++ after)) apart.0
 
--- threads changed alike, each with its order kept, come in the same order
+-- one more of threads that are changed alike, each with its order kept, comes where it came before
 pub map-with_ordered : (g : Member → Member) → ((n : Member) → (g n).order ≡ n.order) → (m : Member) (ns : List Member) → with_ordered (g m) (map g ns) ≡ map g (with_ordered m ns)
 unfolding with_ordered
 map-with_ordered g kept m [] = refl
@@ -109,11 +107,12 @@ map-with_ordered g kept m (n ∷ ns) =
     let same : int_lt (g m).order (g n).order ≡ int_lt m.order n.order = ap (int_lt (g m).order) (kept n) ∙ ap (λ o. int_lt o n.order) (kept m) in
     rw same (step (int_lt m.order n.order) (map-with_ordered g kept m ns))
   where
-    step : (b : Bool) → with_ordered (g m) (map g ns) ≡ map g (with_ordered m ns) → (if b then g m ∷ g n ∷ map g ns else g n ∷ with_ordered (g m) (map g ns)) ≡ map g (if b then m ∷ n ∷ ns else n ∷ with_ordered m ns)
+    step : (b : Bool) → with_ordered (g m) (map g ns) ≡ map g (with_ordered m ns) →
+        (if b then g m ∷ g n ∷ map g ns else g n ∷ with_ordered (g m) (map g ns)) ≡ map g (if b then m ∷ n ∷ ns else n ∷ with_ordered m ns)
     step true rest = refl
     step false rest = ap (λ r. g n ∷ r) rest
 
--- a list of threads changed alike too
+-- threads changed alike, each with its order kept, come in order as before
 pub map-by_order : (g : Member → Member) → ((n : Member) → (g n).order ≡ n.order) → (ms : List Member) → by_order (map g ms) ≡ map g (by_order ms)
 unfolding by_order
 map-by_order g kept [] = refl
@@ -165,7 +164,8 @@ ids_without t before m after apart number front back =
 -- ---- one above or below all the others
 
 -- a thread above all the others comes last
-pub by_order_last : (before : List Member) (m : Member) (after : List Member) → AllByRecursion (λ n. int_lt n.order m.order ≡ true) before → AllByRecursion (λ n. int_lt n.order m.order ≡ true) after → by_order (before ++ m ∷ after) ≡ by_order (before ++ after) ++ m ∷ []
+pub by_order_last : (before : List Member) (m : Member) (after : List Member) → AllByRecursion (λ n. int_lt n.order m.order ≡ true) before →
+    AllByRecursion (λ n. int_lt n.order m.order ≡ true) after → by_order (before ++ m ∷ after) ≡ by_order (before ++ after) ++ m ∷ []
 by_order_last before m after front back =
     by_order-between before m after (all_along (λ n. int_lt n.order m.order ≡ true) (λ n. n.order ≢ m.order) before (λ n low. lt_apart n.order m.order low) front) ∙
     with_ordered_last m (by_order (before ++ after))
@@ -174,7 +174,8 @@ by_order_last before m after front back =
     (all-append (λ n. int_lt n.order m.order ≡ true) before after front back)))
 
 -- a thread below all the others comes first
-pub by_order_first : (before : List Member) (m : Member) (after : List Member) → AllByRecursion (λ n. int_lt m.order n.order ≡ true) before → AllByRecursion (λ n. int_lt m.order n.order ≡ true) after → by_order (before ++ m ∷ after) ≡ m ∷ by_order (before ++ after)
+pub by_order_first : (before : List Member) (m : Member) (after : List Member) → AllByRecursion (λ n. int_lt m.order n.order ≡ true) before →
+    AllByRecursion (λ n. int_lt m.order n.order ≡ true) after → by_order (before ++ m ∷ after) ≡ m ∷ by_order (before ++ after)
 by_order_first before m after front back =
     by_order-between before m after (all_along (λ n. int_lt m.order n.order ≡ true) (λ n. n.order ≢ m.order) before (λ n low e. lt_apart m.order n.order low (sym e)) front) ∙
     with_ordered_first m (by_order (before ++ after))

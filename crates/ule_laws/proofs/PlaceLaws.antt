@@ -47,6 +47,7 @@ place_from_waits_on c Unborn waits = absurd (cc)
 place_from_waits_on c Gone waits = absurd (cc)
 place_from_waits_on c (Hand w) waits = absurd (cc)
 
+-- a place that is a bucket of a CPU's queue is in its queues
 pub waits_on_place : (c : ℕ) (k : Kind) (b : ℕ) (p : Place) → p ≡ Queued c k b → waits_on c p ≡ true
 waits_on_place c k b p is = ap (waits_on c) is ∙ eq-eqb c c refl
 

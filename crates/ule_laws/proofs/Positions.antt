@@ -29,7 +29,8 @@ count-filter : {X : Type 0} (p q : X → Bool) (xs : List X) → count_by (λ x.
 count-filter p q [] = refl
 count-filter p q (x ∷ xs) = sum_by-cons (λ y. cond (p y && q y) 1 0) x xs ∙ step p q x xs (p x) (count-filter p q xs)
   where
-    step : {X : Type 0} (p q : X → Bool) (x : X) (xs : List X) (b : Bool) → count_by (λ y. p y && q y) xs ≡ count_by q (filter p xs) → cond (b && q x) 1 0 + count_by (λ y. p y && q y) xs ≡ count_by q (cond b (x ∷ filter p xs) (filter p xs))
+    step : {X : Type 0} (p q : X → Bool) (x : X) (xs : List X) (b : Bool) → count_by (λ y. p y && q y) xs ≡ count_by q (filter p xs) →
+        cond (b && q x) 1 0 + count_by (λ y. p y && q y) xs ≡ count_by q (cond b (x ∷ filter p xs) (filter p xs))
     step p q x xs true same = ap (λ n. cond (q x) 1 0 + n) same ∙ sym (sum_by-cons (λ y. cond (q y) 1 0) x (filter p xs))
     step p q x xs false same = omega arith
 
@@ -39,13 +40,15 @@ unfolding with_ordered
 count-with_ordered q m [] = sum_by-cons (λ y. cond (q y) 1 0) m []
 count-with_ordered q m (n ∷ ns) = step q m n ns (int_lt m.order n.order) (count-with_ordered q m ns)
   where
-    step : (q : Member → Bool) (m n : Member) (ns : List Member) (b : Bool) → count_by q (with_ordered m ns) ≡ cond (q m) 1 0 + count_by q ns → count_by q (cond b (m ∷ n ∷ ns) (n ∷ with_ordered m ns)) ≡ cond (q m) 1 0 + count_by q (n ∷ ns)
+    step : (q : Member → Bool) (m n : Member) (ns : List Member) (b : Bool) → count_by q (with_ordered m ns) ≡ cond (q m) 1 0 + count_by q ns →
+        count_by q (cond b (m ∷ n ∷ ns) (n ∷ with_ordered m ns)) ≡ cond (q m) 1 0 + count_by q (n ∷ ns)
     step q m n ns true rest = sum_by-cons (λ y. cond (q y) 1 0) m (n ∷ ns)
     step q m n ns false rest =
         let whole : count_by q (n ∷ with_ordered m ns) ≡ cond (q n) 1 0 + count_by q (with_ordered m ns) = sum_by-cons (λ y. cond (q y) 1 0) n (with_ordered m ns) in
         let parts : count_by q (n ∷ ns) ≡ cond (q n) 1 0 + count_by q ns = sum_by-cons (λ y. cond (q y) 1 0) n ns in
         omega arith
 
+-- threads in order are counted as before
 count-by_order : (q : Member → Bool) (ms : List Member) → count_by q (by_order ms) ≡ count_by q ms
 unfolding by_order
 count-by_order q [] = refl
@@ -67,8 +70,9 @@ count_none q (x ∷ xs) all =
 abbrev IsOrDiffers : Member → Member → Type 0
 IsOrDiffers m n = (n ≡ m) ⊎ ((n.thread.id ≡ m.thread.id → ⊥) × (n.order ≡ m.order → ⊥))
 
--- in a rising list a thread's index is how many have a smaller order
-index_in_rising : (m : Member) (ns : List Member) → IsRising ns → Has m ns → AllByRecursion (IsOrDiffers m) ns → position_or_len (λ u. u == m.thread.id) (ids_of ns) ≡ count_by (λ n. int_lt n.order m.order) ns
+-- a thread's index in a rising list is how many have a smaller order
+index_in_rising : (m : Member) (ns : List Member) → IsRising ns → Has m ns → AllByRecursion (IsOrDiffers m) ns →
+    position_or_len (λ u. u == m.thread.id) (ids_of ns) ≡ count_by (λ n. int_lt n.order m.order) ns
 index_in_rising m [] rising has all = absurd has
 index_in_rising m (n ∷ ns) rising has all =
     let parts : count_by (λ z. int_lt z.order m.order) (n ∷ ns) ≡ cond (int_lt n.order m.order) 1 0 + count_by (λ z. int_lt z.order m.order) ns = sum_by-cons (λ z. cond (int_lt z.order m.order) 1 0) n ns in
@@ -98,7 +102,8 @@ is_or_differs c k b m n ms made first second one other =
     (cases_eq n.thread.id m.thread.id)
 
 -- a queued thread's position is the index of its number in its bucket
-pub position_is_index : (c : ℕ) (k : Kind) (b : ℕ) (m : Member) (ms : List Member) → IsWellMade ms → Has m ms → m.place ≡ Queued c k b → position_or_len (λ u. u == m.thread.id) (bucket_ids c k b ms) ≡ position_of m.place m.order ms
+pub position_is_index : (c : ℕ) (k : Kind) (b : ℕ) (m : Member) (ms : List Member) → IsWellMade ms → Has m ms → m.place ≡ Queued c k b →
+    position_or_len (λ u. u == m.thread.id) (bucket_ids c k b ms) ≡ position_of m.place m.order ms
 position_is_index c k b m ms made has place =
     let waits : waits_in c k b m.place ≡ true = waits_in_place c k b m.place place in
     let inside : Has m (members_in c k b ms) = has-filter (λ z. waits_in c k b z.place) m ms has waits in
@@ -128,14 +133,16 @@ lacks_number t (n ∷ ns) lacks =
     or_from (n.thread.id == t) (list_any (λ u. u == t) (ids_of ns)) (ne_eqb n.thread.id t (lacks n (inl refl))) (lacks_number t ns (λ z has. lacks z (inr has)))
 
 -- a number that no thread of a bucket has isn't in the list that shows it
-lacks_in_bucket : (lists : List (List ℕ)) (c : ℕ) (k : Kind) (ms : List Member) → ShowsQueue lists c k ms → (t b : ℕ) → b < 64 → ((n : Member) → Has n ms → n.thread.id ≡ t → n.place ≡ Queued c k b → ⊥) → list_any (λ u. u == t) (list_at lists b) ≡ false
+lacks_in_bucket : (lists : List (List ℕ)) (c : ℕ) (k : Kind) (ms : List Member) → ShowsQueue lists c k ms → (t b : ℕ) → b < 64 →
+    ((n : Member) → Has n ms → n.thread.id ≡ t → n.place ≡ Queued c k b → ⊥) → list_any (λ u. u == t) (list_at lists b) ≡ false
 lacks_in_bucket lists c k ms shows t b within lacks =
     ap (list_any (λ u. u == t)) (shows.each b within) ∙ lacks_number t (by_order (members_in c k b ms)) (λ n has same.
     let theirs = has_filtered (λ z. waits_in c k b z.place) n ms (has_by_order n (members_in c k b ms) has) in
     lacks n theirs.0 same (place_from_waits_in c k b n.place theirs.1))
 
 -- a queued thread stands in the queue that shows it at its bucket and its position
-pub place_in_shown : (lists : List (List ℕ)) (c : ℕ) (k : Kind) (b : ℕ) (m : Member) (ms : List Member) → ShowsQueue lists c k ms → IsWellMade ms → Has m ms → m.place ≡ Queued c k b → place_in lists m.thread.id ≡ Some (b, position_of m.place m.order ms)
+pub place_in_shown : (lists : List (List ℕ)) (c : ℕ) (k : Kind) (b : ℕ) (m : Member) (ms : List Member) → ShowsQueue lists c k ms → IsWellMade ms →
+    Has m ms → m.place ≡ Queued c k b → place_in lists m.thread.id ≡ Some (b, position_of m.place m.order ms)
 unfolding bucket_in
 place_in_shown lists c k b m ms shows made has place =
     let within : b < 64 = bucket_within c k b m ms made has place in
@@ -150,13 +157,15 @@ place_in_shown lists c k b m ms shows made has place =
     same_bucket : (c : ℕ) (k : Kind) (b e : ℕ) → Queued c k b ≡ Queued c k e → b ≡ e
     same_bucket c k b e same = cc
 
-    elsewhere : (c : ℕ) (k : Kind) (b e : ℕ) → e < b → (m n : Member) (ms : List Member) → IsWellMade ms → Has m ms → Has n ms → n.thread.id ≡ m.thread.id → m.place ≡ Queued c k b → n.place ≡ Queued c k e → ⊥
+    elsewhere : (c : ℕ) (k : Kind) (b e : ℕ) → e < b → (m n : Member) (ms : List Member) → IsWellMade ms → Has m ms → Has n ms →
+        n.thread.id ≡ m.thread.id → m.place ≡ Queued c k b → n.place ≡ Queued c k e → ⊥
     elsewhere c k b e below m n ms made has there same place other =
         let one : b ≡ e = same_bucket c k b e (sym place ∙ ap (λ (z : Member). z.place) (sym (same_from_number n m ms made there has same)) ∙ other) in
         omega arith
 
 -- a number of which no thread waits in a queue has no place in the lists that show it
-pub place_in_lacks : (lists : List (List ℕ)) (c : ℕ) (k : Kind) (t : ℕ) (ms : List Member) → ShowsQueue lists c k ms → ((n : Member) → Has n ms → n.thread.id ≡ t → (b : ℕ) → n.place ≡ Queued c k b → ⊥) → place_in lists t ≡ None
+pub place_in_lacks : (lists : List (List ℕ)) (c : ℕ) (k : Kind) (t : ℕ) (ms : List Member) → ShowsQueue lists c k ms →
+    ((n : Member) → Has n ms → n.thread.id ≡ t → (b : ℕ) → n.place ≡ Queued c k b → ⊥) → place_in lists t ≡ None
 unfolding bucket_in
 place_in_lacks lists c k t ms shows lacks =
     let long = shows.buckets in

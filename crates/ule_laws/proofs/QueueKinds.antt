@@ -1,5 +1,5 @@
 -- A CPU's queues by their kinds: what one of them becomes, the others stay.
-use Rattle.std.proofs.Common.{◌≡◌, ◌≢◌, ℕ, List, ◌⊎◌, inl, inr, ⊎_elim, refl, ap}
+use Rattle.std.proofs.Common.{◌≡◌, ◌≢◌, ℕ, List, ◌⊎◌, inl, inr, ⊎_elim, refl}
 use Rattle.ule_prio.specs.declared.kind.Kind.{Kind}
 use Rattle.ule_prio.specs.declared.kind.Kind.TheVariants.{Real, Batch, Idle}
 use Rattle.ule_runq.specs.Runq.{without}

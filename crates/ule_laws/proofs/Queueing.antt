@@ -1,23 +1,20 @@
 -- How a thread that a CPU's value stands beside is put in a queue: insertion, on the value and on the side.
-use Rattle.std.proofs.Common.{◌≡◌, ◌≢◌, ℕ, ◌+◌, ◌%◌, ◌<◌, ◌==◌, ℤ, Bool, true, false, cond, not, ◌&&◌, List, ◌++◌, if◌then◌else◌, Option, Some, None, refl, sym, ◌∙◌, ap, subst, arith}
-use Rattle.std.specs.Option.{option_map}
-use Rattle.std.proofs.lemmas.Bool.{and_left, and_right, eq-eqb, ne_eqb, or_right}
+use Rattle.std.proofs.Common.{◌≡◌, ℕ, ◌<◌, ℤ, true, List, ◌++◌, Option, refl, sym, subst, arith}
+use Rattle.std.proofs.lemmas.Bool.{eq-eqb}
 use Rattle.ule_prio.specs.Kind.{kind_at}
 use Rattle.ule_prio.specs.declared.kind.Kind.{Kind}
 use Rattle.ule_prio.specs.declared.kind.Kind.TheVariants.{Real, Batch, Idle}
 use Rattle.ule_score.specs.declared.place.Place.TheVariants.{Queued}
 use Rattle.ule_score.specs.declared.record.CpuLine.{CpuLine}
-use Rattle.ule_score.specs.declared.record.ThreadRecord.{ThreadRecord}
-use Rattle.ule_model.specs.CalendarIndexes.{reach_of, calendar_bucket}
-use Rattle.ule_model.specs.CpuValue.{CpuValue, StandsFor, inserted, inserted_in, inserted_thread, queue_of, removed_from, thread_in, with_inserted, with_queue}
+use Rattle.ule_model.specs.CpuValue.{CpuValue, StandsFor, inserted, inserted_in, queue_of, removed_from, with_inserted, with_queue}
 use Rattle.ule_model.specs.Insertion.{bucket_of, order_of, order_of_insertion, place_of_insertion, queued, with_queued}
 use Rattle.ule_model.specs.declared.insertion.Insertion.{Insertion}
 use Rattle.ule_model.specs.declared.insertion.Insertion.TheVariants.{Ordinary, Borrowing, Preempted}
-use Rattle.ule_model.specs.Places.{is_kind, is_on, rank_of}
+use Rattle.ule_model.specs.Places.{is_on}
 use Rattle.ule_model.specs.Shows.{ShowsQueue}
 use Rattle.ule_model.specs.Switch.{lifted}
 use Rattle.ule_model.specs.WellMade.{IsWellMade}
-use Rattle.ule_model.specs.World.{Member, Side, moved_to, others, thread_of}
+use Rattle.ule_model.specs.World.{Member, Side, moved_to, others}
 use Rattle.ule_laws.proofs.Beside.{StandsBeside, lifted_stands, other_out, put_current, put_load, put_threads}
 use Rattle.ule_laws.proofs.Buckets.{shows-changed, shows_with_head, shows_with_tail}
 use Rattle.ule_laws.proofs.QueueKinds.{by_kind, each_queue, with_queue_whole}
@@ -29,7 +26,7 @@ use Rattle.ule_members.proofs.Moves.{bucket_small, others_within}
 
 -- ---- the third put
 
--- its queue once the thread joined it
+-- the queue of a kind once a thread joined it
 joined_queue : (how : Insertion) (q : List (List ℕ)) (c : ℕ) (k : Kind) (b : ℕ) (m : Member) (ms : List Member) (w : Within m.thread.id m ms) →
     b < 64 → ShowsQueue q c k (w.before ++ w.after) →
     ShowsQueue (with_inserted how q b m.thread.id) c k
@@ -143,8 +140,8 @@ pub requeued_stands : (how : Insertion) (k : Kind) (b : ℕ) (m : Member) (v : C
     IsWellMade (queued how v.cpu m.thread.id (lifted v.cpu m s)).members
 requeued_stands how k b m v s w stands place =
     let joined =
-        subst (λ (c : ℕ). IsJoined out (inserted how m.thread.priority m.thread.id out) (queued how c m.thread.id (lifted v.cpu m s))) (removed_cpu k m.thread.id v)
-        (inserted_stands how m out (lifted v.cpu m s) w (lifted_stands k b m v s w stands place)) in
+    subst (λ (c : ℕ). IsJoined out (inserted how m.thread.priority m.thread.id out) (queued how c m.thread.id (lifted v.cpu m s))) (removed_cpu k m.thread.id v)
+    (inserted_stands how m out (lifted v.cpu m s) w (lifted_stands k b m v s w stands place)) in
     (joined.stands, joined.well_made)
   where
     out : CpuValue

@@ -44,6 +44,7 @@ has_with_ordered z m (n ∷ ns) has = step z m n ns (int_lt m.order n.order) (ha
         (λ (behind : Has z (with_ordered m ns)). ⊎_elim (λ (one : m ≡ z). inl one) (λ (other : Has z ns). inr (inr other)) (rest behind))
         has
 
+-- what is one more, or stood in an ordered list, stands in it with one more
 pub with_ordered_has : (z m : Member) (ms : List Member) → (m ≡ z) ⊎ Has z ms → Has z (with_ordered m ms)
 unfolding with_ordered
 with_ordered_has z m [] has = has
@@ -63,6 +64,7 @@ has_by_order z [] has = has
 has_by_order z (m ∷ ms) has =
     ⊎_elim (λ (same : m ≡ z). inl same) (λ (rest : Has z (by_order ms)). inr (has_by_order z ms rest)) (has_with_ordered z m (by_order ms) has)
 
+-- a thread of a list stands in it in order
 pub by_order_has : (z : Member) (ms : List Member) → Has z ms → Has z (by_order ms)
 unfolding by_order
 by_order_has z [] has = has
@@ -92,6 +94,7 @@ rising-with_ordered m (n ∷ ns) rising = step m n ns (int_lt m.order n.order) r
       rest,
     )
 
+-- threads in order have rising orders
 pub rising-by_order : (ms : List Member) → IsRising (by_order ms)
 unfolding by_order
 rising-by_order [] = tt

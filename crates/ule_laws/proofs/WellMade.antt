@@ -1,29 +1,29 @@
 -- Which changes of one thread keep a world well made.
-use Rattle.std.proofs.Common.{◌≡◌, ◌≢◌, ℕ, ◌<◌, ◌==◌, ℤ, Bool, true, false, ◌&&◌, List, [], ◌∷◌, ◌++◌, map, filter, None, if◌then◌else◌, refl, sym, ◌∙◌, ap, subst, int_lt}
+use Rattle.std.proofs.Common.{◌≡◌, ◌≢◌, ℕ, ◌<◌, ℤ, Bool, true, false, List, [], ◌∷◌, ◌++◌, map, None, if◌then◌else◌, refl, sym, ◌∙◌, ap, subst}
 use Rattle.std.specs.List.{AllByRecursion}
-use Rattle.std.proofs.lemmas.Bool.{eqb-true, eqb-false, and_parts, or_parts, both_ways}
+use Rattle.std.proofs.lemmas.Bool.{eqb-false}
 use Rattle.std.proofs.lemmas.List.{append-nil}
 use Rattle.ule_prio.specs.declared.kind.Kind.{Kind}
 use Rattle.ule_score.proofs.ChangeLaws.{change_number, change_numbers}
 use Rattle.ule_score.specs.Changes.{HasNumbers, IsSoundChange, RecordChange, record_after}
 use Rattle.ule_score.specs.declared.place.Place.{Place}
-use Rattle.ule_score.specs.declared.place.Place.TheVariants.{Running, Queued, Asleep, Unborn, Gone, Hand}
+use Rattle.ule_score.specs.declared.place.Place.TheVariants.{Running, Queued}
 use Rattle.ule_score.specs.declared.record.Settings.{Settings}
 use Rattle.ule_score.specs.declared.record.ThreadRecord.{ThreadRecord}
-use Rattle.ule_model.specs.Insertion.{members_in, order_of, tail_order, head_order}
+use Rattle.ule_model.specs.Insertion.{members_in, order_of}
 use Rattle.ule_model.specs.declared.insertion.Insertion.{Insertion}
-use Rattle.ule_model.specs.declared.insertion.Insertion.TheVariants.{Ordinary, Borrowing, Preempted}
-use Rattle.ule_model.specs.Places.{is_kind, rank_of, runs_on, waits_on, waits_in, is_on}
+use Rattle.ule_model.specs.Places.{runs_on, waits_in, is_on}
 use Rattle.ule_model.specs.WellMade.{IsPlace, IsMade, AreApart, AllApart, IsWellMade}
 use Rattle.ule_model.specs.World.{Member, is_thread, thread_of, current_of, moved_to, with_change, with_record}
 use Rattle.ule_members.proofs.Threads.{none_passes}
 use Rattle.ule_members.proofs.Within.{Within, all_along, all_back, all_both, all_front, well_made_between, well_made_within}
-use Rattle.ule_members.proofs.Apart.{all_from_filter, all_from_map, apart_off, apart_queued, apart_running, head_order_below, lt_apart, order_of_apart, orders_in, tail_order_above}
+use Rattle.ule_members.proofs.Apart.{all_from_filter, all_from_map, apart_off, apart_queued, apart_running, order_of_apart, orders_in}
 
 -- ---- a change of records alone
 
 -- threads changed alike, each with its number, place and order kept, are apart as they were
-apart_alike : (g : Member → Member) → ((n : Member) → (g n).thread.id ≡ n.thread.id) → ((n : Member) → (g n).place ≡ n.place) → ((n : Member) → (g n).order ≡ n.order) → (m n : Member) → AreApart m n → AreApart (g m) (g n)
+apart_alike : (g : Member → Member) → ((n : Member) → (g n).thread.id ≡ n.thread.id) → ((n : Member) → (g n).place ≡ n.place) →
+    ((n : Member) → (g n).order ≡ n.order) → (m n : Member) → AreApart m n → AreApart (g m) (g n)
 apart_alike g id place order m n h = record {
   numbers = λ e. h.numbers (sym (id m) ∙ e ∙ id n);
   orders = λ c k b here there e. h.orders c k b (ap (waits_in c k b) (sym (place m)) ∙ here) (ap (waits_in c k b) (sym (place n)) ∙ there) (sym (order m) ∙ e ∙ order n);
@@ -35,6 +35,7 @@ all-map : {X : Type 0} (g : X → X) (P Q : X → Type 0) → ((x : X) → P x �
 all-map g P Q step [] all = tt
 all-map g P Q step (x ∷ xs) all = (step x all.0, all-map g P Q step xs all.1)
 
+-- threads that are apart are so after a change that keeps each two apart
 all_apart-map : (g : Member → Member) → ((m n : Member) → AreApart m n → AreApart (g m) (g n)) → (ms : List Member) → AllApart ms → AllApart (map g ms)
 all_apart-map g step [] all = tt
 all_apart-map g step (m ∷ ms) all = (all-map g (AreApart m) (AreApart (g m)) (λ n h. step m n h) ms all.0, all_apart-map g step ms all.1)

@@ -16,7 +16,7 @@ use Rattle.ule_score.specs.declared.record.ThreadRecord.{ThreadRecord}
 pub better_of-lower : BetterOfIsLower
 better_of-lower base lent = (λ lower. omega arith, λ higher. omega arith)
 
--- with another bounded history
+-- a record keeps its bounds with another bounded history
 pub KeepsBounds-with_history : (r : ThreadRecord) (h : History) → KeepsBounds r → IsBoundedHistory h → KeepsBounds (with_history r h)
 KeepsBounds-with_history r h kept bounded = record {
   history = bounded;
@@ -30,7 +30,7 @@ KeepsBounds-with_history r h kept bounded = record {
   high = kept.high;
 }
 
--- with another bounded use
+-- a record keeps its bounds with another bounded use of an update in range
 pub KeepsBounds-with_use : (r : ThreadRecord) (u : CpuUse) → KeepsBounds r → IsBoundedUse u → u.ltick < 2 ^ 36 → KeepsBounds (with_use r u)
 KeepsBounds-with_use r u kept bounded in_time = record {
   history = kept.history;
@@ -44,7 +44,7 @@ KeepsBounds-with_use r u kept bounded in_time = record {
   high = kept.high;
 }
 
--- with another base priority, of the timeshare range where the class is timeshare
+-- a record keeps its bounds with another base priority, of the timeshare range where the class is timeshare
 pub KeepsBounds-with_base : (r : ThreadRecord) (base : ℕ) → KeepsBounds r →
     (r.class ≡ Ts → 120 ≤ base) → (r.class ≡ Ts → base ≤ 223) → KeepsBounds (with_base r base)
 KeepsBounds-with_base r base kept low high = record {
@@ -59,7 +59,7 @@ KeepsBounds-with_base r base kept low high = record {
   high = high;
 }
 
--- after a history update, by running or sleeping, and after a fork decay
+-- a record keeps its bounds after a history update, by running or sleeping, and after a fork decay
 pub KeepsBounds-histories : KeepsBoundsAtHistories
 KeepsBounds-histories r n kept = (
   KeepsBounds-with_history r _ kept (IsBoundedHistory-updated_history _),
@@ -67,19 +67,19 @@ KeepsBounds-histories r n kept = (
   KeepsBounds-with_history r _ kept (let child = child_history-lt r.hist in omega arith),
 )
 
--- after a CPU-use update
+-- a record keeps its bounds after a CPU-use update
 pub KeepsBounds-uses : KeepsBoundsAtUses
 KeepsBounds-uses r now running kept past in_time =
     let after = IsBoundedUse-updated_use r.usage now running kept.usage past in
     KeepsBounds-with_use r (updated_use r.usage now running) kept after.0 (subst (λ t. t < 2 ^ 36) (sym after.1) in_time)
 
--- with a computed base priority
+-- a record keeps its bounds with a computed base priority
 pub KeepsBounds-bases : KeepsBoundsAtBases
 KeepsBounds-bases r threshold kept nice =
     let bounds = timeshare_priority-bounds r.hist r.usage r.nice threshold nice in
     KeepsBounds-with_base r _ kept (λ class. bounds.0) (λ class. bounds.1)
 
--- with another lent priority
+-- a record keeps its bounds with another lent priority
 pub KeepsBounds-loans : KeepsBoundsAtLoans
 KeepsBounds-loans r lent kept = record {
   history = kept.history;
@@ -93,7 +93,7 @@ KeepsBounds-loans r lent kept = record {
   high = kept.high;
 }
 
--- with other times and another slice count
+-- a record keeps its bounds with other times and another slice count
 pub KeepsBounds-times : KeepsBoundsAtTimes
 KeepsBounds-times r count slept_at last_run kept few asleep ran = record {
   history = kept.history;

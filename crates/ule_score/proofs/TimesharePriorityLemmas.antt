@@ -52,7 +52,7 @@ timeshare_priority-bounds h u nice threshold within =
     let bounds = priority_at-bounds (at_least_zero (pos (score_of h threshold) +ℤ nice)) u nice threshold within in
     (bounds.0, bounds.1)
 
--- it is interactive where score and nice value come to less than the threshold, and batch else
+-- a timeshare priority is interactive where score and nice value come to less than the threshold, and batch else
 pub timeshare_priority-splits : TimesharePrioritySplits
 unfolding timeshare_priority
 timeshare_priority-splits h u nice threshold within =

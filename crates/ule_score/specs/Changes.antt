@@ -44,6 +44,7 @@ rebased_in Rt settings r = r
 rebased_in Fifo settings r = r
 rebased_in Idle settings r = r
 
+-- a record with its base priority computed anew, as its class has it
 abbrev pub rebased : Settings → ThreadRecord → ThreadRecord
 rebased settings r = rebased_in r.class settings r
 

@@ -13,11 +13,11 @@ use Rattle.ule_tdq.proofs.QueuesLaws.{once_other, once_same}
 use Rattle.ule_score.specs.declared.record.CpuLine.{CpuLine}
 use Rattle.ule_score.specs.declared.record.ThreadRecord.{ThreadRecord}
 
--- no record of these has a later CPU-use update
+-- no record of a list of slots has a CPU-use update later than this time
 abbrev pub AllNoEarlier : List (Option ThreadRecord) → ℕ → Type 0
 AllNoEarlier threads now = (t : ℕ) → IfSome (slice_index_or threads t None) (λ r. r.usage.ltick ≤ now)
 
--- none has with one kept anew whose update is no later
+-- slots without a later CPU-use update have none with a record kept anew whose update is no later
 pub AllNoEarlier-with : (threads : List (Option ThreadRecord)) (t : ℕ) (r : ThreadRecord) (now : ℕ) →
     AllNoEarlier threads now → r.usage.ltick ≤ now → AllNoEarlier (slice_set threads t (Some r)) now
 AllNoEarlier-with threads t r now old here u =
@@ -28,7 +28,7 @@ AllNoEarlier-with threads t r now old here u =
     (λ (other : u ≢ t). rw (get_or-set_other threads t u (Some r) None other) (old u))
     (cases_eq u t)
 
--- no thread stands in a CPU that has none
+-- a CPU with neither a current thread nor queued ones has each thread in no place
 pub none_on : (v : CpuValue) → v.current ≡ None → v.real ≡ replicate 64 [] → v.batch ≡ replicate 64 [] → v.idle ≡ replicate 64 [] →
     (t : ℕ) → times_on v t ≡ 0
 none_on v current real batch idle t =
@@ -45,7 +45,7 @@ records-le-slots [] = omega arith
 records-le-slots (None ∷ rest) = let more = records-le-slots rest in let all = sum_by-cons once_if None rest in omega arith
 records-le-slots (Some r ∷ rest) = let more = records-le-slots rest in let all = sum_by-cons once_if (Some r) rest in omega arith
 
--- where no slot has a record there are none
+-- slots of which none has a record have none in all
 pub records_none : (threads : List (Option ThreadRecord)) → ((t : ℕ) → slice_index_or threads t None ≡ None) → sum_by once_if threads ≡ 0
 records_none [] none = refl
 records_none (o ∷ rest) none =
@@ -73,7 +73,7 @@ current-within v t kept current =
       omega arith,
     )
 
--- so the CPU has a load
+-- a CPU with a current thread has a load
 pub load-positive : (v : CpuValue) (t : ℕ) → KeepsCpu v → v.current ≡ Some t → 1 ≤ v.load
 load-positive v t kept current =
     let there = current-within v t kept current in
@@ -96,7 +96,7 @@ KeepsCpu_start v settings slots none current load real batch idle = record {
   records = λ t. rw (none t) tt;
 }
 
--- where the current thread was let go, each thread that has a record stands in one queue, and no other does
+-- each thread that has a record once the current one was let go stands in one queue, and no other does
 current_gone : (v : CpuValue) (t : ℕ) → KeepsCpu v → v.current ≡ Some t → (u : ℕ) →
     0 + (times v.real u + times v.batch u + times v.idle u) ≡ once_if (slice_index_or (slice_set v.threads t None) u None)
 current_gone v t kept current u =

@@ -13,16 +13,17 @@ times_at_tail q new b t filed whole within u =
     let size : length q ≡ 64 = sym (length-with_tail q b t) ∙ ap length (sym filed) ∙ whole.buckets in
     ap (λ x. times x u) filed ∙ times-with_tail q b t u (omega arith)
 
--- the same at a head
+-- a queue that is whole with a thread more at a head has it once more
 pub times_at_head : (q new : List (List ℕ)) (b t : ℕ) → new ≡ with_head q b t → IsRunq new → b < 64 → (u : ℕ) → times new u ≡ times q u + once t u
 times_at_head q new b t filed whole within u =
     let size : length q ≡ 64 = sym (length-with_head q b t) ∙ ap length (sym filed) ∙ whole.buckets in
     ap (λ x. times x u) filed ∙ times-with_head q b t u (omega arith)
 
--- once for the thread itself, and not at all for another
+-- a thread is counted once where it is the thread itself
 pub once_same : (t : ℕ) → once t t ≡ 1
 once_same t = grind (arith, nat_tests)
 
+-- a thread is not counted where it is another
 pub once_other : (t u : ℕ) → u ≢ t → once t u ≡ 0
 once_other t u other = ap (λ b. cond b 1 0) (ne_eqb u t other)
 
@@ -44,12 +45,12 @@ pub times_out_real : (q : QueuesValue) (new : List (List ℕ)) (t : ℕ) → new
     times_queued (record q { real = new }) u + once t u ≡ times_queued q u
 times_out_real q new t rest there u = let out = times_out q.real new t rest there u in omega arith
 
--- the same for the calendar
+-- the queues without a thread that stood once in the calendar
 pub times_out_batch : (q : QueuesValue) (new : Dial) (t : ℕ) → new.lists ≡ without t q.batch.lists → times q.batch.lists t ≡ 1 → (u : ℕ) →
     times_queued (record q { batch = new }) u + once t u ≡ times_queued q u
 times_out_batch q new t rest there u = let out = times_out q.batch.lists new.lists t rest there u in omega arith
 
--- the same for the queue of idle priorities
+-- the queues without a thread that stood once in the one of idle priorities
 pub times_out_idle : (q : QueuesValue) (new : List (List ℕ)) (t : ℕ) → new ≡ without t q.idle → times q.idle t ≡ 1 → (u : ℕ) →
     times_queued (record q { idle = new }) u + once t u ≡ times_queued q u
 times_out_idle q new t rest there u = let out = times_out q.idle new t rest there u in omega arith

@@ -36,7 +36,7 @@ dial_with Ordinary d p t = with_ordinary d t p
 dial_with Borrowing d p t = with_next d t false
 dial_with Preempted d p t = with_next d t true
 
--- its bucket there
+-- the calendar's bucket of an insertion of priority p
 abbrev pub dial_bucket : Insertion → Dial → ℕ → ℕ
 dial_bucket Ordinary d p = calendar_bucket d.idx d.ridx p
 dial_bucket Borrowing d p = d.ridx
@@ -52,12 +52,13 @@ queues_with_in Idle how p t q = record q { idle = with_inserted how q.idle (p / 
 abbrev pub queues_with : Insertion → ℕ → ℕ → QueuesValue → QueuesValue
 queues_with how p t q = queues_with_in (kind_at p) how p t q
 
--- its bucket there, in the queue of this kind
+-- the bucket of an insertion of priority p in the queue of this kind
 abbrev pub bucket_with_in : Kind → Insertion → ℕ → QueuesValue → ℕ
 bucket_with_in Real how p q = p / 4
 bucket_with_in Batch how p q = dial_bucket how q.batch p
 bucket_with_in Idle how p q = p / 4
 
+-- the bucket of an insertion of priority p
 abbrev pub bucket_with : Insertion → ℕ → QueuesValue → ℕ
 bucket_with how p q = bucket_with_in (kind_at p) how p q
 

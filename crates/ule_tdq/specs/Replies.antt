@@ -5,10 +5,12 @@ use Rattle.ule_tdq.specs.declared.tdq.SwitchOut.TheVariants as out
 use Rattle.ule_types.specs.declared.event.Reply.{Reply}
 use Rattle.ule_types.specs.declared.event.Reply.TheVariants.{Unmarked, Nothing, Switched, Ticked}
 
+-- what a switch came to, as its event's reply
 abbrev pub reply_of : SwitchOut → Reply
 reply_of out.Unmarked = Unmarked
 reply_of out.Nothing = Nothing
 reply_of (out.Switched left into preempted) = Switched left into preempted
 
+-- what a tick came to, as its event's reply
 abbrev pub ticked_reply : Clocked → Reply
 ticked_reply c = Ticked c.cur c.due c.ended

@@ -15,9 +15,7 @@ ghost use Rattle.ule_tdq.specs.Replies.{reply_of, ticked_reply};
 use crate::balance::{balance_after_tick, first_balance, first_word, is_due, word_after_tick};
 use crate::lines::{line_of, queued};
 use crate::queues::Queues;
-use crate::records::{
-    current_priority, either, insertion_of, is_preemption, is_unasked, leaving,
-};
+use crate::records::{current_priority, either, insertion_of, is_preemption, is_unasked, leaving};
 use std::alloc::Global;
 use std::marker::Model;
 use ule_io::Memory;
