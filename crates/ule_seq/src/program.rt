@@ -1,115 +1,141 @@
-ghost use Rattle.std.specs.Prelude.{◌≡◌, ◌<◌, [], None};
-ghost use Rattle.std.specs.Option.{option_to_list};
-ghost use Rattle.ule_model.specs.Program.{added, after_drop, after_wake, begun, following, items_of, landing_cpu, next_of};
-ghost use Rattle.ule_seq.specs.Programs.{given_by};
+ghost use Rattle.std.specs.Prelude.{◌≡◌, ◌<◌};
+ghost use Rattle.ule_model.specs.Program.{after_drop, after_giving, after_wake, begun, first_stage, item_at, landing_cpu, next_of, own_of, stage_after, told_last};
 
 use ule_prio::{Cpu, ThreadId};
 use ule_score::Why;
-use ule_types::{Command, Event, Item, Reply, Setup};
+use ule_types::{Command, Event, Item, Looks, Reply, Setup, Stage};
 
-/// Where a worker stands inside a command: what is still to come of its items, and the event given
-/// last, whose reply may add an item.
+/// Where a worker stands inside a command, with all that its next item depends on but the reply to
+/// the event before.
 #[derive(Clone, Copy, Debug, PartialEq, Eq)]
 pub struct Program {
     worker: Cpu,
-    todo: Option<Item>,
-    given: Option<Event>,
+    cpus: u8,
+    stage: Stage,
+    looks: Looks,
+    jitter: u32,
 }
 
 impl Program {
-    ghost use Rattle.ule_seq.specs.Programs.{progress_of};
+    ghost use Rattle.ule_seq.specs.Programs.{own_of_program};
 
-    /// The program of a worker, 0..=15, before its first command.
-    pub fn start(_s: &Setup, worker: u8) -> Program
+    /// The program of a worker, 0..=15, before its first command. Its jitter word begins at the
+    /// scenario's number and the worker's, and starts anew behind 2^32 - 1.
+    pub fn start(s: &Setup, worker: u8) -> Program
         requires { worker < 16 }
-        ensures { progress_of result ≡ record { worker = worker; todo = []; given = None } }
+        ensures { own_of_program result ≡ own_of s.now.jitter s.now.cpus worker }
     {
         Program {
             worker: Cpu(worker),
-            todo: None,
-            given: None,
+            cpus: s.cpus,
+            stage: Stage::Ended,
+            looks: Looks::none(),
+            jitter: s.jitter.wrapping_add(u32::from(worker)),
         }
     }
 
     /// Begins a command. Those of births, deaths, loans and moves have no items so far.
     pub fn begin(&mut self, c: &Command)
-        ensures { progress_of self.new ≡ begun c.now (progress_of self.old) }
+        ensures { own_of_program self.new ≡ begun c.now (own_of_program self.old) }
     {
-        self.todo = first_item(self.worker, c);
-        self.given = None;
+        self.stage = first_stage(c);
+        self.looks = Looks::none();
     }
 
-    /// The next item of the command begun; none where it has no further item. `last` is the reply
-    /// and the time of the event that was given before, if one was.
+    /// The next item of the command begun; none where it has no further one. `last` is the reply
+    /// and the time, in hz ticks, of the event that was given before, if one was.
     pub fn next(&mut self, last: Option<(Reply, u64)>) -> Option<Item>
-        ensures item { result ≡ (next_of last (progress_of self.old)).0 }
-        ensures after { progress_of self.new ≡ (next_of last (progress_of self.old)).1 }
+        ensures item { result ≡ (next_of last (own_of_program self.old)).0 }
+        ensures after { own_of_program self.new ≡ (next_of last (own_of_program self.old)).1 }
     {
-        let item = match added(&self.given, &last) {
-            Some(item) => Some(item),
-            None => self.todo.take(),
-        };
-        self.given = event_of(&item);
+        self.hear(&last);
+        let item = item_at(self.worker, &self.stage);
+        self.stage = after_giving(&self.stage);
         item
+    }
+
+    /// Goes on to where the reply leads, if there is one.
+    fn hear(&mut self, last: &Option<(Reply, u64)>)
+        ensures { own_of_program self.new ≡ told_last last.now (own_of_program self.old) }
+    {
+        if let Some(told) = last {
+            self.stage = stage_after(&told.0, &self.stage);
+        }
     }
 }
 
-/// The item that a command of a worker begins with, if it has any so far.
-fn first_item(worker: Cpu, c: &Command) -> Option<Item>
-    ensures { option_to_list result ≡ items_of worker c.now }
+/// Where a command begins.
+fn first_stage(c: &Command) -> Stage
+    ensures { result ≡ first_stage c.now }
 {
-    let event = match *c {
-        Command::Time(ticks) => return Some(Item::Advance(ticks)),
-        Command::Tick => Event::Tick(worker),
-        Command::Yield => Event::Switch(worker, Why::Yield),
-        Command::Resched => Event::Switch(worker, Why::Resched),
-        Command::Sleep(channel) => Event::Drop(worker, channel),
-        Command::Wake(t) => Event::Wake(t),
-        _ => return None,
+    match *c {
+        Command::Tick => Stage::Ticks,
+        Command::Time(ticks) => Stage::Advances(ticks),
+        Command::Yield => Stage::Switches(Why::Yield),
+        Command::Resched => Stage::Switches(Why::Resched),
+        Command::Sleep(channel) => Stage::Drops(channel),
+        Command::Wake(t) => Stage::Wakes(t),
+        Command::Lend(_, _)
+        | Command::Unlend(_)
+        | Command::Renice(_, _)
+        | Command::Fork(_)
+        | Command::Exit
+        | Command::Idle
+        | Command::Balance
+        | Command::Look(_) => Stage::Ended,
+    }
+}
+
+/// The item at a stage; none where the command has no further one.
+fn item_at(worker: Cpu, stage: &Stage) -> Option<Item>
+    ensures { result ≡ item_at worker stage.now }
+{
+    let event = match *stage {
+        Stage::Ended => return None,
+        Stage::Advances(ticks) => return Some(Item::Advance(ticks)),
+        Stage::Ticks => Event::Tick(worker),
+        Stage::Switches(why) => Event::Switch(worker, why),
+        Stage::Drops(channel) => Event::Drop(worker, channel),
+        Stage::Beds(t, channel) => Event::Bed(t, channel),
+        Stage::Wakes(t) => Event::Wake(t),
+        Stage::Lands(t, c) => Event::Land(t, c),
     };
     Some(Item::Event(event))
 }
 
-/// The item that the reply of the event given last adds, if it adds one.
-fn added(given: &Option<Event>, last: &Option<(Reply, u64)>) -> Option<Item>
-    ensures { option_to_list result ≡ added given.now last.now }
+/// Where the reply to the event at a stage leads.
+fn stage_after(reply: &Reply, stage: &Stage) -> Stage
+    ensures { result ≡ stage_after reply.now stage.now }
 {
-    match given {
-        None => None,
-        Some(e) => match last {
-            None => None,
-            Some(told) => following(e, &told.0),
-        },
+    match *stage {
+        Stage::Drops(channel) => after_drop(channel, reply),
+        Stage::Wakes(t) => after_wake(t, reply),
+        Stage::Ended
+        | Stage::Ticks
+        | Stage::Advances(_)
+        | Stage::Switches(_)
+        | Stage::Beds(_, _)
+        | Stage::Lands(_, _) => Stage::Ended,
     }
 }
 
-/// The item that follows an event by its reply: a thread that left its CPU to sleep is put to
-/// sleep, and a woken one lands.
-fn following(e: &Event, reply: &Reply) -> Option<Item>
-    ensures { option_to_list result ≡ following e.now reply.now }
-{
-    match *e {
-        Event::Drop(_, channel) => after_drop(channel, reply),
-        Event::Wake(t) => after_wake(t, reply),
-        _ => None,
-    }
-}
-
-fn after_drop(channel: u16, reply: &Reply) -> Option<Item>
-    ensures { option_to_list result ≡ after_drop channel reply.now }
+/// A thread that left its CPU to sleep is put to sleep.
+fn after_drop(channel: u16, reply: &Reply) -> Stage
+    ensures { result ≡ after_drop channel reply.now }
 {
     match *reply {
-        Reply::Dropped(out, _) => Some(Item::Event(Event::Bed(out, channel))),
-        _ => None,
+        Reply::Dropped(out, _) => Stage::Beds(out, channel),
+        _ => Stage::Ended,
     }
 }
 
-fn after_wake(t: ThreadId, reply: &Reply) -> Option<Item>
-    ensures { option_to_list result ≡ after_wake t reply.now }
+/// A woken thread lands.
+fn after_wake(t: ThreadId, reply: &Reply) -> Stage
+    ensures { result ≡ after_wake t reply.now }
 {
     match *reply {
-        Reply::Woken(_, bound, _, _) => Some(Item::Event(Event::Land(t, landing_cpu(bound)))),
-        _ => None,
+        Reply::Woken(_, bound, _, _) => Stage::Lands(t, landing_cpu(bound)),
+        _ => Stage::Ended,
     }
 }
 
@@ -123,12 +149,18 @@ fn landing_cpu(bound: Option<Cpu>) -> Cpu
     }
 }
 
-/// The event that an item is, if there is an item.
-fn event_of(item: &Option<Item>) -> Option<Event>
-    ensures { result ≡ given_by item.now }
+/// The stage with its item given: an advance of time is answered by nothing, so it is left.
+fn after_giving(stage: &Stage) -> Stage
+    ensures { result ≡ after_giving stage.now }
 {
-    match item {
-        Some(Item::Event(e)) => Some(*e),
-        _ => None,
+    match *stage {
+        Stage::Advances(_) => Stage::Ended,
+        Stage::Ended
+        | Stage::Ticks
+        | Stage::Switches(_)
+        | Stage::Drops(_)
+        | Stage::Beds(_, _)
+        | Stage::Wakes(_)
+        | Stage::Lands(_, _) => *stage,
     }
 }
