@@ -26,7 +26,7 @@ use Rattle.ule_model.specs.Rounds.{Play, after_item, entry_of, greatest_rounds, 
 use Rattle.ule_model.specs.Shows.{ids_of}
 use Rattle.ule_model.specs.Start.{starting_time, world_at_start}
 use Rattle.ule_model.specs.Step.{step}
-use Rattle.ule_model.specs.WellMade.{IsWellMade, IsWellMadeWorld}
+use Rattle.ule_model.specs.WellMade.{IsWellMadeWorld}
 use Rattle.ule_model.specs.World.{Member, is_thread, thread_of}
 use Rattle.ule_members.proofs.Numbered.{step_bounds, step_by_now, step_numbers}
 use Rattle.ule_members.proofs.Rest.{step_leaves_rest}
@@ -66,7 +66,7 @@ pub record IsUnderWay (s : Setup) (p : Play) : Type 0 where
   pub bounded : p.now + 1000000 * all_left s.cpus p.courses ≤ starting_time + 1000000 * greatest_rounds
   pub count : length p.entries + all_left s.cpus p.courses ≤ greatest_rounds
   pub all_bounds : HoldsThroughout KeepsRecords (world_at_start s) p.entries
-  pub all_made : HoldsThroughout (λ w. IsWellMade w.members) (world_at_start s) p.entries
+  pub all_made : HoldsThroughout IsWellMadeWorld (world_at_start s) p.entries
 
 -- its time is within bounds
 pub time_below : (s : Setup) (p : Play) → IsUnderWay s p → p.now < 2 ^ 36
@@ -108,7 +108,7 @@ under_way_opening s form = record {
   bounded = omega (arith, opening_left s);
   count = omega (arith, opening_left s);
   all_bounds = HoldsThroughout-start KeepsRecords (world_at_start s) bounds;
-  all_made = HoldsThroughout-start (λ w. IsWellMade w.members) (world_at_start s) start.made.members;
+  all_made = HoldsThroughout-start IsWellMadeWorld (world_at_start s) start.made;
 }
   where
     start : IsLaid s.cpus s.settings (ids_in s) (world_at_start s)
@@ -264,8 +264,8 @@ under_way_performed s p worker e course after kept got found ready = record {
   count = omega (arith, kept.count, left_performed s p worker e course after kept got found, length_push p.entries (entry_of p worker e));
   all_bounds = HoldsThroughout-push KeepsRecords (world_at_start s) p.entries (entry_of p worker e) kept.all_bounds
       (subst (λ w. KeepsRecords (after_entry w (entry_of p worker e))) (sym kept.legal.world) bounds);
-  all_made = HoldsThroughout-push (λ w. IsWellMade w.members) (world_at_start s) p.entries (entry_of p worker e) kept.all_made
-      (subst (λ w. IsWellMade (after_entry w (entry_of p worker e)).members) (sym kept.legal.world) made.members);
+  all_made = HoldsThroughout-push IsWellMadeWorld (world_at_start s) p.entries (entry_of p worker e) kept.all_made
+      (subst (λ w. IsWellMadeWorld (after_entry w (entry_of p worker e))) (sym kept.legal.world) made);
 }
   where
     has : HasNext s p worker course e after
