@@ -11,7 +11,7 @@ use Rattle.ule_model.specs.Places.{hand_of}
 use Rattle.ule_model.specs.Program.{Course, next_step}
 use Rattle.ule_model.specs.Rounds.{Play, greatest_rounds, opening, play_of, round, rounds}
 use Rattle.ule_model.specs.Start.{world_at_start}
-use Rattle.ule_model.specs.WellMade.{IsWellMade}
+use Rattle.ule_model.specs.WellMade.{IsWellMadeWorld}
 use Rattle.ule_model.specs.World.{World}
 
 -- ---- every world of a history
@@ -40,7 +40,7 @@ pub record IsHistoryOf (s : Setup) (p : Play) : Type 0 where
   pub time : p.now ≡ end_time s.scripts
   pub count : length p.entries ≤ greatest_rounds
   pub bounds : HoldsThroughout KeepsRecords (world_at_start s) p.entries
-  pub made : HoldsThroughout (λ w. IsWellMade w.members) (world_at_start s) p.entries
+  pub made : HoldsThroughout IsWellMadeWorld (world_at_start s) p.entries
   pub hands : HasEmptyHands p.world
 
 -- the rounds of a setup that a scenario can spell so far make a legal and whole history of it

@@ -24,13 +24,13 @@ abbrev pub told_at : Course → Own
 told_at course = told_last course.last course.own
 
 -- a worker's own part once the item at its stage is given
-abbrev pub given : Own → Own
-given own = record own { stage = after_giving own.stage }
+abbrev pub once_given : Own → Own
+once_given own = record own { stage = after_giving own.stage }
 
 -- the next item of the commands not begun, and before them of the stage that a worker is at
 abbrev pub next_from : List Command → Own → Option (Item × Course)
-next_from [] own = stepped [] (item_at own.worker own.stage) (given own)
-next_from (c ∷ cs) own = or_else (stepped (c ∷ cs) (item_at own.worker own.stage) (given own)) (next_from cs (begun c own))
+next_from [] own = stepped [] (item_at own.worker own.stage) (once_given own)
+next_from (c ∷ cs) own = or_else (stepped (c ∷ cs) (item_at own.worker own.stage) (once_given own)) (next_from cs (begun c own))
 
 -- the next item of a program is found from where its worker stands once it knows the last reply
 pub next_in_is : (script : List Command) (own : Own) (last : Option (Reply × ℕ)) → next_in script own last ≡ next_from script (told_last last own)
@@ -50,25 +50,25 @@ pub record IsFound (P : List Command → Own → Type 0) (i : Item) (after : Cou
   pub own : Own
   pub holds : P script own
   pub item : item_at own.worker own.stage ≡ Some i
-  pub gone : after ≡ course_of (given own) script
+  pub gone : after ≡ course_of (once_given own) script
 
 -- a next item is found where what holds of the worker is kept
 pub found_from : (P : List Command → Own → Type 0) → KeptAtBegin P → (script : List Command) (own : Own) (i : Item) (after : Course) → P script own →
     next_from script own ≡ Some (i, after) → IsFound P i after
 found_from P kept [] own i after holds next = at_item (item_at own.worker own.stage) refl next
   where
-    at_item : (o : Option Item) → item_at own.worker own.stage ≡ o → stepped [] o (given own) ≡ Some (i, after) → IsFound P i after
+    at_item : (o : Option Item) → item_at own.worker own.stage ≡ o → stepped [] o (once_given own) ≡ Some (i, after) → IsFound P i after
     at_item None is none = absurd (none-some (i, after) none)
     at_item (Some j) is some =
-        let parts = some_pair_parts j i (course_of (given own) []) after some in
+        let parts = some_pair_parts j i (course_of (once_given own) []) after some in
         record { script = []; own = own; holds = holds; item = is ∙ ap (λ (k : Item). Some k) parts.0; gone = sym parts.1 }
 found_from P kept (c ∷ cs) own i after holds next = at_item (item_at own.worker own.stage) refl next (found_from P kept cs (begun c own) i after)
   where
-    at_item : (o : Option Item) → item_at own.worker own.stage ≡ o → or_else (stepped (c ∷ cs) o (given own)) (next_from cs (begun c own)) ≡ Some (i, after) →
+    at_item : (o : Option Item) → item_at own.worker own.stage ≡ o → or_else (stepped (c ∷ cs) o (once_given own)) (next_from cs (begun c own)) ≡ Some (i, after) →
         (P cs (begun c own) → next_from cs (begun c own) ≡ Some (i, after) → IsFound P i after) → IsFound P i after
     at_item None is some further = further (kept c cs own is holds) some
     at_item (Some j) is some further =
-        let parts = some_pair_parts j i (course_of (given own) (c ∷ cs)) after some in
+        let parts = some_pair_parts j i (course_of (once_given own) (c ∷ cs)) after some in
         record { script = c ∷ cs; own = own; holds = holds; item = is ∙ ap (λ (k : Item). Some k) parts.0; gone = sym parts.1 }
 
 -- the next item of a course is found from where its worker stands once it knows the last reply
@@ -78,29 +78,29 @@ next_found P kept course i after holds next =
     found_from P kept course.script (told_at course) i after holds (sym (next_in_is course.script course.own course.last) ∙ next)
 
 -- a worker without a next item has no command left and stands at the end of the last
-pub record IsAtEnd (P : List Command → Own → Type 0) : Type 0 where
+pub record HasRunOut (P : List Command → Own → Type 0) : Type 0 where
   pub own : Own
   pub holds : P [] own
   pub ended : own.stage ≡ stage.Ended
 
 -- where there is no next item, the commands have run out
-pub ended_from : (P : List Command → Own → Type 0) → KeptAtBegin P → (script : List Command) (own : Own) → P script own → next_from script own ≡ None → IsAtEnd P
+pub ended_from : (P : List Command → Own → Type 0) → KeptAtBegin P → (script : List Command) (own : Own) → P script own → next_from script own ≡ None → HasRunOut P
 ended_from P kept [] own holds next = at_item (item_at own.worker own.stage) refl next
   where
-    at_item : (o : Option Item) → item_at own.worker own.stage ≡ o → stepped [] o (given own) ≡ None → IsAtEnd P
+    at_item : (o : Option Item) → item_at own.worker own.stage ≡ o → stepped [] o (once_given own) ≡ None → HasRunOut P
     at_item None is none = record { own = own; holds = holds; ended = ended_stage own.worker own.stage is }
-    at_item (Some j) is some = absurd (none-some (j, course_of (given own) []) (sym some))
+    at_item (Some j) is some = absurd (none-some (j, course_of (once_given own) []) (sym some))
 ended_from P kept (c ∷ cs) own holds next = at_item (item_at own.worker own.stage) refl next (ended_from P kept cs (begun c own))
   where
-    at_item : (o : Option Item) → item_at own.worker own.stage ≡ o → or_else (stepped (c ∷ cs) o (given own)) (next_from cs (begun c own)) ≡ None →
-        (P cs (begun c own) → next_from cs (begun c own) ≡ None → IsAtEnd P) → IsAtEnd P
+    at_item : (o : Option Item) → item_at own.worker own.stage ≡ o → or_else (stepped (c ∷ cs) o (once_given own)) (next_from cs (begun c own)) ≡ None →
+        (P cs (begun c own) → next_from cs (begun c own) ≡ None → HasRunOut P) → HasRunOut P
     at_item None is none further = further (kept c cs own is holds) none
-    at_item (Some j) is some further = absurd (none-some (j, course_of (given own) (c ∷ cs)) (sym some))
+    at_item (Some j) is some further = absurd (none-some (j, course_of (once_given own) (c ∷ cs)) (sym some))
 
 -- a worker at a stage with an item has a next item
-pub item_goes_on : (script : List Command) (own : Own) (i : Item) → item_at own.worker own.stage ≡ Some i → next_from script own ≡ Some (i, course_of (given own) script)
-item_goes_on [] own i is = ap (λ o. stepped [] o (given own)) is
-item_goes_on (c ∷ cs) own i is = ap (λ o. or_else (stepped (c ∷ cs) o (given own)) (next_from cs (begun c own))) is
+pub item_goes_on : (script : List Command) (own : Own) (i : Item) → item_at own.worker own.stage ≡ Some i → next_from script own ≡ Some (i, course_of (once_given own) script)
+item_goes_on [] own i is = ap (λ o. stepped [] o (once_given own)) is
+item_goes_on (c ∷ cs) own i is = ap (λ o. or_else (stepped (c ∷ cs) o (once_given own)) (next_from cs (begun c own))) is
 
 -- ---- the items and the time that are left
 
@@ -160,12 +160,12 @@ abbrev pub HasOrder : List ℕ → ℕ → ℕ → Course → Type 0
 HasOrder ids cpus worker course = IsOrderly ids cpus worker (left_of cpus course) (time_of course) (held_at course) course.script (told_at course)
 
 -- where the next item of an orderly course is found
-abbrev pub IsNext : List ℕ → ℕ → ℕ → Course → Item → Course → Type 0
-IsNext ids cpus worker course i after = IsFound (IsOrderly ids cpus worker (left_of cpus course) (time_of course) (held_at course)) i after
+abbrev pub IsNextItem : List ℕ → ℕ → ℕ → Course → Item → Course → Type 0
+IsNextItem ids cpus worker course i after = IsFound (IsOrderly ids cpus worker (left_of cpus course) (time_of course) (held_at course)) i after
 
 -- the next item of an orderly course is found where the worker is orderly
 pub next_is : (ids : List ℕ) (cpus worker : ℕ) (course : Course) (i : Item) (after : Course) → HasOrder ids cpus worker course →
-    next_step course ≡ Some (i, after) → IsNext ids cpus worker course i after
+    next_step course ≡ Some (i, after) → IsNextItem ids cpus worker course i after
 next_is ids cpus worker course i after orderly next =
     next_found (IsOrderly ids cpus worker (left_of cpus course) (time_of course) (held_at course)) (orderly_begun ids cpus worker (left_of cpus course) (time_of course) (held_at course)) course i after orderly next
 
@@ -177,7 +177,7 @@ pub record GoesOnAs (ids : List ℕ) (cpus worker k : ℕ) (course reached : Cou
 
 -- a course that is told the reply to its next event goes on
 pub course_told : (ids : List ℕ) (cpus worker : ℕ) (course : Course) (e : Event) (after : Course) (r : Reply) (now : ℕ)
-    (next : IsNext ids cpus worker course (item.Event e) after) → IsSoundReply cpus next.own.stage r →
+    (next : IsNextItem ids cpus worker course (item.Event e) after) → IsSoundReply cpus next.own.stage r →
     GoesOnAs ids cpus worker 0 course (record after { last = Some (r, now) })
 course_told ids cpus worker course e after r now next sound =
     subst (λ a. GoesOnAs ids cpus worker 0 course (record a { last = Some (r, now) })) (sym next.gone) (record {
@@ -203,7 +203,7 @@ course_told ids cpus worker course e after r now next sound =
     none = at_event (λ x. time_at next.own.stage ≡ 0) (λ k. time_at next.own.stage ≡ k) next.own.worker next.own.stage e (item_time next.own.worker next.own.stage) next.item
 
 -- a course that has its next advance of time goes on
-pub course_advanced : (ids : List ℕ) (cpus worker k : ℕ) (course after : Course) → IsNext ids cpus worker course (item.Advance k) after →
+pub course_advanced : (ids : List ℕ) (cpus worker k : ℕ) (course after : Course) → IsNextItem ids cpus worker course (item.Advance k) after →
     GoesOnAs ids cpus worker k course after
 course_advanced ids cpus worker k course after next =
     subst (λ a. GoesOnAs ids cpus worker k course a) (sym next.gone) (record {
@@ -243,13 +243,13 @@ ended_time ids cpus worker course orderly none =
 
 -- a course that is told a reply has in hand what the reply's stage says
 pub held_told : (ids : List ℕ) (cpus worker : ℕ) (course : Course) (e : Event) (after : Course) (r : Reply) (now : ℕ)
-    (next : IsNext ids cpus worker course (item.Event e) after) → held_at (record after { last = Some (r, now) }) ≡ in_hand (stage_after r next.own.stage)
+    (next : IsNextItem ids cpus worker course (item.Event e) after) → held_at (record after { last = Some (r, now) }) ≡ in_hand (stage_after r next.own.stage)
 held_told ids cpus worker course e after r now next =
     ap (λ (a : Course). held_at (record a { last = Some (r, now) })) next.gone ∙
     ap (λ s. in_hand (stage_after r s)) (at_event (λ x. after_giving next.own.stage ≡ next.own.stage) (λ k. after_giving next.own.stage ≡ stage.Ended) next.own.worker next.own.stage e (given_stage next.own.worker next.own.stage) next.item)
 
 -- a course that has its advance of time has the hand that it had
-pub held_advanced : (ids : List ℕ) (cpus worker k : ℕ) (course after : Course) → IsNext ids cpus worker course (item.Advance k) after → held_at after ≡ held_at course
+pub held_advanced : (ids : List ℕ) (cpus worker k : ℕ) (course after : Course) → IsNextItem ids cpus worker course (item.Advance k) after → held_at after ≡ held_at course
 held_advanced ids cpus worker k course after next =
     ap held_at next.gone ∙
     ap in_hand (at_advance (λ x. after_giving next.own.stage ≡ next.own.stage) (λ j. after_giving next.own.stage ≡ stage.Ended) next.own.worker next.own.stage k (given_stage next.own.worker next.own.stage) next.item) ∙
@@ -265,7 +265,7 @@ held_goes_on t course held none = at_item (item_at (told_at course).worker (told
 
     at_item : (o : Option Item) → item_at (told_at course).worker (told_at course).stage ≡ o → ⊥
     at_item None is = none-some t (sym (ap in_hand (ended_stage (told_at course).worker (told_at course).stage is)) ∙ held)
-    at_item (Some i) is = none-some (i, course_of (given (told_at course)) course.script) (sym from ∙ item_goes_on course.script (told_at course) i is)
+    at_item (Some i) is = none-some (i, course_of (once_given (told_at course)) course.script) (sym from ∙ item_goes_on course.script (told_at course) i is)
 
 -- ---- a worker's entries, one step more
 

@@ -11,12 +11,11 @@ use Rattle.ule_types.specs.declared.setup.Setup.{Setup}
 use Rattle.ule_model.specs.Events.{holder_of, is_no_others, is_ready, sought_by}
 use Rattle.ule_model.specs.Program.{Course, next_step}
 use Rattle.ule_model.specs.Rounds.{Play, after_item, entry_of, performed, round, rounds, turn}
-use Rattle.ule_model.specs.Step.{step}
 use Rattle.ule_members.proofs.Reach.{number_from_test}
-use Rattle.ule_rounds.proofs.Courses.{course_advanced, held_at, held_goes_on, left_of}
+use Rattle.ule_rounds.proofs.Courses.{held_at, held_goes_on}
 use Rattle.ule_rounds.proofs.Hands.{hand_at, held_found, sought_held}
-use Rattle.ule_rounds.proofs.Keeping.{HasNext, IsUnderWay, advance_within, has_next, ids_in, kept_next, next_told, under_way_turn}
-use Rattle.ule_rounds.proofs.Plays.{all_left, sum_set}
+use Rattle.ule_rounds.proofs.Keeping.{HasNext, IsUnderWay, advance_within, has_next, left_advanced, left_performed, under_way_turn}
+use Rattle.ule_rounds.proofs.Plays.{all_left}
 use Rattle.ule_rounds.proofs.RoundsLaws.{IsFinished, round_finished, rounds_none, rounds_still, rounds_suc, turn_cases, turns, turns_keep, turns_more}
 
 -- ---- a turn
@@ -52,16 +51,13 @@ pub turn_goes : (s : Setup) (p : Play) (worker : ℕ) → IsUnderWay s p → IsF
 turn_goes s p worker kept =
     turn_cases (λ q. IsFurther s.cpus p q ⊎ ((q ≡ p) × IsIdle p worker)) p worker (λ finished. inr (refl, inl finished)) goes
   where
-    reached : Event → Course → Course
-    reached e after = record after { last = Some ((step p.world worker e p.now).1, p.now) }
-
     goes : (course after : Course) (i : Item) → slice_get p.courses worker ≡ Some course → next_step course ≡ Some (i, after) →
         IsFurther s.cpus p (after_item worker i after p) ⊎ ((after_item worker i after p ≡ p) × IsIdle p worker)
     goes course after (item.Advance k) got next =
         inl (record {
           entries = omega arith;
           now = omega arith;
-          left = omega (arith, sum_set (left_of s.cpus) p.courses worker course after got, (course_advanced (ids_in s) s.cpus worker k course after (kept_next s p worker course after (item.Advance k) kept got next)).left);
+          left = left_advanced s p worker k course after kept got next;
           more = omega (arith, advance_within s p worker k course after kept got next);
         })
     goes course after (item.Event e) got next = if_ready (is_ready p.world worker e) refl
@@ -73,7 +69,7 @@ turn_goes s p worker kept =
             inl (record {
               entries = omega (arith, pushed);
               now = omega arith;
-              left = omega (arith, sum_set (left_of s.cpus) p.courses worker course (reached e after) got, (next_told s p worker course after e kept (has_next s p worker course after e kept got next)).left);
+              left = left_performed s p worker e course after kept got next;
               more = omega (arith, pushed);
             })
         if_ready false is = inr (refl, inr (record { course = course; after = after; event = e; got = got; next = next; ready = is }))

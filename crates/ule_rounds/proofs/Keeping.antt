@@ -26,14 +26,14 @@ use Rattle.ule_model.specs.Rounds.{Play, after_item, entry_of, greatest_rounds, 
 use Rattle.ule_model.specs.Shows.{ids_of}
 use Rattle.ule_model.specs.Start.{starting_time, world_at_start}
 use Rattle.ule_model.specs.Step.{step}
-use Rattle.ule_model.specs.WellMade.{IsWellMade, IsWellMadeWorld}
+use Rattle.ule_model.specs.WellMade.{IsWellMadeWorld}
 use Rattle.ule_model.specs.World.{Member, is_thread, thread_of}
 use Rattle.ule_members.proofs.Numbered.{step_bounds, step_by_now, step_numbers}
 use Rattle.ule_members.proofs.Rest.{step_leaves_rest}
 use Rattle.ule_members.proofs.Steps.{step_is_made}
 use Rattle.ule_members.proofs.Within.{all_along}
 use Rattle.ule_rounds.proofs.Bindings.{step_binds, step_replies}
-use Rattle.ule_rounds.proofs.Courses.{GoesOnAs, HasOrder, IsNext, course_advanced, course_told, held_advanced, held_at, held_told, left_of, next_is, time_of}
+use Rattle.ule_rounds.proofs.Courses.{GoesOnAs, HasOrder, IsNextItem, course_advanced, course_told, held_advanced, held_at, held_told, left_of, next_is, time_of}
 use Rattle.ule_rounds.proofs.Hands.{DoAgree, agree_set, agree_step, hand_at, hand_handled, handled_thread}
 use Rattle.ule_rounds.proofs.Histories.{HoldsThroughout-push, HoldsThroughout-start}
 use Rattle.ule_rounds.proofs.LegalLaws.{IsLegalSoFar, each_after_set, legal_advanced, legal_opening, legal_performed}
@@ -66,7 +66,7 @@ pub record IsUnderWay (s : Setup) (p : Play) : Type 0 where
   pub bounded : p.now + 1000000 * all_left s.cpus p.courses ≤ starting_time + 1000000 * greatest_rounds
   pub count : length p.entries + all_left s.cpus p.courses ≤ greatest_rounds
   pub all_bounds : HoldsThroughout KeepsRecords (world_at_start s) p.entries
-  pub all_made : HoldsThroughout (λ w. IsWellMade w.members) (world_at_start s) p.entries
+  pub all_made : HoldsThroughout IsWellMadeWorld (world_at_start s) p.entries
 
 -- its time is within bounds
 pub time_below : (s : Setup) (p : Play) → IsUnderWay s p → p.now < 2 ^ 36
@@ -108,7 +108,7 @@ under_way_opening s form = record {
   bounded = omega (arith, opening_left s);
   count = omega (arith, opening_left s);
   all_bounds = HoldsThroughout-start KeepsRecords (world_at_start s) bounds;
-  all_made = HoldsThroughout-start (λ w. IsWellMade w.members) (world_at_start s) start.made.members;
+  all_made = HoldsThroughout-start IsWellMadeWorld (world_at_start s) start.made;
 }
   where
     start : IsLaid s.cpus s.settings (ids_in s) (world_at_start s)
@@ -130,12 +130,12 @@ found_among t (m ∷ ms) among = by_test (is_thread t m) among (found_among t ms
 
 -- where the next item of a worker is found
 pub kept_next : (s : Setup) (p : Play) (worker : ℕ) (course after : Course) (i : Item) → IsUnderWay s p → slice_get p.courses worker ≡ Some course →
-    next_step course ≡ Some (i, after) → IsNext (ids_in s) s.cpus worker course i after
+    next_step course ≡ Some (i, after) → IsNextItem (ids_in s) s.cpus worker course i after
 kept_next s p worker course after i kept got next = next_is (ids_in s) s.cpus worker course i after (kept.courses worker course got) next
 
 -- a worker whose next event is this
 pub record HasNext (s : Setup) (p : Play) (worker : ℕ) (course : Course) (e : Event) (after : Course) : Type 0 where
-  pub next : IsNext (ids_in s) s.cpus worker course (item.Event e) after
+  pub next : IsNextItem (ids_in s) s.cpus worker course (item.Event e) after
   pub below : worker < s.cpus
   pub item : item_at worker next.own.stage ≡ Some (item.Event e)
   pub hand : hand_at p.courses worker ≡ in_hand next.own.stage
@@ -154,7 +154,7 @@ has_next s p worker course after e kept got found = record {
   names = at_event (NamesWhatIs (ids_in s) s.cpus) (λ k. is_within 1 1000000 k ≡ true) worker next.own.stage e (item_names (ids_in s) s.cpus worker next.own.stage below next.holds.sound) at;
 }
   where
-    next : IsNext (ids_in s) s.cpus worker course (item.Event e) after
+    next : IsNextItem (ids_in s) s.cpus worker course (item.Event e) after
     next = kept_next s p worker course after (item.Event e) kept got found
 
     below : worker < s.cpus
@@ -189,6 +189,12 @@ advance_within s p worker k course after kept got found =
     let both = and_parts (nat_le 1 k) (nat_le k 1000000) valid in
     (leb-true 1 k both.0, leb-true k 1000000 both.1)
 
+-- time that goes on leaves fewer items
+pub left_advanced : (s : Setup) (p : Play) (worker k : ℕ) (course after : Course) → IsUnderWay s p → slice_get p.courses worker ≡ Some course →
+    next_step course ≡ Some (item.Advance k, after) → all_left s.cpus (after_item worker (item.Advance k) after p).courses + 1 ≤ all_left s.cpus p.courses
+left_advanced s p worker k course after kept got found =
+    omega (arith, sum_set (left_of s.cpus) p.courses worker course after got, (course_advanced (ids_in s) s.cpus worker k course after (kept_next s p worker course after (item.Advance k) kept got found)).left)
+
 -- what is noted of each thread by one time is by a later one
 by_later : (now later : ℕ) (ms : List Member) → now ≤ later → AllByRecursion (λ m. IsBy now m.thread) ms → AllByRecursion (λ m. IsBy later m.thread) ms
 by_later now later ms past by =
@@ -212,13 +218,13 @@ under_way_advanced s p worker k course after kept got found = record {
       (λ t. kept.hands worker t ∙ ap (λ o. is_number t (option_and_then held_at o)) got ∙ ap (is_number t) (sym (held_advanced (ids_in s) s.cpus worker k course after next)));
   begun = omega (arith, kept.begun);
   time = omega (arith, kept.time, sum_set time_of p.courses worker course after got, went.time);
-  bounded = omega (arith, kept.bounded, sum_set (left_of s.cpus) p.courses worker course after got, went.left, advance_within s p worker k course after kept got found);
-  count = omega (arith, kept.count, sum_set (left_of s.cpus) p.courses worker course after got, went.left);
+  bounded = omega (arith, kept.bounded, left_advanced s p worker k course after kept got found, advance_within s p worker k course after kept got found);
+  count = omega (arith, kept.count, left_advanced s p worker k course after kept got found);
   all_bounds = kept.all_bounds;
   all_made = kept.all_made;
 }
   where
-    next : IsNext (ids_in s) s.cpus worker course (item.Advance k) after
+    next : IsNextItem (ids_in s) s.cpus worker course (item.Advance k) after
     next = kept_next s p worker course after (item.Advance k) kept got found
 
     went : GoesOnAs (ids_in s) s.cpus worker k course after
@@ -230,6 +236,12 @@ pub next_told : (s : Setup) (p : Play) (worker : ℕ) (course after : Course) (e
 next_told s p worker course after e kept has =
     course_told (ids_in s) s.cpus worker course e after (step p.world worker e p.now).1 p.now has.next
     (at_event (λ x. IsSoundReply s.cpus has.next.own.stage (step p.world worker x p.now).1) (λ k. Unit {0}) worker has.next.own.stage e (step_replies s.cpus p.world worker p.now has.next.own.stage (setup_scripts s).some kept.bound) has.item)
+
+-- an event leaves fewer items
+pub left_performed : (s : Setup) (p : Play) (worker : ℕ) (e : Event) (course after : Course) → IsUnderWay s p → slice_get p.courses worker ≡ Some course →
+    next_step course ≡ Some (item.Event e, after) → all_left s.cpus (performed worker e after p).courses + 1 ≤ all_left s.cpus p.courses
+left_performed s p worker e course after kept got found =
+    omega (arith, sum_set (left_of s.cpus) p.courses worker course (record after { last = Some ((step p.world worker e p.now).1, p.now) }) got, (next_told s p worker course after e kept (has_next s p worker course after e kept got found)).left)
 
 -- an event that is ready keeps a play under way
 pub under_way_performed : (s : Setup) (p : Play) (worker : ℕ) (e : Event) (course after : Course) → IsUnderWay s p → slice_get p.courses worker ≡ Some course →
@@ -248,12 +260,12 @@ under_way_performed s p worker e course after kept got found ready = record {
       (held_told (ids_in s) s.cpus worker course e after (step p.world worker e p.now).1 p.now has.next);
   begun = kept.begun;
   time = omega (arith, kept.time, sum_set time_of p.courses worker course reached got, went.time);
-  bounded = omega (arith, kept.bounded, sum_set (left_of s.cpus) p.courses worker course reached got, went.left);
-  count = omega (arith, kept.count, sum_set (left_of s.cpus) p.courses worker course reached got, went.left, length_push p.entries (entry_of p worker e));
+  bounded = omega (arith, kept.bounded, left_performed s p worker e course after kept got found);
+  count = omega (arith, kept.count, left_performed s p worker e course after kept got found, length_push p.entries (entry_of p worker e));
   all_bounds = HoldsThroughout-push KeepsRecords (world_at_start s) p.entries (entry_of p worker e) kept.all_bounds
       (subst (λ w. KeepsRecords (after_entry w (entry_of p worker e))) (sym kept.legal.world) bounds);
-  all_made = HoldsThroughout-push (λ w. IsWellMade w.members) (world_at_start s) p.entries (entry_of p worker e) kept.all_made
-      (subst (λ w. IsWellMade (after_entry w (entry_of p worker e)).members) (sym kept.legal.world) made.members);
+  all_made = HoldsThroughout-push IsWellMadeWorld (world_at_start s) p.entries (entry_of p worker e) kept.all_made
+      (subst (λ w. IsWellMadeWorld (after_entry w (entry_of p worker e))) (sym kept.legal.world) made);
 }
   where
     has : HasNext s p worker course e after

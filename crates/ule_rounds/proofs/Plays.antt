@@ -42,8 +42,8 @@ all_time courses = sum_by time_of courses
 -- ---- the opening play
 
 -- the courses of some workers before their first commands
-abbrev pub courses_from : ℕ → ℕ → ℕ → List (List Command) → List Course
-courses_from jitter cpus n scripts = map (λ e. course_of (own_of jitter cpus e.0) e.1) (enumerate_from n scripts)
+abbrev pub opened_courses : ℕ → ℕ → ℕ → List (List Command) → List Course
+opened_courses jitter cpus n scripts = map (λ e. course_of (own_of jitter cpus e.0) e.1) (enumerate_from n scripts)
 
 -- each worker of the setup has a course
 pub opening_count : (s : Setup) → length (opening_courses s) ≡ s.cpus
@@ -55,7 +55,7 @@ opening_count s =
 
 -- the course of a worker begins its script
 course_first : (jitter cpus n k : ℕ) (scripts : List (List Command)) (worker : ℕ) (course : Course) →
-    slice_get (courses_from jitter cpus n (take k scripts)) worker ≡ Some course → course_of (own_of jitter cpus (n + worker)) (slice_index_or scripts worker []) ≡ course
+    slice_get (opened_courses jitter cpus n (take k scripts)) worker ≡ Some course → course_of (own_of jitter cpus (n + worker)) (slice_index_or scripts worker []) ≡ course
 course_first jitter cpus n zero scripts worker course got = absurd (none-some course got)
 course_first jitter cpus n (suc k) [] worker course got = absurd (none-some course got)
 course_first jitter cpus n (suc k) (script ∷ scripts) zero course got =
@@ -72,12 +72,12 @@ opening_is s worker course got =
     ap (λ u. course_of (own_of s.jitter s.cpus u) (slice_index_or s.scripts worker [])) e ∙ course_first s.jitter s.cpus 0 s.cpus s.scripts worker course got
 
 -- the items left at the start are the budget of the workers
-pub left_at_start : (jitter cpus n : ℕ) (scripts : List (List Command)) → all_left cpus (courses_from jitter cpus n scripts) ≡ budget_from n cpus scripts
+pub left_at_start : (jitter cpus n : ℕ) (scripts : List (List Command)) → all_left cpus (opened_courses jitter cpus n scripts) ≡ budget_from n cpus scripts
 left_at_start jitter cpus n [] = refl
 left_at_start jitter cpus n (script ∷ scripts) =
     let first : left_of cpus (course_of (own_of jitter cpus n) script) ≡ sum (map (λ c. greatest_of c n cpus) script) =
     (let none : 0 + greatest_in cpus n script ≡ greatest_in cpus n script = omega arith in none ∙ sym (sum-map (λ c. greatest_of c n cpus) script)) in
-    omega (arith, first, left_at_start jitter cpus (n + 1) scripts, sum_by-cons (left_of cpus) (course_of (own_of jitter cpus n) script) (courses_from jitter cpus (n + 1) scripts))
+    omega (arith, first, left_at_start jitter cpus (n + 1) scripts, sum_by-cons (left_of cpus) (course_of (own_of jitter cpus n) script) (opened_courses jitter cpus (n + 1) scripts))
 
 -- the budget of the first workers is within that of all
 pub budget_of_first : (cpus worker n : ℕ) (scripts : List (List Command)) → budget_from worker cpus (take n scripts) ≤ budget_from worker cpus scripts
@@ -94,20 +94,20 @@ opening_left s =
     omega (arith, left_at_start s.jitter s.cpus 0 (take s.cpus s.scripts), budget_of_first s.cpus 0 s.cpus s.scripts, kept.budget)
 
 -- the time left at the start is that of the scripts
-pub time_at_start : (jitter cpus n : ℕ) (scripts : List (List Command)) → all_time (courses_from jitter cpus n scripts) ≡ amount_in_all scripts
+pub time_at_start : (jitter cpus n : ℕ) (scripts : List (List Command)) → all_time (opened_courses jitter cpus n scripts) ≡ amount_in_all scripts
 time_at_start jitter cpus n [] = refl
 time_at_start jitter cpus n (script ∷ scripts) =
-    omega (arith, time_at_start jitter cpus (n + 1) scripts, sum_by-cons amount_in script scripts, sum_by-cons time_of (course_of (own_of jitter cpus n) script) (courses_from jitter cpus (n + 1) scripts))
+    omega (arith, time_at_start jitter cpus (n + 1) scripts, sum_by-cons amount_in script scripts, sum_by-cons time_of (course_of (own_of jitter cpus n) script) (opened_courses jitter cpus (n + 1) scripts))
 
 -- at the start every hand is empty
-pub hands_at_start : (jitter cpus n : ℕ) (scripts : List (List Command)) (worker : ℕ) → hand_at (courses_from jitter cpus n scripts) worker ≡ None
+pub hands_at_start : (jitter cpus n : ℕ) (scripts : List (List Command)) (worker : ℕ) → hand_at (opened_courses jitter cpus n scripts) worker ≡ None
 hands_at_start jitter cpus n [] worker = refl
 hands_at_start jitter cpus n (script ∷ scripts) zero = refl
 hands_at_start jitter cpus n (script ∷ scripts) (suc worker) = hands_at_start jitter cpus (n + 1) scripts worker
 
 -- scripts of valid commands give orderly courses
 order_at_start : (ids : List ℕ) (jitter cpus n : ℕ) (scripts : List (List Command)) → AllByRecursion (λ script. list_all (is_command ids cpus) script ≡ true) scripts →
-    (worker : ℕ) (course : Course) → slice_get (courses_from jitter cpus n scripts) worker ≡ Some course → HasOrder ids cpus (n + worker) course
+    (worker : ℕ) (course : Course) → slice_get (opened_courses jitter cpus n scripts) worker ≡ Some course → HasOrder ids cpus (n + worker) course
 order_at_start ids jitter cpus n [] all worker course got = absurd (none-some course got)
 order_at_start ids jitter cpus n (script ∷ scripts) all zero course got =
     subst (HasOrder ids cpus (n + 0)) (same_Some (course_of (own_of jitter cpus n) script) course got)

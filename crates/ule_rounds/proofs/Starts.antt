@@ -17,7 +17,7 @@ use Rattle.ule_types.specs.Commands.{is_among}
 use Rattle.ule_types.specs.Form.{IsOfForm, is_plain, is_timeshare}
 use Rattle.ule_types.specs.Rules.{declared_ids, is_distinct, is_form, is_nice, is_spec}
 use Rattle.ule_types.specs.declared.setup.Form.{Form}
-use Rattle.ule_types.specs.declared.setup.Form.TheVariants.{Ts}
+use Rattle.ule_types.specs.declared.setup.Form.TheVariants.{Ts, Ithd, Rt, Fifo, Idle}
 use Rattle.ule_types.specs.declared.setup.Setup.{Setup}
 use Rattle.ule_types.specs.declared.setup.ThreadSpec.{ThreadSpec}
 use Rattle.ule_model.specs.declared.insertion.Insertion.{Insertion}
@@ -47,7 +47,10 @@ form_bounds settings (Ts n) plain valid =
     let nice : IsNice n = nice_is n valid in
     let bounds = timeshare_priority-bounds fresh_history fresh_use n settings.interact nice in
     (nice, bounds.0, bounds.1)
-form_bounds settings _ plain valid = absurd (false≢true plain)
+form_bounds settings (Ithd p) plain valid = absurd (false≢true plain)
+form_bounds settings (Rt p) plain valid = absurd (false≢true plain)
+form_bounds settings (Fifo p) plain valid = absurd (false≢true plain)
+form_bounds settings (Idle p) plain valid = absurd (false≢true plain)
 
 -- what holds of the threads that a setup can declare so far
 abbrev pub IsGood : ℕ → ThreadSpec → Type 0

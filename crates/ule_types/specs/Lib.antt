@@ -2,3 +2,4 @@ pub mod Commands
 pub mod Rules
 pub mod Form
 pub mod Outcome
+pub mod Looks

@@ -6,7 +6,7 @@ pub use command::{Command, greatest};
 pub use event::{Entry, Event, Item, MoveWhy, Reply};
 pub use fault::ScenarioFault;
 pub use items::Items;
-pub use look::Summary;
+pub use look::{Looks, Summary};
 pub use outcome::{Outcome, ThreadLine};
 pub use scripts::Scripts;
 pub use setup::{Form, GroupLine, Groups, Setup, Specs, ThreadSpec, Turns, Unborn};

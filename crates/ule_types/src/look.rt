@@ -1,3 +1,6 @@
+ghost use Rattle.std.specs.Prelude.{◌≡◌, []};
+ghost use Rattle.ule_types.specs.Looks.{looks_kept};
+
 /// What a look at a CPU sees, after the fields of `struct tdq` that `cpu_search` reads.
 #[derive(Clone, Copy, Debug, PartialEq, Eq)]
 pub struct Summary {
@@ -8,4 +11,29 @@ pub struct Summary {
     /// The better priority of the current thread and of the one that is chosen next; 255 where
     /// there is neither.
     pub lowpri: u8,
+}
+
+/// What the looks of one command saw, in order: at most one for each CPU. Contracts see it by
+/// `looks_kept` as a list.
+#[derive(Clone, Copy, Debug, PartialEq, Eq)]
+pub struct Looks {
+    n: u8,
+    seen: [Summary; 16],
+}
+
+impl Looks {
+    /// What no look saw.
+    pub fn none() -> Looks
+        ensures { looks_kept result ≡ [] }
+    {
+        let unseen = Summary {
+            load: 0,
+            movable: 0,
+            lowpri: 255,
+        };
+        Looks {
+            n: 0,
+            seen: [unseen; 16],
+        }
+    }
 }
