@@ -1,9 +1,9 @@
 -- Where a worker can perform an event in a world, the scheduler that shows it has what the step under the
 -- event's lock needs.
-use Rattle.std.proofs.Common.{◌≡◌, ◌≢◌, ℕ, ◌+◌, ◌%◌, ◌<◌, ◌≤◌, Bool, true, false, ◌==◌, ◌||◌, List, [], ◌∷◌, length, Option, Some, None, IfSome, if◌then◌else◌, refl, sym, ◌∙◌, ap, subst, arith, mod-lt}
+use Rattle.std.proofs.Common.{◌≡◌, ◌≢◌, ℕ, ◌+◌, ◌%◌, ◌<◌, ◌≤◌, Bool, true, false, ◌==◌, ◌||◌, List, [], ◌∷◌, length, slice_get, Option, Some, None, IfSome, if◌then◌else◌, refl, sym, ◌∙◌, ap, subst, arith, mod-lt}
 use Rattle.std.specs.List.{AllByRecursion, list_any}
 use Rattle.std.specs.Option.{option_map}
-use Rattle.std.proofs.lemmas.Bool.{cond-false, cond-true, eq-eqb, eqb-true, true≢false}
+use Rattle.std.proofs.lemmas.Bool.{cond-false, cond-true, eq-eqb, eqb-true, ltb-true, true≢false}
 use Rattle.std.proofs.lemmas.Option.{none-some}
 use Rattle.ule_score.specs.Changes.{IsBy}
 use Rattle.ule_score.specs.declared.place.Place.{Place}
@@ -12,10 +12,10 @@ use Rattle.ule_score.specs.declared.record.ThreadRecord.{ThreadRecord}
 use Rattle.ule_sleep.specs.Chain.{standing_in}
 use Rattle.ule_threads.specs.declared.standing.Standing.{Standing}
 use Rattle.ule_types.specs.declared.event.Event.{Event}
-use Rattle.ule_types.specs.declared.event.Event.TheVariants.{Bed, Hatch, Land}
+use Rattle.ule_types.specs.declared.event.Event.TheVariants.{Tick, Switch, Drop, Bed, Wake, Look, Land, Move, Lend, Unlend, Renice, Hatch, Fork, Return, Exit, Bury, Inherit}
 use Rattle.ule_model.specs.Conditions.{IsByIfReached, IsHandled, IsPossible}
 use Rattle.ule_model.specs.CpuValue.{thread_in, thread_on}
-use Rattle.ule_model.specs.Events.{handling, is_reached, locks_of}
+use Rattle.ule_model.specs.Events.{handling, is_reached, lock_of_thread, locking, locks_of}
 use Rattle.ule_model.specs.Frames.{thread_in_hand, thread_under}
 use Rattle.ule_model.specs.LockConditions.{CanStepAt, IsTime}
 use Rattle.ule_model.specs.LockValue.{LockValue, chain, limbo, nothing, queue}
@@ -23,14 +23,14 @@ use Rattle.ule_model.specs.Places.{hand_of, is_hand_of, is_number, is_under, loc
 use Rattle.ule_model.specs.WellMade.{IsWellMade}
 use Rattle.ule_sleep.specs.Limbo.{HasUnborn}
 use Rattle.ule_model.specs.World.{Member, World, thread_of}
-use Rattle.ule_model.specs.WorldValue.{Shows, StandsUnder, WorldValue, held_by, if_thread, standing_of}
+use Rattle.ule_model.specs.WorldValue.{CanStep, Shows, StandsUnder, WorldValue, held_by, if_thread, lock_for, lock_with, standing_of}
 use Rattle.ule_members.proofs.Membership.{all_has, has_within}
 use Rattle.ule_members.proofs.PlaceFinds.{thread_at_is, thread_at_stands, thread_at_within, within_thread_at}
 use Rattle.ule_members.proofs.Within.{Within, within_thread}
 use Rattle.ule_laws.proofs.ChainSteps.{place_from_hand_of}
 use Rattle.ule_laws.proofs.SeekLaws.{on_is_under}
-use Rattle.ule_laws.proofs.StepLaws.{IsAtEvent, slot_of, unborn_stands}
-use Rattle.ule_laws.proofs.WorldLaws.{HasValue, if_some}
+use Rattle.ule_laws.proofs.StepLaws.{IsAtEvent, IsSought, few_queues, slot_of, sought_stands, unborn_stands}
+use Rattle.ule_laws.proofs.WorldLaws.{HasValue, if_some, value_at}
 
 -- ---- reach
 
@@ -108,3 +108,62 @@ can_step_at v w worker e now l (limbo c) at locks is = record {
         let m = unborn_stands w t (subst (λ (x : Event). IsHandled w worker (handling x)) same at.possible.hand).1 in
         (m.0.thread, slot_of w l t m.0 c.slots is.under at.shows.made m.1 (ap (is_under l) m.2 ∙ ap (λ (i : ℕ). is_number i (Some 24)) is.number) ∙ ap (λ (p : Place). Some (record { thread = m.0.thread; place = p })) m.2)
 can_step_at v w worker e now l nothing at locks is = tt
+
+-- ---- the lock of an event
+
+-- the one lock of an event that a worker can perform
+pub record IsLockOf (w : World) (e : Event) (l : ℕ) : Type 0 where
+  pub within : l < 25
+  pub locks : locks_of w e ≡ l ∷ []
+
+-- a fixed lock
+fixed_lock : (w : World) (e : Event) (k l : ℕ) → Some k ≡ Some l → k < 25 → locks_of w e ≡ k ∷ [] → IsLockOf w e l
+fixed_lock w e k l same within locks = record { within = subst (λ (i : ℕ). i < 25) (equal k l same) within; locks = locks ∙ ap (λ (i : ℕ). i ∷ []) (equal k l same) }
+  where
+    equal : (k l : ℕ) → Some k ≡ Some l → k ≡ l
+    equal k l e = cc
+
+-- the lock of a sought thread
+sought_lock : (v : WorldValue) (w : World) (e : Event) (t l : ℕ) → IsSought v w t → lock_with t v.values ≡ Some l → locks_of w e ≡ lock_of_thread w.members t → IsLockOf w e l
+sought_lock v w e t l s lock locks = fixed_lock w e s.lock l (sym s.lock_is ∙ lock) s.within (locks ∙ s.locks)
+
+-- the lock that a scheduler finds for an event is the event's one lock
+pub lock_is_events : (v : WorldValue) (w : World) (worker : ℕ) (e : Event) (now l : ℕ) → IsAtEvent v w worker e now → lock_for v.values (locking e) ≡ Some l → IsLockOf w e l
+lock_is_events v w worker (Tick c) now l at lock = fixed_lock w (Tick c) c l lock (few_queues w c at.shows.cpus (ltb-true c (length w.lines) at.possible.cpus)) refl
+lock_is_events v w worker (Switch c why) now l at lock = fixed_lock w (Switch c why) c l lock (few_queues w c at.shows.cpus (ltb-true c (length w.lines) at.possible.cpus)) refl
+lock_is_events v w worker (Drop c channel) now l at lock = fixed_lock w (Drop c channel) c l lock (few_queues w c at.shows.cpus (ltb-true c (length w.lines) at.possible.cpus)) refl
+lock_is_events v w worker (Bed t channel) now l at lock =
+    fixed_lock w (Bed t channel) (16 + channel % 8) l lock (let small : channel % 8 < 8 = mod-lt channel (omega arith) in omega arith) refl
+lock_is_events v w worker (Wake t) now l at lock = sought_lock v w (Wake t) t l (sought_stands v w worker t at.shows at.possible.declared at.possible.ready at.possible.hand) lock refl
+lock_is_events v w worker (Look c) now l at lock = fixed_lock w (Look c) c l lock (few_queues w c at.shows.cpus (ltb-true c (length w.lines) at.possible.cpus)) refl
+lock_is_events v w worker (Land t c) now l at lock = fixed_lock w (Land t c) c l lock (few_queues w c at.shows.cpus (ltb-true c (length w.lines) at.possible.cpus)) refl
+lock_is_events v w worker (Move a b why) now l at lock = absurd (none-some l lock)
+lock_is_events v w worker (Lend t p) now l at lock = sought_lock v w (Lend t p) t l (sought_stands v w worker t at.shows at.possible.declared at.possible.ready at.possible.hand) lock refl
+lock_is_events v w worker (Unlend t) now l at lock = sought_lock v w (Unlend t) t l (sought_stands v w worker t at.shows at.possible.declared at.possible.ready at.possible.hand) lock refl
+lock_is_events v w worker (Renice t n) now l at lock = sought_lock v w (Renice t n) t l (sought_stands v w worker t at.shows at.possible.declared at.possible.ready at.possible.hand) lock refl
+lock_is_events v w worker (Hatch t) now l at lock = fixed_lock w (Hatch t) 24 l lock (omega arith) refl
+lock_is_events v w worker (Fork c t) now l at lock = fixed_lock w (Fork c t) c l lock (few_queues w c at.shows.cpus (ltb-true c (length w.lines) at.possible.cpus)) refl
+lock_is_events v w worker (Return t) now l at lock = fixed_lock w (Return t) 24 l lock (omega arith) refl
+lock_is_events v w worker (Exit c) now l at lock = fixed_lock w (Exit c) c l lock (few_queues w c at.shows.cpus (ltb-true c (length w.lines) at.possible.cpus)) refl
+lock_is_events v w worker (Bury t) now l at lock = fixed_lock w (Bury t) 24 l lock (omega arith) refl
+lock_is_events v w worker (Inherit t run) now l at lock = sought_lock v w (Inherit t run) t l (sought_stands v w worker t at.shows at.possible.declared at.possible.ready at.possible.hand) lock refl
+
+-- what a scheduler has where it finds a lock for an event
+pub record CanStepUnder (v : WorldValue) (worker : ℕ) (e : Event) (now l : ℕ) : Type 0 where
+  pub within : l < length v.values
+  pub worker_is : worker < length v.hands
+  pub value : LockValue
+  pub found : slice_get v.values l ≡ Some value
+  pub can : CanStepAt value (held_by v worker) e now
+
+pub can_step_under : (v : WorldValue) (worker : ℕ) (e : Event) (now l : ℕ) → CanStep v worker e now → lock_for v.values (locking e) ≡ Some l → CanStepUnder v worker e now l
+can_step_under v worker e now l can lock =
+    let at : IsAtEvent v can.0 worker e now = record { shows = can.1; possible = can.2 } in
+    let is : IsLockOf can.0 e l = lock_is_events v can.0 worker e now l at lock in
+    let has : HasValue v can.0 l = value_at v can.0 l can.1 is.within in record {
+      within = subst (λ (i : ℕ). l < i) (sym can.1.locks) is.within;
+      worker_is = subst (λ (i : ℕ). worker < i) (sym can.1.workers) can.2.worker_is;
+      value = has.value;
+      found = has.found;
+      can = can_step_at v can.0 worker e now l has.value at is.locks has.stands;
+    }

@@ -635,7 +635,7 @@ wake_at v w worker t now s at shows empty (Hand h) place = wake_stays v w worker
 -- ---- the step
 
 -- the queue locks are few
-few_queues : (w : World) (c : ℕ) → length w.lines ≤ 16 → c < length w.lines → c < 25
+pub few_queues : (w : World) (c : ℕ) → length w.lines ≤ 16 → c < length w.lines → c < 25
 few_queues w c few below = omega arith
 
 -- the step of an event of CPU c

@@ -1,1 +1,4 @@
+pub mod Hands
 pub mod Locks
+pub mod Worlds
+pub mod Readiness

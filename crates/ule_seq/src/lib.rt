@@ -2,5 +2,8 @@
 //! a setup in rounds.
 #![tactic(auto)]
 
+pub use world::{Ready, World};
+
 pub mod hand;
 pub mod lock;
+pub mod world;
