@@ -21,4 +21,5 @@ pub mod CpuSteps
 pub mod StepLaws
 pub mod TellLaws
 pub mod StepConditions
+pub mod WorldSteps
 pub mod CpuStarts

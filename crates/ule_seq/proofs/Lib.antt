@@ -1,0 +1,3 @@
+pub mod HandLaws
+pub mod FirstLock
+pub mod WorldLaws

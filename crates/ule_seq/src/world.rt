@@ -101,9 +101,15 @@ impl World {
     fn lock_with(&self, t: ThreadId) -> Option<usize>
         ensures { result ≡ lock_with t self.now.values }
     {
-        self.values.iter().position(|guarded| guarded.has(t))
+        for (lock, guarded) in self.values.iter().enumerate() {
+            if guarded.has(t) {
+                return Some(lock);
+            }
+        }
+        None
     }
 
+    #[tactic(auto, using(crate::proofs::HandLaws::held_here, crate::proofs::HandLaws::held_past))]
     /// The worker that has a thread in hand, if one has.
     fn holder_of(&self, t: ThreadId) -> Option<u8>
         ensures { result ≡ holder_in self.now t }

@@ -1,0 +1,7 @@
+-- No hand so far has the thread.
+use Rattle.std.proofs.Common.{◌≡◌, drop}
+use Rattle.ule_model.specs.WorldValue.{holder_among}
+use Rattle.ule_seq.proofs.world.World.holder_of.Given as goal
+
+abbrev pub invariant-loop-worker : goal.invariant-loop-worker
+invariant-loop-worker l = holder_among 0 l.self.hands l.t ≡ holder_among l.worker (drop l.worker l.self.hands) l.t

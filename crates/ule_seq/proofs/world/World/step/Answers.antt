@@ -1,0 +1,60 @@
+-- The step of the scheduler is made of what was read under the event's lock and in the worker's hand.
+use Rattle.std.proofs.Common.{◌≡◌, ℕ, ◌≤◌, Option, Some, None, refl, sym, ◌∙◌, ap, subst}
+use Rattle.ule_model.specs.WorldValue.{IsShown, Steps, WorldValue, value_step}
+use Rattle.ule_types.specs.declared.event.Reply.{Reply}
+use Rattle.ule_types.specs.declared.event.Reply.TheVariants.{Nothing}
+use Rattle.ule_laws.proofs.WorldSteps.{none_is_step, value_step_shown, value_step_steps}
+use Rattle.ule_seq.specs.Worlds.{value_of}
+use Rattle.ule_seq.proofs.WorldLaws.{IsWritten, ReadsFields, reads_can, written, written_is_step}
+use Rattle.ule_seq.proofs.world.World.step.Goals as goal
+
+pub returns-in_default-clause-steps : goal.returns-in_default-clause-steps
+returns-in_default-clause-steps c =
+    value_step_steps c.args.self.now c.args.worker c.args.e.now c.args.now (c.args.self.now, Nothing) (none_is_step c.args.self.now c.args.worker c.args.e.now c.args.now (sym c.in_default.ensures))
+
+pub step_at-requires-clause-step : goal.step_at-requires-clause-step
+step_at-requires-clause-step c =
+    reads_can c.self.inside c.args.self.now c.args.worker c.args.e.now c.args.now c.in-Some.lock c.index_mut-guarded.result.now c.from.result c.index_mut-hand.result.now (record {
+      view = c.self.view_is;
+      can = c.requires;
+      lock = sym c.in-Some.ensures;
+      value = c.index_mut-guarded.ensures.value;
+      from = c.from.ensures;
+      hand = c.index_mut-hand.ensures.value;
+    })
+
+-- what the fields are now is the step
+is_step : (c : goal.After-self-2-1) → (value_of (written c.self.inside c.in-Some.lock c.step_at.new.guarded c.from.result c.step_at.new.hand), c.step_at.result) ≡ value_step c.args.self.now c.args.worker c.args.e.now c.args.now
+is_step c =
+    written_is_step c.self.inside c.args.self.now c.args.worker c.args.e.now c.args.now c.in-Some.lock c.index_mut-guarded.result.now c.from.result c.index_mut-hand.result.now c.step_at.new.guarded c.step_at.new.hand c.step_at.result (record {
+      view = c.self.view_is;
+      can = c.requires;
+      lock = sym c.in-Some.ensures;
+      value = c.index_mut-guarded.ensures.value;
+      from = c.from.ensures;
+      hand = c.index_mut-hand.ensures.value;
+    }) (record { hand_is = c.step_at.ensures.hand; value_is = c.step_at.ensures.value; reply_is = c.step_at.ensures.reply })
+
+pub invariant_of-self : goal.invariant_of-self
+invariant_of-self c = record {
+  settings = c.self.invariant.settings;
+  workers = c.self.invariant.workers;
+  shown = value_step_shown c.args.self.now c.args.worker c.args.e.now c.args.now
+    (value_of (written c.self.inside c.in-Some.lock c.step_at.new.guarded c.from.result c.step_at.new.hand), c.step_at.result) (is_step c) c.requires;
+}
+
+pub returns-clause-value : goal.returns-clause-value
+returns-clause-value c = ap (λ (x : WorldValue × Reply). x.0) (is_step c)
+
+pub returns-clause-reply : goal.returns-clause-reply
+returns-clause-reply c = ap (λ (x : WorldValue × Reply). x.1) (is_step c)
+
+pub returns-clause-steps : goal.returns-clause-steps
+returns-clause-steps c =
+    value_step_steps c.args.self.now c.args.worker c.args.e.now c.args.now
+    (value_of (written c.self.inside c.in-Some.lock c.step_at.new.guarded c.from.result c.step_at.new.hand), c.step_at.result) (is_step c)
+
+pub returns-clause-shown : goal.returns-clause-shown
+returns-clause-shown c =
+    value_step_shown c.args.self.now c.args.worker c.args.e.now c.args.now
+    (value_of (written c.self.inside c.in-Some.lock c.step_at.new.guarded c.from.result c.step_at.new.hand), c.step_at.result) (is_step c) c.requires
