@@ -295,6 +295,9 @@ pub const FIRST_CHAIN_LOCK: u8 = 16;
 /// The lock of unborn and gone threads.
 pub const LIMBO_LOCK: u8 = 24;
 
+/// How many locks there are.
+pub const LOCKS: u8 = 25;
+
 /// The lock that a place lies under; none for a hand.
 pub fn lock_of(place: Place) -> Option<LockId>
     ensures { result ≡ lock_of place }
