@@ -22,3 +22,4 @@ pub mod StepLaws
 pub mod TellLaws
 pub mod StepConditions
 pub mod CpuStarts
+pub mod StartLaws
