@@ -3,8 +3,7 @@ use Rattle.std.proofs.Common.{◌≡◌, ◌≢◌, ℕ, zero, suc, ◌+◌, ◌
 use Rattle.std.specs.List.{AllByRecursion}
 use Rattle.std.specs.Option.{option_map}
 use Rattle.std.proofs.lemmas.Bool.{and_right, and_left, cases_eq, eq-eqb, ne_eqb}
-use Rattle.std.proofs.lemmas.List.{get_or-replicate, get_or-set_other, get_or-set_same, length-replicate, length-set}
-use Rattle.std.proofs.Math.Seq.{take-length}
+use Rattle.std.proofs.lemmas.List.{get_or-replicate, get_or-set_other, get_or-set_same, length-replicate, length-set, take_all}
 use Rattle.std.proofs.lemmas.List.Sums.{fold_more}
 use Rattle.std.proofs.lemmas.Option.{get_or_from_slice_get, none-some, same_Some, slice_get_within}
 use Rattle.ule_score.specs.Changes.{HasNumbers}
@@ -221,14 +220,17 @@ empty_line s c within =
     (cases_eq c 0)
 
 -- a CPU as it starts stands under its lock before any thread is laid
-pub queue_before : (s : Setup) (c : ℕ) (v : CpuValue) → c < s.cpus → StartsAs v c s.settings (starting_word s) → IsQueueOf (laid_first s 0) c v
-queue_before s c v within starts = record {
+pub queue_before : (s : Setup) (c : ℕ) (v : CpuValue) (word : ℕ) → c < s.cpus → word ≡ starting_word s → StartsAs v c s.settings word → IsQueueOf (laid_first s 0) c v
+queue_before s c v word within is begins = record {
   cpu = starts.cpu;
   there = let long = length-set (replicate s.cpus fresh_line) 0 (first_line s.jitter) in let as_long = length-replicate s.cpus fresh_line in omega arith;
   stands =
       start_stands v (side_of c (empty_world s)) c (starting_word s) starts refl (empty_line s c within)
       (λ zero. sym (ap (λ (d : Bool). if d then first_balance_word s.jitter else starting_word s) (eq-eqb c 0 (sym starts.cpu ∙ zero))));
 }
+  where
+    starts : StartsAs v c s.settings (starting_word s)
+    starts = subst (StartsAs v c s.settings) is begins
 
 -- what holds of each element holds of one that is found
 all_got : {X : Type 0} (P : X → Type 0) (xs : List X) (k : ℕ) (x : X) → AllByRecursion P xs → slice_get xs k ≡ Some x → P x
@@ -266,16 +268,28 @@ pub queue_kept : (s : Setup) (k c : ℕ) (spec : ThreadSpec) (v : CpuValue) → 
 queue_kept s k c spec v form at other is =
     subst (λ (w : World). IsQueueOf w c v) (sym (laid_next s k spec at)) (laid_elsewhere (laid_first s k) spec c (queue v) (next_is_new s k spec form at) other is)
 
+-- whether it is the next declared thread's CPU or another, its value stands with the thread laid
+pub queue_laid : (s : Setup) (k c : ℕ) (spec : ThreadSpec) (v new : CpuValue) → IsOfForm s → slice_get s.threads k ≡ Some spec →
+    (c ≡ spec.cpu → new ≡ value_laid (record_of s.settings spec) v) → (c ≢ spec.cpu → new ≡ v) → IsQueueOf (laid_first s k) c v → IsQueueOf (laid_first s (k + 1)) c new
+queue_laid s k c spec v new form at own elsewhere is =
+    ⊎_elim
+    (λ (same : c ≡ spec.cpu).
+    subst (λ (u : CpuValue). IsQueueOf (laid_first s (k + 1)) c u) (sym (own same))
+    (subst (λ (d : ℕ). IsQueueOf (laid_first s (k + 1)) d (value_laid (record_of s.settings spec) v)) (sym same)
+    (queue_next s k spec v form at (subst (λ (d : ℕ). IsQueueOf (laid_first s k) d v) same is))))
+    (λ (other : c ≡ spec.cpu → ⊥). subst (λ (u : CpuValue). IsQueueOf (laid_first s (k + 1)) c u) (sym (elsewhere other)) (queue_kept s k c spec v form at other is))
+    (cases_eq c spec.cpu)
+
 -- what stands under another lock than limbo's stands there with these unborn threads
 all_unborn_elsewhere : (w : World) (us : List ℕ) (l : ℕ) (value : LockValue) → l ≢ 24 → StandsUnder w l value → StandsUnder (fold with_unborn w us) l value
 all_unborn_elsewhere w [] l value other is = is
 all_unborn_elsewhere w (u ∷ us) l value other is = all_unborn_elsewhere (with_unborn w u) us l value other (unborn_elsewhere w u l value other is)
 
 -- a CPU with all its declared threads laid stands under its lock at the start
-pub queue_at_start : (s : Setup) (c : ℕ) (v : CpuValue) → c < 16 → IsQueueOf (laid_first s (length s.threads)) c v → IsQueueOf (world_at_start s) c v
-queue_at_start s c v small is =
-    all_unborn_elsewhere (fold laid (empty_world s) s.threads) s.unborn c (queue v) (λ (same : c ≡ 24). omega (arith, same, small))
-    (subst (λ (specs : List ThreadSpec). IsQueueOf (fold laid (empty_world s) specs) c v) (take-length s.threads) is)
+pub queue_at_start : (s : Setup) (c : ℕ) (v : CpuValue) (k : ℕ) → c < s.cpus → length s.threads ≤ k → IsQueueOf (laid_first s k) c v → IsQueueOf (world_at_start s) c v
+queue_at_start s c v k within all is =
+    all_unborn_elsewhere (fold laid (empty_world s) s.threads) s.unborn c (queue v) (λ (same : c ≡ 24). omega (arith, same, within, (setup_scripts s).cpus))
+    (subst (λ (specs : List ThreadSpec). IsQueueOf (fold laid (empty_world s) specs) c v) (take_all k s.threads all) is)
 
 -- ---- the other locks
 
@@ -339,8 +353,8 @@ limbo_next s k t v form at is =
         ap (with_unborn (unborn_first s k)) (get_or_from_slice_get s.unborn k t t at)
 
 -- limbo with all unborn threads put there stands under its lock at the start
-pub limbo_at_start : (s : Setup) (v : LimboValue) → IsLimboOf (unborn_first s (length s.unborn)) 24 v → IsLimboOf (world_at_start s) 24 v
-limbo_at_start s v is = subst (λ (us : List ℕ). IsLimboOf (fold with_unborn (fold laid (empty_world s) s.threads) us) 24 v) (take-length s.unborn) is
+pub limbo_at_start : (s : Setup) (v : LimboValue) (k : ℕ) → length s.unborn ≤ k → IsLimboOf (unborn_first s k) 24 v → IsLimboOf (world_at_start s) 24 v
+limbo_at_start s v k all is = subst (λ (us : List ℕ). IsLimboOf (fold with_unborn (fold laid (empty_world s) s.threads) us) 24 v) (take_all k s.unborn all) is
 
 -- ---- the whole scheduler
 

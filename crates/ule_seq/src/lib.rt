@@ -4,3 +4,5 @@
 
 pub mod hand;
 pub mod lock;
+pub mod opening;
+pub mod records;
