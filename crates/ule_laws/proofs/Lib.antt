@@ -23,3 +23,4 @@ pub mod TellLaws
 pub mod StepConditions
 pub mod WorldSteps
 pub mod CpuStarts
+pub mod StartLaws

@@ -17,3 +17,5 @@ pub mod Rest
 pub mod Steps
 pub mod Untouched
 pub mod Numbered
+pub mod Setups
+pub mod Starts

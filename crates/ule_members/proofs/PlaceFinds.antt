@@ -1,5 +1,5 @@
 -- What a look-up of a thread by its number and its place finds, before and after one thread is changed.
-use Rattle.std.proofs.Common.{◌≡◌, ◌≢◌, ℕ, ◌==◌, Bool, true, false, ◌&&◌, List, Option, Some, None, if◌then◌else◌, ◌∙◌, ap, subst}
+use Rattle.std.proofs.Common.{◌≡◌, ◌≢◌, ℕ, Bool, true, false, ◌&&◌, List, Option, Some, None, if◌then◌else◌, ◌∙◌, ap, subst}
 use Rattle.std.specs.List.{AllByRecursion, find}
 use Rattle.std.proofs.lemmas.Bool.{eqb-true, eq-eqb, and_left, and_parts}
 use Rattle.ule_score.specs.declared.place.Place.{Place}

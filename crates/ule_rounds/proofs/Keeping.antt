@@ -39,9 +39,9 @@ use Rattle.ule_rounds.proofs.Histories.{HoldsThroughout-push, HoldsThroughout-st
 use Rattle.ule_rounds.proofs.LegalLaws.{IsLegalSoFar, each_after_set, legal_advanced, legal_opening, legal_performed}
 use Rattle.ule_rounds.proofs.Plays.{all_left, all_time, hands_at_start, opening_count, opening_is, opening_left, opening_order, sum_set, time_at_start}
 use Rattle.ule_rounds.proofs.RoundsLaws.{turn_cases}
-use Rattle.ule_rounds.proofs.Setups.{setup_end, setup_scripts, setup_slice}
+use Rattle.ule_members.proofs.Setups.{setup_end, setup_scripts, setup_slice}
 use Rattle.ule_rounds.proofs.Stages.{FitsHand, IsSoundReply, NamesWhatIs, at_advance, at_event, item_fits, item_names}
-use Rattle.ule_rounds.proofs.Starts.{AreFree, IsFreshRecord, IsLaid, start_laid}
+use Rattle.ule_members.proofs.Starts.{AreFree, IsFreshRecord, IsLaid, IsPlaceAtStart, start_free, start_laid}
 
 -- ---- what a play keeps
 
@@ -101,7 +101,7 @@ under_way_opening s form = record {
   by_now = all_along (λ (m : Member). IsFreshRecord s.cpus m.thread) (λ m. IsBy starting_time m.thread) (world_at_start s).members (λ m fresh. fresh.by_now) start.records;
   bound = all_along (λ (m : Member). IsFreshRecord s.cpus m.thread) (λ m. IfSome m.thread.bound (λ c. c < s.cpus)) (world_at_start s).members (λ m fresh. fresh.bound) start.records;
   hands = λ h t.
-      free_hands h t (world_at_start s).members start.free ∙
+      free_hands h t (world_at_start s).members (start_free s form) ∙
       sym (ap (is_number t) (hands_at_start s.jitter s.cpus 0 (take s.cpus s.scripts) h));
   begun = omega arith;
   time = omega (arith, time_at_start s.jitter s.cpus 0 (take s.cpus s.scripts), setup_end s);
@@ -111,7 +111,7 @@ under_way_opening s form = record {
   all_made = HoldsThroughout-start IsWellMadeWorld (world_at_start s) start.made;
 }
   where
-    start : IsLaid s.cpus s.settings (ids_in s) (world_at_start s)
+    start : IsLaid (IsPlaceAtStart s.cpus) s.cpus s.settings (ids_in s) (world_at_start s)
     start = start_laid s form
 
     bounds : KeepsRecords (world_at_start s)

@@ -5,8 +5,6 @@ pub mod Hands
 pub mod Histories
 pub mod LegalLaws
 pub mod RoundsLaws
-pub mod Setups
-pub mod Starts
 pub mod Plays
 pub mod Keeping
 pub mod Finishing

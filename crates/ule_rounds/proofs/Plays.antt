@@ -14,7 +14,7 @@ use Rattle.ule_model.specs.Program.{Course, course_of, own_of}
 use Rattle.ule_model.specs.Rounds.{greatest_rounds, opening_courses}
 use Rattle.ule_rounds.proofs.Courses.{HasOrder, greatest_in, left_of, time_of}
 use Rattle.ule_rounds.proofs.Hands.{hand_at}
-use Rattle.ule_rounds.proofs.Setups.{HasScripts, all_from_list_all, all_take, setup_scripts}
+use Rattle.ule_members.proofs.Setups.{HasScripts, all_from_list_all, all_take, setup_scripts}
 
 -- ---- a number of all workers
 

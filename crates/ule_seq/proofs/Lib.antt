@@ -1,3 +1,4 @@
 pub mod HandLaws
 pub mod FirstLock
 pub mod WorldLaws
+pub mod StartingLaws

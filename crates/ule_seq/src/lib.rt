@@ -6,4 +6,7 @@ pub use world::{Ready, World};
 
 pub mod hand;
 pub mod lock;
+pub mod opening;
+pub mod records;
+pub mod start;
 pub mod world;
