@@ -6,13 +6,16 @@ use Rattle.std.proofs.lemmas.List.Elements.{filter_map-append}
 use Rattle.ule_score.specs.declared.record.CpuLine.{CpuLine}
 use Rattle.ule_types.specs.Outcome.{OutcomeValue, placed, with_cpu}
 use Rattle.ule_types.specs.declared.outcome.ThreadLine.{ThreadLine}
-use Rattle.ule_model.specs.LockValue.{LockValue, chain, limbo, nothing, queue}
+use Rattle.ule_model.specs.CpuValue.{first_found}
+use Rattle.ule_model.specs.LockValue.{LockValue, chain, limbo, line_under, nothing, queue}
 use Rattle.ule_model.specs.World.{World, fresh_line}
-use Rattle.ule_model.specs.WorldValue.{IsShown, Shows, StandsUnder, WorldValue, value_lines}
+use Rattle.ule_model.specs.WorldValue.{IsShown, Shows, StandsUnder, WorldValue, line_among, value_lines}
 use Rattle.ule_laws.proofs.TellLaws.{lines_shown}
 use Rattle.ule_members.proofs.Within.{all-append, all_along}
 use Rattle.ule_rounds.proofs.RoundsLaws.{range_push}
 use Rattle.ule_seq.specs.Locks.{lock_value}
+use Rattle.ule_seq.specs.Worlds.{value_of}
+use Rattle.ule_seq.specs.declared.world.World.TheInside.{Inside}
 use Rattle.ule_seq.specs.declared.lock.Guarded.{Guarded}
 use Rattle.ule_seq.specs.Outcomes.{HasFinals, queue_line, queue_lines}
 
@@ -120,6 +123,10 @@ cpu_lines_shown v w shows =
     queue_lines_from w 0 v.values shows.cpus (omega (arith, shows.cpus, shows.locks))
     (λ k. subst (λ (i : ℕ). IfSome (slice_get v.values k) (StandsUnder w i)) (let e : k ≡ 0 + k = omega arith in e) (shows.under k))
 
+-- a scheduler's values are those of the locks in its fields
+pub values_shown : (w : Inside) (v : WorldValue) (items : List Guarded) → value_of w ≡ v → items ≡ w.values.items → v.values ≡ map lock_value items
+values_shown w v items is same = ap (λ (u : WorldValue). u.values) (sym is) ∙ ap (map lock_value) (sym same)
+
 -- the value of the next lock is the first of those from it on
 pub value_next : (values : List LockValue) (items : List Guarded) (i : ℕ) (x : Guarded) →
     values ≡ map lock_value items → i < length items → x ≡ get_or items i x → drop i values ≡ lock_value x ∷ drop (i + 1) values
@@ -127,6 +134,14 @@ value_next values items i x shown below at =
     ap (drop i) shown ∙ drop-map lock_value i items ∙ ap (map lock_value) (drop_more items i x below) ∙
     ap (λ (g : Guarded). lock_value g ∷ map lock_value (drop (i + 1) items)) (sym at) ∙
     ap (λ (vs : List LockValue). lock_value x ∷ vs) (sym (ap (drop (i + 1)) shown ∙ drop-map lock_value (i + 1) items))
+
+-- the line of a thread from the next lock on is that under it, or else that behind it
+pub line_next : (values : List LockValue) (items : List Guarded) (i : ℕ) (x : Guarded) (t : ℕ) (o : Option ThreadLine) →
+    values ≡ map lock_value items → i < length items → x ≡ get_or items i x → line_under (lock_value x) t ≡ o →
+    line_among (drop i values) t ≡ first_found o (line_among (drop (i + 1) values) t)
+line_next values items i x t o shown below at told =
+    ap (λ (vs : List LockValue). line_among vs t) (value_next values items i x shown below at) ∙
+    ap (λ (p : Option ThreadLine). first_found p (line_among (drop (i + 1) values) t)) told
 
 -- the value of the next lock is the last of those up to it
 pub value_last : (values : List LockValue) (items : List Guarded) (i : ℕ) (x : Guarded) →
@@ -151,7 +166,7 @@ queue_lines_room v i x rest l (w, shows) from is = omega (arith, counts, shows.c
     counts : length (queue_lines (take i v.values)) + suc (length (queue_lines rest)) ≡ length w.lines
     counts = sym (length-append (queue_lines (take i v.values)) (l ∷ queue_lines rest)) ∙ ap length splits
 
--- the line behind all of them is the next CPU's
+-- a line set as that of the next CPU comes behind all others
 pub with_next_cpu : (c : ℕ) (l : CpuLine) (lines : List CpuLine) → c ≡ length lines → with_cpu c l lines ≡ lines ++ l ∷ []
 with_next_cpu c l lines is =
     ap (λ (ls : List CpuLine). ls ++ l ∷ drop (c + 1) lines) (take_all c lines (omega (arith, is))) ∙
