@@ -2,3 +2,4 @@ pub mod HandLaws
 pub mod FirstLock
 pub mod WorldLaws
 pub mod StartingLaws
+pub mod FinalLaws

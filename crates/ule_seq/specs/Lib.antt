@@ -3,3 +3,4 @@ pub mod Locks
 pub mod Worlds
 pub mod Readiness
 pub mod Starting
+pub mod Outcomes

@@ -4,6 +4,7 @@
 
 pub use world::{Ready, World};
 
+pub mod finals;
 pub mod hand;
 pub mod lock;
 pub mod opening;
