@@ -12,7 +12,7 @@ invariant_of-result c =
     let workers = shows.workers in
     let counted = c.in_ok-hands.hands.ok.0 in
     record {
-      settings = subst IsTrue (sym (setup_rules c.args.s.now).settings) tt;
+      settings = subst IsTrue (sym (setup_rules c.args.s.now).settings) refl;
       workers = omega (arith, few, workers, counted);
       shown = (world_at_start c.args.s.now, shows);
     }
