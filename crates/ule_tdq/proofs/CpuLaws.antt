@@ -4,12 +4,12 @@ use Rattle.ule_types.specs.Rules.{are_settings}
 use Rattle.ule_runq.specs.Runq.{times}
 use Rattle.ule_runq.proofs.RunqLaws.{times_empty}
 use Rattle.ule_model.specs.CpuValue.{CpuValue, thread_in}
-use Rattle.ule_tdq.specs.Queues.{once}
+use Rattle.ule_tdq.specs.Queues.{once_for}
 use Rattle.ule_tdq.specs.Cpu.{KeepsCpu, once_if, times_current, times_on}
 use Rattle.std.proofs.lemmas.Bool.{cases_eq, cases_lt}
 use Rattle.std.proofs.lemmas.List.{get_or_past, set_past}
 use Rattle.std.proofs.lemmas.List.Sums.{get_or-le-sum_by, sum_by-cons, sum_by-set}
-use Rattle.ule_tdq.proofs.QueuesLaws.{once_other, once_same}
+use Rattle.ule_tdq.proofs.QueuesLaws.{once_for_other, once_for_same}
 use Rattle.ule_score.specs.declared.record.CpuLine.{CpuLine}
 use Rattle.ule_score.specs.declared.record.ThreadRecord.{ThreadRecord}
 
@@ -62,7 +62,7 @@ once_if-le (Some r) = omega arith
 -- the current thread of a CPU has a slot and a record
 pub current-within : (v : CpuValue) (t : ℕ) → KeepsCpu v → v.current ≡ Some t → (t < length v.threads) × (once_if (thread_in v t) ≡ 1)
 current-within v t kept current =
-    let here : times_current v.current t ≡ 1 = ap (λ (o : Option ℕ). times_current o t) current ∙ once_same t in
+    let here : times_current v.current t ≡ 1 = ap (λ (o : Option ℕ). times_current o t) current ∙ once_for_same t in
     let place = kept.places t in
     let most : once_if (thread_in v t) ≤ 1 = once_if-le (thread_in v t) in (
       ⊎_elim
@@ -106,12 +106,12 @@ current_gone v t kept current u =
     let gone : once_if (slice_index_or (slice_set v.threads t None) u None) ≡ 0 =
     ap (λ (k : ℕ). once_if (slice_index_or (slice_set v.threads t None) k None)) same ∙ ap once_if (get_or-set_same v.threads t None None there.0) in
     let one : once_if (thread_in v u) ≡ 1 = ap (λ (k : ℕ). once_if (thread_in v k)) same ∙ there.1 in
-    let here : times_current v.current u ≡ 1 = ap (λ (o : Option ℕ). times_current o u) current ∙ ap (once t) same ∙ once_same t in
+    let here : times_current v.current u ≡ 1 = ap (λ (o : Option ℕ). times_current o u) current ∙ ap (once_for t) same ∙ once_for_same t in
     omega arith)
     (λ (other : u ≢ t).
     let kept_on : once_if (slice_index_or (slice_set v.threads t None) u None) ≡ once_if (thread_in v u) =
     ap once_if (get_or-set_other v.threads t u None None other) in
-    let nowhere : times_current v.current u ≡ 0 = ap (λ (o : Option ℕ). times_current o u) current ∙ once_other t u other in
+    let nowhere : times_current v.current u ≡ 0 = ap (λ (o : Option ℕ). times_current o u) current ∙ once_for_other t u other in
     omega arith)
     (cases_eq u t)
 
