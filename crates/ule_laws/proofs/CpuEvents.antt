@@ -206,7 +206,7 @@ taken_stands worker now change m v s sound stands made found = (
 -- what a drop replies, by what left the CPU
 abbrev pub dropped_reply : Option Taken → Reply
 dropped_reply None = Nothing
-dropped_reply (Some taken) = Dropped taken.thread.id taken.into
+dropped_reply (Some left) = Dropped left.thread.id left.into
 
 -- the record of a thread that leaves to sleep, if one leaves
 abbrev pub record_dropped : Settings → ℕ → Option Member → Option ThreadRecord

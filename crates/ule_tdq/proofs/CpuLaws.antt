@@ -1,15 +1,19 @@
 -- What a CPU keeps where one of its records is kept anew or leaves.
-use Rattle.std.proofs.Common.{◌≡◌, ◌≢◌, ℕ, ◌<◌, ◌≤◌, Option, Some, None, IfSome, List, length, length-set, slice_index_or, slice_set, sum_by, suc, ◌∷◌, refl, ap, ⊎_elim, get_or-set_same, get_or-set_other, sym, ◌∙◌, ◌+◌, ◌-◌, [], arith, replicate, IsTrue}
-use Rattle.ule_types.specs.Rules.{are_settings}
+use Rattle.std.proofs.Common.{◌≡◌, ◌≢◌, ℕ, ◌<◌, ◌≤◌, subst, Option, Some, None, IfSome, List, length, length-set, slice_index_or, slice_set, sum_by, suc, ◌∷◌, refl, ap, ⊎_elim, get_or-set_same, get_or-set_other, sym, ◌∙◌, ◌+◌, ◌-◌, [], arith, replicate, IsTrue}
+use Rattle.ule_score.specs.Settings.{are_settings}
 use Rattle.ule_runq.specs.Runq.{times}
 use Rattle.ule_runq.proofs.RunqLaws.{times_empty}
-use Rattle.ule_model.specs.CpuValue.{CpuValue, thread_in}
-use Rattle.ule_tdq.specs.Queues.{once}
-use Rattle.ule_tdq.specs.Cpu.{KeepsCpu, once_if, times_current, times_on}
+use Rattle.std.specs.Prelude.{option_and_then}
+use Rattle.ule_model.specs.CpuValue.{CpuValue, current_in, thread_in}
+use Rattle.ule_tdq.specs.Queues.{once_for}
+use Rattle.ule_tdq.specs.Cpu.{IsRecordOf, KeepsCpu, once_if, times_current, times_on}
+use Rattle.ule_score.specs.Bounds.{KeepsBounds}
+use Rattle.ule_score.specs.declared.record.Settings.{Settings}
+use Rattle.std.proofs.lemmas.Option.{none-some}
 use Rattle.std.proofs.lemmas.Bool.{cases_eq, cases_lt}
 use Rattle.std.proofs.lemmas.List.{get_or_past, set_past}
 use Rattle.std.proofs.lemmas.List.Sums.{get_or-le-sum_by, sum_by-cons, sum_by-set}
-use Rattle.ule_tdq.proofs.QueuesLaws.{once_other, once_same}
+use Rattle.ule_tdq.proofs.QueuesLaws.{once_for_other, once_for_same}
 use Rattle.ule_score.specs.declared.record.CpuLine.{CpuLine}
 use Rattle.ule_score.specs.declared.record.ThreadRecord.{ThreadRecord}
 
@@ -62,7 +66,7 @@ once_if-le (Some r) = omega arith
 -- the current thread of a CPU has a slot and a record
 pub current-within : (v : CpuValue) (t : ℕ) → KeepsCpu v → v.current ≡ Some t → (t < length v.threads) × (once_if (thread_in v t) ≡ 1)
 current-within v t kept current =
-    let here : times_current v.current t ≡ 1 = ap (λ (o : Option ℕ). times_current o t) current ∙ once_same t in
+    let here : times_current v.current t ≡ 1 = ap (λ (o : Option ℕ). times_current o t) current ∙ once_for_same t in
     let place = kept.places t in
     let most : once_if (thread_in v t) ≤ 1 = once_if-le (thread_in v t) in (
       ⊎_elim
@@ -106,12 +110,12 @@ current_gone v t kept current u =
     let gone : once_if (slice_index_or (slice_set v.threads t None) u None) ≡ 0 =
     ap (λ (k : ℕ). once_if (slice_index_or (slice_set v.threads t None) k None)) same ∙ ap once_if (get_or-set_same v.threads t None None there.0) in
     let one : once_if (thread_in v u) ≡ 1 = ap (λ (k : ℕ). once_if (thread_in v k)) same ∙ there.1 in
-    let here : times_current v.current u ≡ 1 = ap (λ (o : Option ℕ). times_current o u) current ∙ ap (once t) same ∙ once_same t in
+    let here : times_current v.current u ≡ 1 = ap (λ (o : Option ℕ). times_current o u) current ∙ ap (once_for t) same ∙ once_for_same t in
     omega arith)
     (λ (other : u ≢ t).
     let kept_on : once_if (slice_index_or (slice_set v.threads t None) u None) ≡ once_if (thread_in v u) =
     ap once_if (get_or-set_other v.threads t u None None other) in
-    let nowhere : times_current v.current u ≡ 0 = ap (λ (o : Option ℕ). times_current o u) current ∙ once_other t u other in
+    let nowhere : times_current v.current u ≡ 0 = ap (λ (o : Option ℕ). times_current o u) current ∙ once_for_other t u other in
     omega arith)
     (cases_eq u t)
 
@@ -133,3 +137,74 @@ KeepsCpu-let_go v t line kept current =
           (λ (other : u ≢ t). rw (get_or-set_other v.threads t u None None other) (kept.records u))
           (cases_eq u t);
     }
+
+-- ---- a record kept anew
+
+-- a CPU after a record of it was kept anew, of which each thread stands in as many places as before
+pub record IsKeptAnew (v n : CpuValue) (t : ℕ) (old r : ThreadRecord) : Type 0 where
+  pub there : thread_in v t ≡ Some old
+  pub number : r.id ≡ old.id
+  pub bounds : KeepsBounds r
+  pub settings : n.settings ≡ v.settings
+  pub threads : n.threads ≡ slice_set v.threads t (Some r)
+  pub load : n.load ≡ v.load
+  pub places : (u : ℕ) → times_on n u ≡ times_on v u
+
+-- a slot that has a record is one of the slots
+slot-within : (threads : List (Option ThreadRecord)) (t : ℕ) (old : ThreadRecord) → slice_index_or threads t None ≡ Some old → t < length threads
+slot-within threads t old there =
+    ⊎_elim
+    (λ (within : t < length threads). within)
+    (λ (past : length threads ≤ t). absurd (none-some old (sym (get_or_past threads t None past) ∙ there)))
+    (cases_lt t (length threads))
+
+-- a CPU keeps what every CPU keeps after a record of it was kept anew
+pub KeepsCpu-anew : (v n : CpuValue) (t : ℕ) (old r : ThreadRecord) → KeepsCpu v → IsKeptAnew v n t old r → KeepsCpu n
+KeepsCpu-anew v n t old r kept anew = record {
+  settings = subst (λ (s : Settings). IsTrue (are_settings s)) (sym anew.settings) kept.settings;
+  slots = ap (λ (xs : List (Option ThreadRecord)). length xs) anew.threads ∙ length-set v.threads t (Some r) ∙ kept.slots;
+  places = λ u. anew.places u ∙ kept.places u ∙ sym (counted u);
+  load =
+      (let more = sum_by-set once_if v.threads t (Some r) None within in
+      let here : once_if (slice_index_or v.threads t None) ≡ 1 = ap once_if anew.there in
+      let sums : sum_by once_if n.threads ≡ sum_by once_if (slice_set v.threads t (Some r)) = ap (λ (xs : List (Option ThreadRecord)). sum_by once_if xs) anew.threads in
+      let load = kept.load in let same = anew.load in
+      omega arith);
+  records = λ u. ⊎_elim (own u) (other u) (cases_eq u t);
+}
+  where
+    within : t < length v.threads
+    within = slot-within v.threads t old anew.there
+
+    slot_same : thread_in n t ≡ Some r
+    slot_same = ap (λ (xs : List (Option ThreadRecord)). slice_index_or xs t None) anew.threads ∙ get_or-set_same v.threads t (Some r) None within
+
+    slot_other : (u : ℕ) → u ≢ t → thread_in n u ≡ thread_in v u
+    slot_other u apart = ap (λ (xs : List (Option ThreadRecord)). slice_index_or xs u None) anew.threads ∙ get_or-set_other v.threads t u (Some r) None apart
+
+    counted : (u : ℕ) → once_if (thread_in n u) ≡ once_if (thread_in v u)
+    counted u =
+        ⊎_elim
+        (λ (same : u ≡ t). ap (λ (k : ℕ). once_if (thread_in n k)) same ∙ ap once_if slot_same ∙ sym (ap (λ (k : ℕ). once_if (thread_in v k)) same ∙ ap once_if anew.there))
+        (λ (apart : u ≢ t). ap once_if (slot_other u apart))
+        (cases_eq u t)
+
+    number : r.id ≡ t
+    number = anew.number ∙ (subst (λ (o : Option ThreadRecord). IfSome o (IsRecordOf t)) anew.there (kept.records t)).number
+
+    own : (u : ℕ) → u ≡ t → IfSome (thread_in n u) (IsRecordOf u)
+    own u same =
+        subst (λ (k : ℕ). IfSome (thread_in n k) (IsRecordOf k)) (sym same)
+        (subst (λ (o : Option ThreadRecord). IfSome o (IsRecordOf t)) (sym slot_same) (record { number = number; bounds = anew.bounds }))
+
+    other : (u : ℕ) → u ≢ t → IfSome (thread_in n u) (IsRecordOf u)
+    other u apart = subst (λ (o : Option ThreadRecord). IfSome o (IsRecordOf u)) (sym (slot_other u apart)) (kept.records u)
+
+-- the record of the current thread is under its number
+pub current_in-number : (v : CpuValue) (r : ThreadRecord) → KeepsCpu v → current_in v ≡ Some r → thread_in v r.id ≡ Some r
+current_in-number v r kept found = split v.current found
+  where
+    split : (o : Option ℕ) → option_and_then (thread_in v) o ≡ Some r → thread_in v r.id ≡ Some r
+    split None none = absurd (none-some r none)
+    split (Some t) there =
+        ap (thread_in v) (subst (λ (p : Option ThreadRecord). IfSome p (IsRecordOf t)) there (kept.records t)).number ∙ there

@@ -2,7 +2,7 @@
 use Rattle.std.specs.Prelude.{◌≡◌, ℕ, ◌+◌, Option, Some, None, IfSome, IsTrue, length, sum_by}
 use Rattle.ule_model.specs.CpuValue.{CpuValue, thread_in}
 use Rattle.ule_runq.specs.Runq.{times}
-use Rattle.ule_tdq.specs.Queues.{once}
+use Rattle.ule_tdq.specs.Queues.{once_for}
 use Rattle.ule_score.specs.Bounds.{KeepsBounds}
 use Rattle.ule_score.specs.declared.record.ThreadRecord.{ThreadRecord}
 use Rattle.ule_score.specs.Settings.{are_settings}
@@ -10,7 +10,7 @@ use Rattle.ule_score.specs.Settings.{are_settings}
 -- once for the current thread, and not at all for another
 abbrev pub times_current : Option ℕ → ℕ → ℕ
 times_current None u = 0
-times_current (Some t) u = once t u
+times_current (Some t) u = once_for t u
 
 -- in how many of its places a CPU has thread t
 abbrev pub times_on : CpuValue → ℕ → ℕ

@@ -17,8 +17,8 @@ pub record QueuesValue : Type 0 where
   pub idle : List (List ℕ)
 
 -- once for this thread, and not at all for another
-abbrev pub once : ℕ → ℕ → ℕ
-once t u = if u == t then 1 else 0
+abbrev pub once_for : ℕ → ℕ → ℕ
+once_for t u = if u == t then 1 else 0
 
 -- how often a thread is queued
 abbrev pub times_queued : QueuesValue → ℕ → ℕ

@@ -3,7 +3,7 @@ ghost use Rattle.ule_prio.specs.Kind.{kind_at};
 ghost use Rattle.ule_prio.specs.declared.kind.Kind.TheVariants.{Batch};
 ghost use Rattle.ule_runq.specs.Runq.{times};
 ghost use Rattle.ule_model.specs.CpuValue.{with_inserted};
-ghost use Rattle.ule_tdq.specs.Queues.{once, times_queued, times_in, dial_with, dial_bucket, queues_with, bucket_with, queues_without, first_queued};
+ghost use Rattle.ule_tdq.specs.Queues.{once_for, times_queued, times_in, dial_with, dial_bucket, queues_with, bucket_with, queues_without, first_queued};
 
 use std::alloc::Global;
 use std::marker::Model;
@@ -50,7 +50,7 @@ impl Queues {
         requires { times_queued self.old t ≡ 0 }
         ensures bucket { result ≡ bucket_with how p self.old }
         ensures filed { self.new ≡ queues_with how p t self.old }
-        ensures times { (u : ℕ) → times_queued self.new u ≡ times_queued self.old u + once t u }
+        ensures times { (u : ℕ) → times_queued self.new u ≡ times_queued self.old u + once_for t u }
     {
         match kind_of(p) {
             Kind::Real => insert_plain(&mut self.real, how, p, t),
@@ -63,7 +63,7 @@ impl Queues {
     pub fn remove(&mut self, kind: Kind, t: ThreadId)
         requires { times_in kind self.old t ≡ 1 }
         ensures rest { self.new ≡ queues_without kind t self.old }
-        ensures times { (u : ℕ) → times_queued self.new u + once t u ≡ times_queued self.old u }
+        ensures times { (u : ℕ) → times_queued self.new u + once_for t u ≡ times_queued self.old u }
     {
         match kind {
             Kind::Real => {
@@ -101,7 +101,7 @@ fn insert_plain(queue: &mut Runq, how: Insertion, p: Priority, t: ThreadId) -> u
     requires { times queue.old t ≡ 0 }
     ensures bucket { result ≡ p / 4 }
     ensures filed { queue.new ≡ with_inserted how queue.old (p / 4) t }
-    ensures times { (u : ℕ) → times queue.new u ≡ times queue.old u + once t u }
+    ensures times { (u : ℕ) → times queue.new u ≡ times queue.old u + once_for t u }
 {
     let bucket = p.0 / 4;
     match how {
@@ -118,7 +118,7 @@ fn insert_batch(calendar: &mut Calendar, how: Insertion, p: Priority, t: ThreadI
     requires absent { times calendar.old.lists t ≡ 0 }
     ensures bucket { result ≡ dial_bucket how calendar.old p }
     ensures filed { calendar.new ≡ dial_with how calendar.old p t }
-    ensures times { (u : ℕ) → times calendar.new.lists u ≡ times calendar.old.lists u + once t u }
+    ensures times { (u : ℕ) → times calendar.new.lists u ≡ times calendar.old.lists u + once_for t u }
 {
     match how {
         Insertion::Ordinary => calendar.insert(t, p),

@@ -3,6 +3,7 @@ ghost use Rattle.ule_score.specs.Settings.{are_settings};
 ghost use Rattle.std.specs.Option.{option_map};
 ghost use Rattle.ule_score.specs.Bounds.{KeepsBounds};
 ghost use Rattle.ule_model.specs.CpuValue.{IsNoEarlier, chosen_next, current_in, takes_over_in, thread_in, value_added, value_clocked, value_laid, value_line, value_place, value_switched, value_taken, value_ticked, value_ticked_with, with_given_way, without_current, without_marks};
+ghost use Rattle.ule_model.specs.Places.{lock_of};
 ghost use Rattle.ule_model.specs.Switch.{started_reply};
 ghost use Rattle.ule_model.specs.CpuStart.{StartsAs};
 ghost use Rattle.ule_model.specs.Insertion.{bucket_of};
@@ -320,7 +321,8 @@ impl Tdq {
 
     /// A thread's place, with its position in its bucket.
     fn placed(&self, t: ThreadId) -> Option<(Place, u8)>
-        ensures { result ≡ value_place self.now t }
+        ensures place { result ≡ value_place self.now t }
+        ensures lock { IfSome result (λ at. lock_of at.0 ≡ Some self.now.cpu) }
     {
         if self.current == Some(t) {
             return Some((Place::Running(self.cpu), 0));

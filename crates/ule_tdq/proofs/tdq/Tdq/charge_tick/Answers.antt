@@ -1,0 +1,33 @@
+use Rattle.std.proofs.Common.{◌≡◌, Some, refl, subst, sym}
+use Rattle.ule_model.specs.CpuValue.{CpuValue, current_in}
+use Rattle.ule_tdq.specs.TdqFields.{value_of}
+use Rattle.ule_tdq.proofs.CpuLaws.{KeepsCpu-anew, current_in-number}
+use Rattle.ule_tdq.proofs.tdq.Tdq.charge_tick.Goals as goal
+
+pub invariant_of-self : goal.invariant_of-self
+invariant_of-self c =
+    let current = subst (λ (v : CpuValue). current_in v ≡ Some c.args.r) (sym c.self.view_is) c.requires.current in
+    KeepsCpu-anew (value_of c.self.inside) _ c.args.r.id c.args.r c.after_tick-ended.result.0 c.self.invariant
+    (record {
+      there = current_in-number (value_of c.self.inside) c.args.r c.self.invariant current;
+      number = c.after_tick-ended.ensures.number;
+      bounds = c.after_tick-ended.ensures.kept;
+      settings = refl;
+      threads = c.put.ensures;
+      load = refl;
+      places = λ u. refl;
+    })
+
+pub returns-clause-kept : goal.returns-clause-kept
+returns-clause-kept c =
+    let current = subst (λ (v : CpuValue). current_in v ≡ Some c.args.r) (sym c.self.view_is) c.requires.current in
+    KeepsCpu-anew (value_of c.self.inside) _ c.args.r.id c.args.r c.after_tick-ended.result.0 c.self.invariant
+    (record {
+      there = current_in-number (value_of c.self.inside) c.args.r c.self.invariant current;
+      number = c.after_tick-ended.ensures.number;
+      bounds = c.after_tick-ended.ensures.kept;
+      settings = refl;
+      threads = c.put.ensures;
+      load = refl;
+      places = λ u. refl;
+    })
