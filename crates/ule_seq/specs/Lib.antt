@@ -2,3 +2,4 @@ pub mod Hands
 pub mod Locks
 pub mod Worlds
 pub mod Readiness
+pub mod Programs

@@ -2,8 +2,12 @@
 //! a setup in rounds.
 #![tactic(auto)]
 
+pub use program::Program;
+pub use records::{STARTING_TIME, record_of};
 pub use world::{Ready, World};
 
 pub mod hand;
 pub mod lock;
+pub mod program;
+pub mod records;
 pub mod world;
