@@ -3,3 +3,5 @@ pub mod Locks
 pub mod Worlds
 pub mod Readiness
 pub mod Programs
+pub mod Playing
+pub mod Outcomes

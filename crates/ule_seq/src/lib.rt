@@ -4,10 +4,13 @@
 
 pub use program::Program;
 pub use records::{STARTING_TIME, record_of};
+pub use rounds::{GREATEST_ROUNDS, play};
 pub use world::{Ready, World};
 
 pub mod hand;
 pub mod lock;
 pub mod program;
 pub mod records;
+pub mod rounds;
+pub mod stubs;
 pub mod world;
