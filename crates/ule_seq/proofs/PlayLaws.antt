@@ -262,9 +262,12 @@ turn_possible s v p worker e ahead at ready =
 -- a player that finds an event ready can perform it
 pub can_attempt : (s : Setup) (v : PlayerValue) (p : Play) (worker : ℕ) (e : Event) (ahead : Course) → IsAtTurn s v p worker (item.Event e) ahead →
     ready_in v.world worker e ≡ Yes → CanStep v.world worker e v.now
-can_attempt s v p worker e ahead at found =
-    (p.world, at.play.world, turn_possible s v p worker e ahead at
-    (yes_is_own worker (option_and_then (holder_of p.world.members) (sought_by e)) (sym (ready_shown v.world p.world worker e at.play.world) ∙ found)))
+can_attempt s v p worker e ahead at found = (
+  p.world,
+  at.play.world,
+  turn_possible s v p worker e ahead at
+      (yes_is_own worker (option_and_then (holder_of p.world.members) (sought_by e)) (sym (ready_shown v.world p.world worker e at.play.world) ∙ found)),
+)
 
 -- a player has room for the entry of an event
 pub has_room : (s : Setup) (v : PlayerValue) (p : Play) (worker : ℕ) (e : Event) (ahead : Course) → IsAtTurn s v p worker (item.Event e) ahead → 0 < v.outcome.room
@@ -307,8 +310,14 @@ turn_performed s v new p worker e ahead at ready done =
       courses = courses;
       now = at.play.now ∙ sym done.now;
       entries = entries;
-      room = omega (arith, at.play.room, has_room s v p worker e ahead at, ap (λ (o : OutcomeValue). length o.entries) done.outcome,
-          ap (λ (o : OutcomeValue). o.room) done.outcome, length_push v.outcome.entries (record { worker = worker; event = e; now = v.now; reply = done.reply }));
+      room = omega (
+        arith,
+        at.play.room,
+        has_room s v p worker e ahead at,
+        ap (λ (o : OutcomeValue). length o.entries) done.outcome,
+        ap (λ (o : OutcomeValue). o.room) done.outcome,
+        length_push v.outcome.entries (record { worker = worker; event = e; now = v.now; reply = done.reply }),
+      );
       bare = record {
         threads = ap (λ (o : OutcomeValue). o.threads) done.outcome ∙ at.play.bare.threads;
         cpus = ap (λ (o : OutcomeValue). o.cpus) done.outcome ∙ at.play.bare.cpus;

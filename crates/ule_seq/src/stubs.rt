@@ -22,6 +22,5 @@ impl World {
     pub fn finals(&self, _now: u64, out: &mut Outcome)
         requires { IsBare out.old }
         ensures { HasFinals self.now out.old out.new _now }
-    {
-    }
+    {}
 }

@@ -1,5 +1,5 @@
 -- Each turn of the loop is a turn of the recursion on the commands not begun.
-use Rattle.std.proofs.Common.{◌≡◌, ◌<◌, ◌≤◌, ℕ, [], length, Option, Some, None, slice_index_or, sym, ◌∙◌, subst, arith}
+use Rattle.std.proofs.Common.{◌≡◌, ◌≤◌, ℕ, [], length, Option, Some, None, slice_index_or, sym, ◌∙◌, subst, arith}
 use Rattle.ule_model.specs.Program.{next_of}
 use Rattle.ule_seq.specs.Programs.{own_of_program}
 use Rattle.ule_types.specs.declared.event.Reply.{Reply}
