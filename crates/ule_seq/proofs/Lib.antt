@@ -3,3 +3,4 @@ pub mod FirstLock
 pub mod WorldLaws
 pub mod StartingLaws
 pub mod FinalLaws
+pub mod PlayLaws

@@ -4,3 +4,5 @@ pub mod Worlds
 pub mod Readiness
 pub mod Starting
 pub mod Outcomes
+pub mod Programs
+pub mod Playing
