@@ -2,7 +2,7 @@
 use Rattle.std.proofs.Common.{◌+◌, ◌<◌, length, None, ◌∙◌, ap, arith}
 use Rattle.std.proofs.lemmas.List.{length_push}
 use Rattle.ule_model.specs.Program.{Own}
-use Rattle.ule_rounds.proofs.Setups.{HasScripts, setup_scripts}
+use Rattle.ule_members.proofs.Setups.{HasScripts, setup_scripts}
 use Rattle.ule_seq.specs.Playing.{courses_from}
 use Rattle.ule_seq.specs.declared.rounds.Course.{Course}
 use Rattle.ule_seq.proofs.PlayLaws.{course_more, going_on, script_of}
