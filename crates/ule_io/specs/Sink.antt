@@ -4,12 +4,12 @@ use Rattle.ule_io.specs.Counter.{Rose}
 use Rattle.ule_io.specs.declared.writing.WriteFault.{WriteFault}
 use Rattle.ule_io.specs.declared.writing.WriteFault.TheVariants.{Failed, TookNothing}
 
--- the bytes taken so far, where the sink tells them; how many faults it has met; how often it took nothing of a nonempty piece;
--- and whether no byte was taken since the last flush, or since the start
+-- the bytes taken so far, where the sink tells them; how many faults it has met; how often it took nothing of a nonempty piece
 pub record SinkState : Type 0 where
   pub taken : Option (List ℕ)
   pub faults : ℕ
   pub empty_takes : ℕ
+  -- whether no byte was taken since the last flush that succeeded, or since the start
   pub flushed : Bool
 
 -- a sink after a flush that succeeded
@@ -29,7 +29,7 @@ Appends old new piece = new ≡ with_back old piece
 unfoldable pub AppendsFront : Option (List ℕ) → Option (List ℕ) → List ℕ → Type 0
 AppendsFront old new text = (front : List ℕ) × (rest : List ℕ) × (text ≡ front ++ rest) × Appends old new front
 
--- a write that took the first n bytes of a piece; any byte taken is one that no flush has handed on
+-- a write that took the first n bytes of a piece, which are not flushed yet
 pub record Takes (old new : SinkState) (piece : List ℕ) (n : ℕ) : Type 0 where
   pub within : n ≤ length piece
   pub taken : Appends old.taken new.taken (take n piece)

@@ -47,9 +47,9 @@ pub record ReadAll (old new : SourceState) (limit : ℕ) (result : Result (List 
   pub whole : IfOk result (ReadsWhole old new limit)
   -- one byte more than the limit was taken
   pub too_long : result ≡ Err TooLong → (taken : List ℕ) × Gives old.left new.left taken × (length taken ≡ limit + 1)
-  -- so more than the limit was left, where that is told
+  -- where the source tells, it told of more bytes than the limit
   pub more : (left : List ℕ) → result ≡ Err TooLong → old.left ≡ Some left → limit < length left
-  -- want of memory may come in the place of either
+  -- memory may run out behind any read
   pub memory : result ≡ Err Memory → (taken : List ℕ) × Gives old.left new.left taken × (length taken ≤ limit + 1)
   pub failed : result ≡ Err ReadFault → Rose old.faults new.faults
   -- a fault comes before more than the limit was taken

@@ -47,11 +47,13 @@ lines_name members (t ∷ ts) = split (thread_of t members) (lines_name members 
     split None rest = rest
     split (Some m) rest = (refl, rest)
 
+-- the line of each thread names the lock of its place
 pub words_name : (members : List Member) → AllByRecursion (λ line. line.word ≡ lock_of line.place) (thread_lines members)
 words_name members = lines_name members (range_with_len 0 256)
 
 -- ---- each status
 
+-- the answer where the trace was written
 answers_done : (s0 s1 : SourceState) (k0 k1 : SinkState) (status : ℕ) → status ≡ 0 → HasRun s0 s1 k0 k1 → s1.faults ≡ s0.faults →
     (k1.faults ≡ k0.faults) × (k1.empty_takes ≡ k0.empty_takes) → Answers run_words s0 s1 k0 k1 status
 answers_done s0 s1 k0 k1 status is has read wrote = record {
@@ -68,6 +70,7 @@ answers_done s0 s1 k0 k1 status is has read wrote = record {
   write_kept = λ e. wrote;
 }
 
+-- the answer where the line of the refusal was written
 answers_refused : (s0 s1 : SourceState) (k0 k1 : SinkState) (status : ℕ) → status ≡ 3 → IsRefused s0 s1 k0 k1 → s1.faults ≡ s0.faults →
     (k1.faults ≡ k0.faults) × (k1.empty_takes ≡ k0.empty_takes) → Answers run_words s0 s1 k0 k1 status
 answers_refused s0 s1 k0 k1 status is has read wrote = record {
@@ -84,6 +87,7 @@ answers_refused s0 s1 k0 k1 status is has read wrote = record {
   write_kept = λ e. wrote;
 }
 
+-- the answer where a fault of writing came
 answers_fault : (s0 s1 : SourceState) (k0 k1 : SinkState) (status : ℕ) → status ≡ 4 → TookFront s0 s1 k0 k1 → s1.faults ≡ s0.faults → Answers run_words s0 s1 k0 k1 status
 answers_fault s0 s1 k0 k1 status is has read = record {
   known = omega arith;
@@ -99,6 +103,7 @@ answers_fault s0 s1 k0 k1 status is has read = record {
   write_kept = λ e. absurd (e is);
 }
 
+-- the answer where memory ran out
 answers_no_memory : (s0 s1 : SourceState) (k0 k1 : SinkState) (status : ℕ) → status ≡ 5 → k1 ≡ k0 → s1.faults ≡ s0.faults → Answers run_words s0 s1 k0 k1 status
 answers_no_memory s0 s1 k0 k1 status is same read = record {
   known = omega arith;
