@@ -1,12 +1,10 @@
 -- From what each part comes to, the answer of the whole.
-use Rattle.std.proofs.Common.{◌≡◌, ◌<◌, ℕ, List, [], ◌∷◌, map, length, get_or, Option, Some, None, Ok, Err, ◌⊎◌, inl, inr, ⊎_elim, refl, sym, ◌∙◌, ap, arith}
+use Rattle.std.proofs.Common.{◌≡◌, ◌≤◌, ◌++◌, ℕ, List, [], ◌∷◌, map, length, get_or, Option, Some, None, ⊎_elim, refl, sym, ◌∙◌, ap, arith}
 use Rattle.std.specs.List.{AllByRecursion, cons_option, filter_map, range_with_len}
 use Rattle.std.specs.Option.{option_map}
-use Rattle.ule_io.specs.Counter.{Rose}
-use Rattle.ule_io.specs.Sink.{SinkState, WroteWhole}
-use Rattle.ule_io.specs.Source.{ReadsWhole, SourceState}
-use Rattle.ule_io.specs.declared.writing.WriteFault.{WriteFault}
-use Rattle.ule_io.specs.declared.writing.WriteFault.TheVariants.{Failed, TookNothing}
+use Rattle.std.proofs.lemmas.List.{length-append}
+use Rattle.ule_io.specs.Sink.{SinkState}
+use Rattle.ule_io.specs.Source.{ReadsWhole, SourceState, with_front}
 use Rattle.ule_model.specs.Finals.{thread_line, thread_lines}
 use Rattle.ule_model.specs.Places.{lock_of}
 use Rattle.ule_model.specs.Rounds.{play_of}
@@ -19,7 +17,7 @@ use Rattle.ule_types.specs.Outcome.{OutcomeValue}
 use Rattle.ule_types.specs.declared.event.Entry.{Entry}
 use Rattle.ule_types.specs.declared.outcome.ThreadLine.{ThreadLine}
 use Rattle.ule_types.specs.declared.setup.Setup.{Setup}
-use Rattle.ule_top.specs.Run.{Answers, AnswersInput, AnswersRefusal, HasRun, IsRefused, SpellsNone, TookFront, Wrote, no_memory, outcome_of, refused, refusal_text, run_words, scenario_limit, traced}
+use Rattle.ule_top.specs.Run.{Answers, AnswersInput, AnswersRefusal, HasRun, IsDue, IsRefused, ReadNone, SpellsNone, TookFront, Wrote, no_memory, outcome_of, refusal_due, refused, refusal_text, run_words, scenario_limit, too_long, trace_due, traced, unspelled}
 
 -- ---- the text of an outcome
 
@@ -37,28 +35,6 @@ trace_of s o h =
     ∙ ap (λ (x : List CpuLine). text_of p.entries (thread_lines p.world.members) x o.now) h.lines.cpus
     ∙ ap (λ (x : ℕ). text_of p.entries (thread_lines p.world.members) p.world.lines x) h.lines.end
 
--- ---- writing a text
-
-pub wrote_done : (k0 k1 : SinkState) (text : List ℕ) → WroteWhole k0 k1 text (Ok tt) → Wrote k0 k1 text 0 0
-wrote_done k0 k1 text w = record {
-  known = inl refl;
-  whole = λ e. w.whole;
-  fault = λ e. absurd (omega arith);
-  kept = λ e. (w.else_kept (λ h. cc), w.else_took (λ h. cc));
-}
-
-fault_rose : (k0 k1 : SinkState) (text : List ℕ) (fault : WriteFault) → WroteWhole k0 k1 text (Err fault) → Rose k0.faults k1.faults ⊎ Rose k0.empty_takes k1.empty_takes
-fault_rose k0 k1 text Failed w = inl (w.failed refl)
-fault_rose k0 k1 text TookNothing w = inr (w.took_nothing refl)
-
-pub wrote_front : (k0 k1 : SinkState) (text : List ℕ) (fault : WriteFault) → WroteWhole k0 k1 text (Err fault) → Wrote k0 k1 text 0 4
-wrote_front k0 k1 text fault w = record {
-  known = inr refl;
-  whole = λ e. absurd (omega arith);
-  fault = λ e. (w.front, fault_rose k0 k1 text fault w);
-  kept = λ e. absurd (e refl);
-}
-
 -- ---- the words of threads
 
 -- the lines of some numbers name the locks of their places
@@ -71,11 +47,13 @@ lines_name members (t ∷ ts) = split (thread_of t members) (lines_name members 
     split None rest = rest
     split (Some m) rest = (refl, rest)
 
+-- the line of each thread names the lock of its place
 pub words_name : (members : List Member) → AllByRecursion (λ line. line.word ≡ lock_of line.place) (thread_lines members)
 words_name members = lines_name members (range_with_len 0 256)
 
 -- ---- each status
 
+-- the answer where the trace was written
 answers_done : (s0 s1 : SourceState) (k0 k1 : SinkState) (status : ℕ) → status ≡ 0 → HasRun s0 s1 k0 k1 → s1.faults ≡ s0.faults →
     (k1.faults ≡ k0.faults) × (k1.empty_takes ≡ k0.empty_takes) → Answers run_words s0 s1 k0 k1 status
 answers_done s0 s1 k0 k1 status is has read wrote = record {
@@ -92,6 +70,7 @@ answers_done s0 s1 k0 k1 status is has read wrote = record {
   write_kept = λ e. wrote;
 }
 
+-- the answer where the line of the refusal was written
 answers_refused : (s0 s1 : SourceState) (k0 k1 : SinkState) (status : ℕ) → status ≡ 3 → IsRefused s0 s1 k0 k1 → s1.faults ≡ s0.faults →
     (k1.faults ≡ k0.faults) × (k1.empty_takes ≡ k0.empty_takes) → Answers run_words s0 s1 k0 k1 status
 answers_refused s0 s1 k0 k1 status is has read wrote = record {
@@ -108,7 +87,8 @@ answers_refused s0 s1 k0 k1 status is has read wrote = record {
   write_kept = λ e. wrote;
 }
 
-answers_fault : (s0 s1 : SourceState) (k0 k1 : SinkState) (status : ℕ) → status ≡ 4 → TookFront k0 k1 → s1.faults ≡ s0.faults → Answers run_words s0 s1 k0 k1 status
+-- the answer where a fault of writing came
+answers_fault : (s0 s1 : SourceState) (k0 k1 : SinkState) (status : ℕ) → status ≡ 4 → TookFront s0 s1 k0 k1 → s1.faults ≡ s0.faults → Answers run_words s0 s1 k0 k1 status
 answers_fault s0 s1 k0 k1 status is has read = record {
   known = omega arith;
   done = λ e. absurd (omega arith);
@@ -123,6 +103,7 @@ answers_fault s0 s1 k0 k1 status is has read = record {
   write_kept = λ e. absurd (e is);
 }
 
+-- the answer where memory ran out
 answers_no_memory : (s0 s1 : SourceState) (k0 k1 : SinkState) (status : ℕ) → status ≡ 5 → k1 ≡ k0 → s1.faults ≡ s0.faults → Answers run_words s0 s1 k0 k1 status
 answers_no_memory s0 s1 k0 k1 status is same read = record {
   known = omega arith;
@@ -140,22 +121,35 @@ answers_no_memory s0 s1 k0 k1 status is same read = record {
 
 -- ---- the whole input
 
-took_front : (k0 k1 : SinkState) (text : List ℕ) (good status : ℕ) → Wrote k0 k1 text good status → status ≡ 4 → TookFront k0 k1
-took_front k0 k1 text good status w is = let parts = w.fault is in record { text = text; front = parts.0; cause = parts.1 }
+-- what was taken is no longer than what was told before
+longer_left : (rest : Option (List ℕ)) (left taken : List ℕ) → Some left ≡ with_front taken rest → length taken ≤ length left
+longer_left None left taken is = cc
+longer_left (Some rest) left taken is =
+    let same : left ≡ taken ++ rest = cc in rw (same, length-append taken rest) (omega arith)
 
--- a refusal is the answer where the input spells no setup
-pub answers_refusal : (s0 s1 : SourceState) (k0 k1 : SinkState) (status : ℕ) → SpellsNone s0.left → s1.faults ≡ s0.faults → AnswersRefusal k0 k1 status → Answers run_words s0 s1 k0 k1 status
+-- a fault in the text that is due
+took_front : (s0 s1 : SourceState) (k0 k1 : SinkState) (text : List ℕ) (good status : ℕ) → IsDue s0 s1 text → Wrote k0 k1 text good status → status ≡ 4 → TookFront s0 s1 k0 k1
+took_front s0 s1 k0 k1 text good status due w is =
+    let parts = w.fault is in record { text = text; due = due; front = parts.0; cause = parts.1 }
+
+-- where what was read spells no setup, none is what the source told
+spells_none : (s0 s1 : SourceState) → ReadNone s0 s1 → SpellsNone s0.left
+spells_none s0 s1 (unspelled input reads none) left told s spells = none s (rw (reads.all left told) spells)
+spells_none s0 s1 (too_long taken given count) left told s spells =
+    let limit = spells.limit in
+    let longer = longer_left s1.left left taken (sym told ∙ given) in omega arith
+
+-- a refusal is the answer where what was read spells no setup
+pub answers_refusal : (s0 s1 : SourceState) (k0 k1 : SinkState) (status : ℕ) → ReadNone s0 s1 → s1.faults ≡ s0.faults → AnswersRefusal k0 k1 status → Answers run_words s0 s1 k0 k1 status
 answers_refusal s0 s1 k0 k1 status none faults w =
     ⊎_elim
-    (λ (is : status ≡ 3). answers_refused s0 s1 k0 k1 status is (record { cause = none; written = w.whole is }) faults (w.kept (λ e. omega arith)))
-    (λ (is : status ≡ 4). answers_fault s0 s1 k0 k1 status is (took_front k0 k1 refusal_text 3 status w is) faults)
+    (λ (is : status ≡ 3). answers_refused s0 s1 k0 k1 status is
+    (record { cause = spells_none s0 s1 none; read = none; written = w.whole is; flushed = w.flushed is })
+    faults (w.kept (λ e. omega arith)))
+    (λ (is : status ≡ 4). answers_fault s0 s1 k0 k1 status is (took_front s0 s1 k0 k1 refusal_text 3 status (refusal_due none refl) w is) faults)
     w.known
 
--- an input that is too long spells none
-pub too_long_spells_none : (s0 : SourceState) → ((left : List ℕ) → s0.left ≡ Some left → scenario_limit < length left) → SpellsNone s0.left
-too_long_spells_none s0 more left told s spells = let limit = spells.limit in let longer = more left told in omega arith
-
--- what the whole input comes to is the answer
+-- what the whole input comes to is the answer of the command
 pub answers_input : (s0 s1 : SourceState) (k0 k1 : SinkState) (input : List ℕ) (status : ℕ) → ReadsWhole s0 s1 scenario_limit input → s1.faults ≡ s0.faults →
     AnswersInput input k0 k1 status → Answers run_words s0 s1 k0 k1 status
 answers_input s0 s1 k0 k1 input status reads faults (traced s spells w) =
@@ -167,14 +161,15 @@ answers_input s0 s1 k0 k1 input status reads faults (traced s spells w) =
       read = reads;
       spelled = spells;
       written = w.whole is;
+      flushed = w.flushed is;
       history = history_of_rounds s spells.form;
       words = words_name (play_of s).world.members;
     })
     faults (w.kept (λ e. omega arith)))
-    (λ (is : status ≡ 4). answers_fault s0 s1 k0 k1 status is (took_front k0 k1 (trace_text (outcome_of s)) 0 status w is) faults)
+    (λ (is : status ≡ 4). answers_fault s0 s1 k0 k1 status is (took_front s0 s1 k0 k1 (trace_text (outcome_of s)) 0 status (trace_due input s reads spells refl) w is) faults)
     w.known
 answers_input s0 s1 k0 k1 input status reads faults (refused none w) =
-    answers_refusal s0 s1 k0 k1 status (λ left told s spells. none s (rw (reads.all left told) spells)) faults w
+    answers_refusal s0 s1 k0 k1 status (unspelled input reads none) faults w
 answers_input s0 s1 k0 k1 input status reads faults (no_memory is same) = answers_no_memory s0 s1 k0 k1 status is same faults
 
 -- a list of one item

@@ -25,7 +25,7 @@ four_rounds : rounds 4 (opening lost_turn) ≡ last_play
 unfolding last_play rounds
 four_rounds = refl
 
--- after them nothing is left
+-- after the four rounds nothing is left
 still : round last_play ≡ last_play
 unfolding last_play next_in timeshare_priority priority_at score_of batch_priority use_steps updated_use slid_use ran_ticks
 still = refl
@@ -73,7 +73,7 @@ last_play_ended : outcome_at last_play ≡ ended
 unfolding outcome_at last_play ended next_in timeshare_priority priority_at score_of batch_priority use_steps updated_use slid_use ran_ticks
 last_play_ended = refl
 
--- its text
+-- the text of what the play comes to
 ended_traced : trace_text ended ≡ lost_turn_trace
 unfolding ended
 ended_traced =

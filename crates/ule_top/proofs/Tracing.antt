@@ -17,7 +17,7 @@ play_after : (n : ℕ) (s : Setup) (p : Play) → n ≤ greatest_rounds → roun
 play_after n s p few played still =
     rounds_past_still n greatest_rounds (opening s) few (ap round played ∙ still ∙ sym played) ∙ played
 
--- and its trace is the text of what that comes to
+-- the trace of a setup is the text of what its rounds came to, once a round changes nothing
 pub traced_after : (n : ℕ) (s : Setup) (p : Play) (o : OutcomeValue) (text : List ℕ) → n ≤ greatest_rounds → rounds n (opening s) ≡ p → round p ≡ p →
     outcome_at p ≡ o → trace_text o ≡ text → trace_text (outcome_of s) ≡ text
 unfolding outcome_at

@@ -18,7 +18,7 @@ one_round : rounds 1 (opening one_yield) ≡ last_play
 unfolding last_play rounds
 one_round = refl
 
--- after it nothing is left
+-- after the one round nothing is left
 still : round last_play ≡ last_play
 unfolding last_play next_in timeshare_priority priority_at score_of batch_priority use_steps updated_use slid_use ran_ticks
 still = refl

@@ -71,4 +71,4 @@ returns g c =
     let last = closing_lines o.now (length o.entries) in
     let rest = cpus_end o c.loop-c.c past ∙ sym (append-nil (lines_text last)) in
     let h = spelled (lines_text last) [] (made_room c.loop-c.invariant c.in_ok-make_room-4.ensures.moved) rest in
-    finished (rw (c.spell_closing.ensures, c.end_time.ensures, c.from-2.ensures, c.len.ensures) h) (rw c.as_slice.ensures at c.write_all.ensures)
+    finished (rw (c.spell_closing.ensures, c.end_time.ensures, c.from-2.ensures, c.len.ensures) h) (rw c.as_slice.ensures at c.write_all.ensures.wrote)
