@@ -1,55 +1,64 @@
 -- From what each part comes to, the answer of the whole.
-use Rattle.std.proofs.Common.{◌≡◌, ◌≤◌, ◌++◌, ℕ, List, [], ◌∷◌, map, length, get_or, Option, Some, None, ⊎_elim, refl, sym, ◌∙◌, ap, arith}
+use Rattle.std.proofs.Common.{◌≡◌, ◌≤◌, ◌++◌, ℕ, ◌+◌, ◌%◌, List, [], ◌∷◌, map, length, get_or, Option, Some, None, ⊎_elim, refl, sym, ◌∙◌, ap, subst, arith}
 use Rattle.std.specs.List.{AllByRecursion, cons_option, filter_map, range_with_len}
 use Rattle.std.specs.Option.{option_map}
 use Rattle.std.proofs.lemmas.List.{length-append}
 use Rattle.ule_io.specs.Sink.{SinkState}
 use Rattle.ule_io.specs.Source.{ReadsWhole, SourceState, with_front}
+use Rattle.ule_members.proofs.Membership.{all_has, has_thread_of}
+use Rattle.ule_model.specs.Ends.{outcome_of}
 use Rattle.ule_model.specs.Finals.{thread_line, thread_lines}
-use Rattle.ule_model.specs.Places.{lock_of}
+use Rattle.ule_model.specs.History.{IsHistoryOf}
+use Rattle.ule_model.specs.Places.{hand_of, lock_of}
 use Rattle.ule_model.specs.Rounds.{play_of}
-use Rattle.ule_model.specs.World.{Member, thread_of}
+use Rattle.ule_model.specs.World.{Member, World, thread_of}
 use Rattle.ule_rounds.proofs.HistoryLaws.{history_of_rounds}
-use Rattle.ule_score.specs.declared.record.CpuLine.{CpuLine}
+use Rattle.ule_score.specs.declared.place.Place.{Place}
+use Rattle.ule_score.specs.declared.place.Place.TheVariants.{Running, Queued, Asleep, Unborn, Gone, Hand}
 use Rattle.ule_seq.specs.Outcomes.{IsOutcomeOf}
 use Rattle.ule_trace.specs.Trace.{trace_text}
 use Rattle.ule_types.specs.Outcome.{OutcomeValue}
-use Rattle.ule_types.specs.declared.event.Entry.{Entry}
-use Rattle.ule_types.specs.declared.outcome.ThreadLine.{ThreadLine}
 use Rattle.ule_types.specs.declared.setup.Setup.{Setup}
-use Rattle.ule_top.specs.Run.{Answers, AnswersInput, AnswersRefusal, HasRun, IsDue, IsRefused, ReadNone, SpellsNone, TookFront, Wrote, no_memory, outcome_of, refusal_due, refused, refusal_text, run_words, scenario_limit, too_long, trace_due, traced, unspelled}
+use Rattle.ule_top.specs.Run.{Answers, AnswersInput, AnswersRefusal, HasRun, IsDue, IsRefused, NamesItsLock, ReadNone, SpellsNone, TookFront, Wrote, no_memory, refusal_due, refused, refusal_text, rounds_text, run_words, scenario_limit, too_long, trace_due, traced, unspelled}
 
 -- ---- the text of an outcome
 
--- the trace of these entries and lines
-text_of : List Entry → List ThreadLine → List CpuLine → ℕ → List ℕ
-text_of entries threads cpus now = trace_text (record { entries = entries; threads = threads; cpus = cpus; now = now; room = 0 })
-
--- the trace of an outcome of a setup is the trace of its history of rounds
-pub trace_of : (s : Setup) (o : OutcomeValue) → IsOutcomeOf s o → trace_text o ≡ trace_text (outcome_of s)
-unfolding text_of
-trace_of s o h =
-    let p = play_of s in
-    ap (λ (x : List Entry). text_of x o.threads o.cpus o.now) h.entries
-    ∙ ap (λ (x : List ThreadLine). text_of p.entries x o.cpus o.now) h.lines.threads
-    ∙ ap (λ (x : List CpuLine). text_of p.entries (thread_lines p.world.members) x o.now) h.lines.cpus
-    ∙ ap (λ (x : ℕ). text_of p.entries (thread_lines p.world.members) p.world.lines x) h.lines.end
+-- the trace of the outcome of a setup's play is the trace of its history of rounds
+pub trace_of : (s : Setup) (o : OutcomeValue) → IsOutcomeOf s o → trace_text o ≡ rounds_text s
+trace_of s o is = ap (λ (x : OutcomeValue). trace_text x) is
 
 -- ---- the words of threads
 
--- the lines of some numbers name the locks of their places
-lines_name : (members : List Member) (ts : List ℕ) → AllByRecursion (λ line. line.word ≡ lock_of line.place) (filter_map (λ t. option_map (thread_line members) (thread_of t members)) ts)
-lines_name members [] = tt
-lines_name members (t ∷ ts) = split (thread_of t members) (lines_name members ts)
-  where
-    split : (o : Option Member) → AllByRecursion (λ line. line.word ≡ lock_of line.place) (filter_map (λ u. option_map (thread_line members) (thread_of u members)) ts) →
-        AllByRecursion (λ line. line.word ≡ lock_of line.place) (cons_option (option_map (thread_line members) o) (filter_map (λ u. option_map (thread_line members) (thread_of u members)) ts))
-    split None rest = rest
-    split (Some m) rest = (refl, rest)
+-- a place that is no hand lies under a lock
+lock_there : (place : Place) → hand_of place ≡ None → (l : ℕ) × (lock_of place ≡ Some l)
+lock_there (Running c) free = (c, refl)
+lock_there (Queued c k b) free = (c, refl)
+lock_there (Asleep channel) free = (16 + channel % 8, refl)
+lock_there Unborn free = (24, refl)
+lock_there Gone free = (24, refl)
+lock_there (Hand w) free = cc
 
--- the line of each thread names the lock of its place
-pub words_name : (members : List Member) → AllByRecursion (λ line. line.word ≡ lock_of line.place) (thread_lines members)
-words_name members = lines_name members (range_with_len 0 256)
+-- the line of a thread that is in no hand names the lock of its place
+line_names : (members : List Member) (m : Member) → hand_of m.place ≡ None → NamesItsLock (thread_line members m)
+line_names members m free = let there = lock_there m.place free in (there.0, there.1, there.1)
+
+-- where no thread is in a hand, the lines of some numbers name the locks of their places
+lines_name : (members : List Member) (ts : List ℕ) → AllByRecursion (λ m. hand_of m.place ≡ None) members →
+    AllByRecursion NamesItsLock (filter_map (λ t. option_map (thread_line members) (thread_of t members)) ts)
+lines_name members [] free = tt
+lines_name members (t ∷ ts) free = split (thread_of t members) refl (lines_name members ts free)
+  where
+    split : (o : Option Member) → thread_of t members ≡ o → AllByRecursion NamesItsLock (filter_map (λ u. option_map (thread_line members) (thread_of u members)) ts) →
+        AllByRecursion NamesItsLock (cons_option (option_map (thread_line members) o) (filter_map (λ u. option_map (thread_line members) (thread_of u members)) ts))
+    split None found rest = rest
+    split (Some m) found rest =
+        (line_names members m (all_has (λ n. hand_of n.place ≡ None) m members free (has_thread_of t m members found).0), rest)
+
+-- each thread's word names the lock of its place at the end of a history of rounds
+pub words_name : (s : Setup) → IsHistoryOf s (play_of s) → AllByRecursion NamesItsLock (outcome_of s s.scripts (play_of s).entries).threads
+words_name s history =
+    subst (λ (w : World). AllByRecursion NamesItsLock (thread_lines w.members)) (sym history.world)
+    (lines_name (play_of s).world.members (range_with_len 0 256) history.hands)
 
 -- ---- each status
 
@@ -163,10 +172,10 @@ answers_input s0 s1 k0 k1 input status reads faults (traced s spells w) =
       written = w.whole is;
       flushed = w.flushed is;
       history = history_of_rounds s spells.form;
-      words = words_name (play_of s).world.members;
+      words = words_name s (history_of_rounds s spells.form);
     })
     faults (w.kept (λ e. omega arith)))
-    (λ (is : status ≡ 4). answers_fault s0 s1 k0 k1 status is (took_front s0 s1 k0 k1 (trace_text (outcome_of s)) 0 status (trace_due input s reads spells refl) w is) faults)
+    (λ (is : status ≡ 4). answers_fault s0 s1 k0 k1 status is (took_front s0 s1 k0 k1 (rounds_text s) 0 status (trace_due input s reads spells refl) w is) faults)
     w.known
 answers_input s0 s1 k0 k1 input status reads faults (refused none w) =
     answers_refusal s0 s1 k0 k1 status (unspelled input reads none) faults w

@@ -5,13 +5,13 @@ use Rattle.ule_io.specs.Counter.{Rose}
 use Rattle.ule_io.specs.Sink.{Appends, AppendsFront, SinkState, WroteWhole}
 use Rattle.ule_io.specs.Source.{Gives, ReadsWhole, SourceState}
 use Rattle.ule_io.specs.declared.writing.WriteFault.{WriteFault}
-use Rattle.ule_model.specs.Finals.{thread_lines}
+use Rattle.ule_model.specs.Ends.{outcome_of}
 use Rattle.ule_model.specs.History.{IsHistoryOf}
 use Rattle.ule_model.specs.Places.{lock_of}
 use Rattle.ule_model.specs.Rounds.{play_of}
 use Rattle.ule_scenario.specs.Scenario.{Spells}
 use Rattle.ule_trace.specs.Trace.{trace_text}
-use Rattle.ule_types.specs.Outcome.{OutcomeValue}
+use Rattle.ule_types.specs.declared.outcome.ThreadLine.{ThreadLine}
 use Rattle.ule_types.specs.declared.setup.Setup.{Setup}
 
 -- the most bytes that a scenario may have
@@ -22,15 +22,13 @@ scenario_limit = 1048576
 abbrev pub run_words : List (List ℕ)
 run_words = codes "run" ∷ []
 
--- the history of rounds of a setup with its final lines
-abbrev pub outcome_of : Setup → OutcomeValue
-outcome_of s = record {
-  entries = (play_of s).entries;
-  threads = thread_lines (play_of s).world.members;
-  cpus = (play_of s).world.lines;
-  now = (play_of s).now;
-  room = 0;
-}
+-- the trace of a setup's history of rounds
+abbrev pub rounds_text : Setup → List ℕ
+rounds_text s = trace_text (outcome_of s s.scripts (play_of s).entries)
+
+-- a thread's word names the lock of its place, and there is one
+abbrev pub NamesItsLock : ThreadLine → Type 0
+NamesItsLock line = (l : ℕ) × (line.word ≡ Some l) × (lock_of line.place ≡ Some l)
 
 -- the line of a refusal while the grammar isn't whole
 abbrev pub refusal_text : List ℕ
@@ -43,10 +41,10 @@ pub record HasRun (s0 s1 : SourceState) (k0 k1 : SinkState) : Type 0 where
   pub setup : Setup
   pub read : ReadsWhole s0 s1 scenario_limit input
   pub spelled : Spells input setup
-  pub written : Appends k0.taken k1.taken (trace_text (outcome_of setup))
+  pub written : Appends k0.taken k1.taken (trace_text (outcome_of setup setup.scripts (play_of setup).entries))
   pub flushed : k1.flushed ≡ true
   pub history : IsHistoryOf setup (play_of setup)
-  pub words : AllByRecursion (λ line. line.word ≡ lock_of line.place) (thread_lines (play_of setup).world.members)
+  pub words : AllByRecursion NamesItsLock (outcome_of setup setup.scripts (play_of setup).entries).threads
 
 -- these bytes spell no setup
 abbrev pub IsUnspelled : List ℕ → Type 0
@@ -70,7 +68,7 @@ pub record IsRefused (s0 s1 : SourceState) (k0 k1 : SinkState) : Type 0 where
 
 -- the text that is due: the trace of the setup that the whole input spells, or the line of the refusal where what was read spells none
 pub data IsDue (s0 s1 : SourceState) (text : List ℕ) : Type 0 where
-  trace_due : (input : List ℕ) (s : Setup) → ReadsWhole s0 s1 scenario_limit input → Spells input s → text ≡ trace_text (outcome_of s) → IsDue s0 s1 text
+  trace_due : (input : List ℕ) (s : Setup) → ReadsWhole s0 s1 scenario_limit input → Spells input s → text ≡ rounds_text s → IsDue s0 s1 text
   refusal_due : ReadNone s0 s1 → text ≡ refusal_text → IsDue s0 s1 text
 
 -- a fault of writing: a front of the text that is due was taken, and nothing else
@@ -116,10 +114,10 @@ AnswersRefusal k0 k1 status = Wrote k0 k1 refusal_text 3 status
 
 -- what a setup comes to: its trace was written, or there was no memory
 abbrev pub AnswersSetup : Setup → SinkState → SinkState → ℕ → Type 0
-AnswersSetup s k0 k1 status = Wrote k0 k1 (trace_text (outcome_of s)) 0 status ⊎ ((status ≡ 5) × (k1 ≡ k0))
+AnswersSetup s k0 k1 status = Wrote k0 k1 (rounds_text s) 0 status ⊎ ((status ≡ 5) × (k1 ≡ k0))
 
 -- what an input comes to: it spells a setup whose trace was written, or it spells none and is refused, or there was no memory
 pub data AnswersInput (input : List ℕ) (k0 k1 : SinkState) (status : ℕ) : Type 0 where
-  traced : (s : Setup) → Spells input s → Wrote k0 k1 (trace_text (outcome_of s)) 0 status → AnswersInput input k0 k1 status
+  traced : (s : Setup) → Spells input s → Wrote k0 k1 (rounds_text s) 0 status → AnswersInput input k0 k1 status
   refused : IsUnspelled input → AnswersRefusal k0 k1 status → AnswersInput input k0 k1 status
   no_memory : status ≡ 5 → k1 ≡ k0 → AnswersInput input k0 k1 status
