@@ -24,6 +24,7 @@ use Rattle.ule_top.specs.Example.{LostTurnIsTraced, lost_turn, lost_turn_trace}
 last_play : Play
 last_play = round (round (round (round (opening lost_turn))))
 
+-- the four rounds come to that play
 four_rounds : rounds 4 (opening lost_turn) ≡ last_play
 unfolding last_play rounds
 four_rounds = refl
@@ -76,10 +77,12 @@ ended = record {
   room = 0;
 }
 
+-- that play has those entries, in their order
 last_play_noted : last_play.entries ≡ noted
 unfolding last_play noted next_in timeshare_priority priority_at score_of batch_priority use_steps updated_use slid_use ran_ticks
 last_play_noted = refl
 
+-- the outcome of those entries, step by step from the start
 noted_ended : outcome_of lost_turn lost_turn.scripts noted ≡ ended
 unfolding noted ended replayed timeshare_priority priority_at score_of batch_priority use_steps updated_use slid_use ran_ticks
 noted_ended = refl

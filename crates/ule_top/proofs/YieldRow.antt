@@ -20,6 +20,7 @@ use Rattle.ule_top.specs.Example.{OneYieldIsTraced, one_yield, one_yield_trace}
 last_play : Play
 last_play = round (opening one_yield)
 
+-- the one round comes to that play
 one_round : rounds 1 (opening one_yield) ≡ last_play
 unfolding last_play rounds
 one_round = refl
@@ -33,10 +34,12 @@ still = refl
 noted : List Entry
 noted = record { worker = 0; event = Switch 0 Yield; now = 20000; reply = Switched None (Some 0) false } ∷ []
 
+-- that play has those entries, in their order
 last_play_noted : last_play.entries ≡ noted
 unfolding last_play noted next_in timeshare_priority priority_at score_of batch_priority use_steps updated_use slid_use ran_ticks
 last_play_noted = refl
 
+-- the text of the outcome of those entries, step by step from the start
 noted_traced : trace_text (outcome_of one_yield one_yield.scripts noted) ≡ one_yield_trace
 unfolding noted replayed timeshare_priority priority_at score_of batch_priority use_steps updated_use slid_use ran_ticks
 noted_traced = rw (digits_0, digits_1, digits_64, digits_172, digits_20000) refl
