@@ -1,5 +1,6 @@
 //! The program `ule`: it hands its words, standard input and standard output to the top call, and
-//! ends with the status that this gives. It prints nothing else.
+//! ends with the status that this gives, 0 to 5. Where its words can't be had as text it ends
+//! without that call: with 1 where they are none, and with 5 where there is no memory for them.
 #![tactic(auto)]
 
 use std::alloc::{AllocError, Global};
@@ -15,12 +16,12 @@ const USAGE: u8 = 1;
 /// There was no memory for the words.
 const NO_MEMORY: u8 = 5;
 
-/// The words after the program's name.
+/// The words after the program's name, in their order. The error is want of memory.
 fn words_of(alloc: Global, args: Args) -> Result<Vec<String>, AllocError> {
     args.skip(1).collect(alloc)
 }
 
-/// The status where there are no words.
+/// The exit status where the words can't be had: 5 for want of memory, and else 1.
 fn status_of(fault: &io::Error) -> u8 {
     if fault.kind() == ErrorKind::OutOfMemory {
         NO_MEMORY

@@ -5,7 +5,8 @@ use Rattle.std.proofs.lemmas.List.{take-append-drop, take_at, length-take-le, dr
 use Rattle.ule_io.specs.Source.{Reads}
 
 -- the first n of the bytes left went to the front of the buffer, as many as most, buffer and bytes allow
-reads_front : (left buffer : List ℕ) (most n faults : ℕ) → 0 < most → n ≡ min (min most (length buffer)) (length left) → Reads (record { left = Some left; faults = faults }) (record { left = Some (drop n left); faults = faults }) (take n left ++ drop n buffer) n
+reads_front : (left buffer : List ℕ) (most n faults : ℕ) → 0 < most → n ≡ min (min most (length buffer)) (length left) →
+    Reads (record { left = Some left; faults = faults }) (record { left = Some (drop n left); faults = faults }) (take n left ++ drop n buffer) n
 reads_front left buffer most n faults some is =
     let fits : n ≤ length left = omega arith in
     let front : length (take n left) ≡ n = length-take-le n left fits in
@@ -16,7 +17,8 @@ reads_front left buffer most n faults some is =
       faults = refl;
     }
 
--- the same where the bytes left are what stands behind a place
-pub reads_on : (bytes buffer : List ℕ) (next most n faults : ℕ) → 0 < most → n ≡ min (min most (length buffer)) (length (drop next bytes)) → Reads (record { left = Some (drop next bytes); faults = faults }) (record { left = Some (drop (next + n) bytes); faults = faults }) (take n (drop next bytes) ++ drop n buffer) n
+-- the first n of the bytes behind a place went to the front of the buffer, as many as most, buffer and those bytes allow
+pub reads_on : (bytes buffer : List ℕ) (next most n faults : ℕ) → 0 < most → n ≡ min (min most (length buffer)) (length (drop next bytes)) →
+    Reads (record { left = Some (drop next bytes); faults = faults }) (record { left = Some (drop (next + n) bytes); faults = faults }) (take n (drop next bytes) ++ drop n buffer) n
 reads_on bytes buffer next most n faults some is =
     rw (← drop-drop n next bytes) (reads_front (drop next bytes) buffer most n faults some is)

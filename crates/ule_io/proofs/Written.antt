@@ -1,11 +1,8 @@
 -- How writes compose: what is told goes on telling, and pieces written one after another are one text.
 use Rattle.std.proofs.Common.{◌≡◌, ℕ, ◌+◌, ◌<◌, List, [], ◌++◌, length, get_or, take, Option, Some, None, Result, Ok, Err, refl, sym, ap, ◌∙◌, append_assoc, arith}
-use Rattle.std.specs.List.{flat_map}
 use Rattle.std.proofs.lemmas.List.{append-nil, nil_from_length, take_more, take-append-drop}
-use Rattle.std.proofs.lemmas.List.Concat.{flat_map-append}
-use Rattle.ule_io.specs.Sink.{SinkState, with_back, Appends, AppendsFront, WriteFails, WroteWhole}
+use Rattle.ule_io.specs.Sink.{SinkState, with_back, Appends, AppendsFront, WroteWhole}
 use Rattle.ule_io.specs.declared.writing.WriteFault.{WriteFault}
-use Rattle.ule_io.specs.declared.writing.WriteFault.TheVariants.{Failed}
 
 -- the empty piece changes nothing
 pub with_back-nil : (taken : Option (List ℕ)) → with_back taken [] ≡ taken
@@ -47,20 +44,3 @@ wrote_both old mid new a b result first second = grind (arith, writes)
 -- a fault in a text leaves what was to follow it unwritten
 pub wrote_front : (old new : SinkState) (a b : List ℕ) (fault : WriteFault) → WroteWhole old new a (Err fault) → WroteWhole old new (a ++ b) (Err fault)
 wrote_front old new a b fault first = grind (arith, writes)
-
--- a flush behind a whole text, done or failed
-pub wrote_flushed : (old mid new : SinkState) (text : List ℕ) → WroteWhole old mid text (Ok tt) → new ≡ mid → WroteWhole old new text (Ok tt)
-wrote_flushed old mid new text whole same = grind (arith, writes)
-
-pub flush_failed : (old mid new : SinkState) (text : List ℕ) → WroteWhole old mid text (Ok tt) → WriteFails mid new → WroteWhole old new text (Err Failed)
-flush_failed old mid new text whole failed = grind (arith, writes)
-
--- the texts of a list, one after another: one more of them
-pub wrote_next : {X : Type 0} (f : X → List ℕ) (xs : List X) (i : ℕ) (d : X) (old mid new : SinkState) (result : Result Unit WriteFault) → i < length xs → WroteWhole old mid (flat_map f (take i xs)) (Ok tt) → WroteWhole mid new (f (get_or xs i d)) result → WroteWhole old new (flat_map f (take (i + 1) xs)) result
-wrote_next f xs i d old mid new result lt first second =
-    rw (take_more xs i d lt) (rw flat_map-append (rw append-nil (wrote_both old mid new _ _ result first second)))
-
--- and a fault in one of them
-pub wrote_part : {X : Type 0} (f : X → List ℕ) (xs : List X) (i : ℕ) (old new : SinkState) (fault : WriteFault) → WroteWhole old new (flat_map f (take i xs)) (Err fault) → WroteWhole old new (flat_map f xs) (Err fault)
-wrote_part f xs i old new fault first =
-    rw (← take-append-drop i xs) (rw flat_map-append (wrote_front old new _ _ fault first))

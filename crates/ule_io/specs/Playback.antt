@@ -22,7 +22,7 @@ read_len p room = min (min p.most room) (length p.left)
 abbrev pub read_answer : Playback → ℕ → Result ℕ Failed
 read_answer p room = if is_listed p.calls then Err (record {}) else Ok (read_len p room)
 
--- and leaves
+-- what a read leaves
 abbrev pub after_read : Playback → ℕ → Playback
 after_read p room =
     if is_listed p.calls

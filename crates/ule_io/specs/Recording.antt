@@ -1,21 +1,22 @@
 -- A sink in memory, and what a write and a flush of it do.
-use Rattle.std.specs.Prelude.{ℕ, ◌-◌, List, ◌++◌, length, take, min, Some, Result, Ok, Err, if◌then◌else◌, Bool, ◌&&◌, ◌||◌, nat_eq, nat_lt, nat_le}
+use Rattle.std.specs.Prelude.{ℕ, ◌-◌, List, ◌++◌, length, take, min, Some, Result, Ok, Err, if◌then◌else◌, Bool, true, false, ◌&&◌, ◌||◌, nat_eq, nat_lt, nat_le}
 use Rattle.ule_io.specs.Counter.{one_more}
 use Rattle.ule_io.specs.Calls.{CallRecord, is_listed, after_call, after_fault}
 use Rattle.ule_io.specs.Sink.{SinkState}
 use Rattle.ule_io.specs.declared.Failed.{Failed}
 
--- the bytes taken, for how many there is room, the most that a write takes, the calls and the empty takes
+-- the bytes taken, for how many there is room, the most that a write takes, the calls, the empty takes, and whether all is flushed
 pub record Recording : Type 0 where
   pub taken : List ℕ
   pub room : ℕ
   pub most : ℕ
   pub calls : CallRecord
   pub empty_takes : ℕ
+  pub flushed : Bool
 
 -- it tells all of its bytes
 abbrev pub sink_state : Recording → SinkState
-sink_state r = record { taken = Some r.taken; faults = r.calls.faults; empty_takes = r.empty_takes }
+sink_state r = record { taken = Some r.taken; faults = r.calls.faults; empty_takes = r.empty_takes; flushed = r.flushed }
 
 -- whether a write fails: its number is listed, or a piece that isn't empty finds no room
 abbrev pub write_fails : Recording → List ℕ → Bool
@@ -34,24 +35,25 @@ abbrev pub takes_after : Recording → List ℕ → ℕ
 takes_after r piece =
     if nat_lt 0 (length piece) && nat_eq (write_len r piece) 0 then one_more r.empty_takes else r.empty_takes
 
--- and what a write leaves
+-- what a write leaves
 abbrev pub after_write : Recording → List ℕ → Recording
 after_write r piece =
     if write_fails r piece
-    then record { taken = r.taken; room = r.room; most = r.most; calls = after_fault r.calls; empty_takes = r.empty_takes }
+    then record { taken = r.taken; room = r.room; most = r.most; calls = after_fault r.calls; empty_takes = r.empty_takes; flushed = r.flushed }
     else record {
       taken = r.taken ++ take (write_len r piece) piece;
       room = r.room;
       most = r.most;
       calls = after_call r.calls;
       empty_takes = takes_after r piece;
+      flushed = if nat_lt 0 (write_len r piece) then false else r.flushed;
     }
 
 -- what a flush answers
 abbrev pub flush_answer : Recording → Result Unit Failed
 flush_answer r = if is_listed r.calls then Err (record {}) else Ok tt
 
--- and leaves
+-- what a flush leaves
 abbrev pub after_flush : Recording → Recording
 after_flush r = record {
   taken = r.taken;
@@ -59,4 +61,5 @@ after_flush r = record {
   most = r.most;
   calls = if is_listed r.calls then after_fault r.calls else after_call r.calls;
   empty_takes = r.empty_takes;
+  flushed = if is_listed r.calls then r.flushed else true;
 }

@@ -1,5 +1,5 @@
 -- What a sink tells of itself, and what writing does to it.
-use Rattle.std.specs.Prelude.{◌≡◌, ◌≢◌, ℕ, ◌<◌, ◌≤◌, List, ◌++◌, length, take, Option, Some, None, Result, Err, OnOk, is_some}
+use Rattle.std.specs.Prelude.{◌≡◌, ◌≢◌, ℕ, ◌<◌, ◌≤◌, Bool, true, false, List, ◌++◌, length, take, Option, Some, None, Result, Err, OnOk, is_some}
 use Rattle.ule_io.specs.Counter.{Rose}
 use Rattle.ule_io.specs.declared.writing.WriteFault.{WriteFault}
 use Rattle.ule_io.specs.declared.writing.WriteFault.TheVariants.{Failed, TookNothing}
@@ -9,6 +9,12 @@ pub record SinkState : Type 0 where
   pub taken : Option (List ℕ)
   pub faults : ℕ
   pub empty_takes : ℕ
+  -- whether no byte was taken since the last flush that succeeded, or since the start
+  pub flushed : Bool
+
+-- a sink after a flush that succeeded
+abbrev pub as_flushed : SinkState → SinkState
+as_flushed k = record { taken = k.taken; faults = k.faults; empty_takes = k.empty_takes; flushed = true }
 
 -- what is told after these bytes went to its end
 abbrev pub with_back : Option (List ℕ) → List ℕ → Option (List ℕ)
@@ -23,7 +29,7 @@ Appends old new piece = new ≡ with_back old piece
 unfoldable pub AppendsFront : Option (List ℕ) → Option (List ℕ) → List ℕ → Type 0
 AppendsFront old new text = (front : List ℕ) × (rest : List ℕ) × (text ≡ front ++ rest) × Appends old new front
 
--- a write that took the first n bytes of a piece
+-- a write that took the first n bytes of a piece, which are not flushed yet
 pub record Takes (old new : SinkState) (piece : List ℕ) (n : ℕ) : Type 0 where
   pub within : n ≤ length piece
   pub taken : Appends old.taken new.taken (take n piece)
@@ -31,14 +37,17 @@ pub record Takes (old new : SinkState) (piece : List ℕ) (n : ℕ) : Type 0 whe
   pub took_nothing : n ≡ 0 → 0 < length piece → Rose old.empty_takes new.empty_takes
   pub else_took : 0 < n → new.empty_takes ≡ old.empty_takes
   pub empty_piece : length piece ≡ 0 → new.empty_takes ≡ old.empty_takes
+  pub unflushed : 0 < n → new.flushed ≡ false
+  pub still_flushed : n ≡ 0 → new.flushed ≡ old.flushed
 
--- a write or a flush that failed: the bytes stay
+-- a write or a flush that failed: only the count of faults changes
 pub record WriteFails (old new : SinkState) : Type 0 where
   pub rose : Rose old.faults new.faults
   pub taken : new.taken ≡ old.taken
   pub empty_takes : new.empty_takes ≡ old.empty_takes
+  pub flushed : new.flushed ≡ old.flushed
 
--- writing a whole text, or a front of it
+-- writing a whole text, or a front of it, flushed or not
 pub record WroteWhole (old new : SinkState) (text : List ℕ) (result : Result Unit WriteFault) : Type 0 where
   pub whole : OnOk result (Appends old.taken new.taken text)
   pub front : AppendsFront old.taken new.taken text
@@ -47,3 +56,9 @@ pub record WroteWhole (old new : SinkState) (text : List ℕ) (result : Result U
   pub took_nothing : result ≡ Err TookNothing → Rose old.empty_takes new.empty_takes
   pub else_took : result ≢ Err TookNothing → new.empty_takes ≡ old.empty_takes
   pub told : is_some new.taken ≡ is_some old.taken
+
+-- writing a text without a flush: only a sink that was flushed and took no byte since is flushed after it
+pub record WroteUnflushed (old new : SinkState) (text : List ℕ) (result : Result Unit WriteFault) : Type 0 where
+  pub whole : OnOk result (0 < length text → new.flushed ≡ false)
+  pub empty : length text ≡ 0 → new.flushed ≡ old.flushed
+  pub never_set : new.flushed ≡ true → old.flushed ≡ true

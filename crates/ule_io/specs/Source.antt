@@ -29,10 +29,10 @@ pub record Reads (old new : SourceState) (buffer : List ℕ) (n : ℕ) : Type 0 
   pub end : n ≡ 0 → 0 < length buffer → IsAtEnd new.left
   pub faults : new.faults ≡ old.faults
 
--- a read that failed: nothing is known of the bytes
+-- a read that failed: no byte is taken
 pub record ReadFails (old new : SourceState) : Type 0 where
   pub rose : Rose old.faults new.faults
-  pub told : is_some new.left ≡ is_some old.left
+  pub left : new.left ≡ old.left
 
 -- these bytes were all that was left
 pub record ReadsWhole (old new : SourceState) (limit : ℕ) (bytes : List ℕ) : Type 0 where
@@ -47,10 +47,12 @@ pub record ReadAll (old new : SourceState) (limit : ℕ) (result : Result (List 
   pub whole : IfOk result (ReadsWhole old new limit)
   -- one byte more than the limit was taken
   pub too_long : result ≡ Err TooLong → (taken : List ℕ) × Gives old.left new.left taken × (length taken ≡ limit + 1)
-  -- so more than the limit was left, where that is told
+  -- where the source tells, it told of more bytes than the limit
   pub more : (left : List ℕ) → result ≡ Err TooLong → old.left ≡ Some left → limit < length left
-  -- want of memory may come in the place of either
+  -- memory may run out behind any read
   pub memory : result ≡ Err Memory → (taken : List ℕ) × Gives old.left new.left taken × (length taken ≤ limit + 1)
   pub failed : result ≡ Err ReadFault → Rose old.faults new.faults
+  -- a fault comes before more than the limit was taken
+  pub fault_within : result ≡ Err ReadFault → (taken : List ℕ) × Gives old.left new.left taken × (length taken ≤ limit)
   pub else_kept : result ≢ Err ReadFault → new.faults ≡ old.faults
   pub told : is_some new.left ≡ is_some old.left

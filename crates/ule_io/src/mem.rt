@@ -1,8 +1,8 @@
 // A source and a sink in memory, whose faults and short moves are set in advance.
-ghost use Rattle.std.specs.Prelude.{◌≡◌, ◌++◌, ◌<◌, [], length, take, drop, IfOk, OnOk, OnErr, if◌then◌else◌};
+ghost use Rattle.std.specs.Prelude.{◌≡◌, ◌++◌, ◌<◌, [], true, length, take, drop, IfOk, OnOk, OnErr, if◌then◌else◌};
 ghost use Rattle.ule_io.specs.Counter.{one_more, Rose};
 ghost use Rattle.ule_io.specs.Source.{Reads, ReadFails};
-ghost use Rattle.ule_io.specs.Sink.{Takes, WriteFails};
+ghost use Rattle.ule_io.specs.Sink.{Takes, WriteFails, as_flushed};
 ghost use Rattle.ule_io.specs.Calls.{no_calls, is_listed, after_call, after_fault};
 ghost use Rattle.ule_io.specs.Playback.{source_state, read_answer, after_read};
 ghost use Rattle.ule_io.specs.Recording.{sink_state, write_answer, after_write, flush_answer, after_flush};
@@ -137,6 +137,7 @@ pub struct MemSink {
     most: usize,
     calls: Calls,
     empty_takes: u64,
+    flushed: bool,
 }
 
 impl Model for MemSink {
@@ -145,17 +146,18 @@ impl Model for MemSink {
 
     ghost Value = { Recording };
 
-    ghost view = { λ s. record { taken = s.bytes.items; room = s.room; most = s.most; calls = s.calls; empty_takes = s.empty_takes } };
+    ghost view = { λ s. record { taken = s.bytes.items; room = s.room; most = s.most; calls = s.calls; empty_takes = s.empty_takes; flushed = s.flushed } };
 
     ghost invariant = { λ s. (vec_len s.bytes ≤ s.room) × (s.room ≤ vec_capacity s.bytes) };
 }
 
 impl MemSink {
-    /// A sink with room for `room` bytes, each write of which takes at most `most`. Its writes and
-    /// flushes are numbered together from 1. Those whose numbers are in `fails` fail, and so does a
-    /// write of a nonempty piece where no room is left.
+    /// A sink with room for `room` bytes, each write of which takes at most `most`, and none where
+    /// `most` is 0. Its writes and flushes are numbered together from 1. Those whose numbers are in
+    /// `fails` fail, and so does a write of a nonempty piece where no room is left. It is flushed, as
+    /// nothing was taken yet.
     pub fn start(alloc: Global, room: usize, most: usize, fails: &[u64]) -> Result<MemSink, Memory>
-        ensures { IfOk result (λ s. s ≡ record { taken = []; room = room; most = most; calls = no_calls fails.now; empty_takes = 0 }) }
+        ensures { IfOk result (λ s. s ≡ record { taken = []; room = room; most = most; calls = no_calls fails.now; empty_takes = 0; flushed = true }) }
     {
         Ok(MemSink {
             bytes: Vec::with_capacity(alloc, room)?,
@@ -163,6 +165,7 @@ impl MemSink {
             most,
             calls: Calls::start(alloc, fails)?,
             empty_takes: 0,
+            flushed: true,
         })
     }
 
@@ -171,6 +174,13 @@ impl MemSink {
         ensures { result.now ≡ self.now.taken }
     {
         &self.bytes
+    }
+
+    /// Whether no byte was taken since the last flush that succeeded, or since the start.
+    pub fn is_flushed(&self) -> bool
+        ensures { result ≡ self.now.flushed }
+    {
+        self.flushed
     }
 }
 
@@ -192,16 +202,21 @@ impl Sink for MemSink {
         if n == 0 && !piece.is_empty() {
             self.empty_takes = self.empty_takes.saturating_add(1);
         }
+        if n > 0 {
+            self.flushed = false;
+        }
         self.bytes.extend_from_slice(&piece[..n]).unwrap();
         Ok(n)
     }
 
     fn flush(&mut self) -> Result<(), Failed>
-        ensures ok { OnOk result (sink_state self.new ≡ sink_state self.old) }
+        ensures ok { OnOk result (sink_state self.new ≡ as_flushed (sink_state self.old)) }
         ensures failed { OnErr result (WriteFails (sink_state self.old) (sink_state self.new)) }
         ensures answer { result ≡ flush_answer self.old }
         ensures after { self.new ≡ after_flush self.old }
     {
-        self.calls.begin()
+        self.calls.begin()?;
+        self.flushed = true;
+        Ok(())
     }
 }

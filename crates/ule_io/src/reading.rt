@@ -10,13 +10,13 @@ use thiserror::Error;
 /// Why a source was not read to its end.
 #[derive(Clone, Copy, Debug, PartialEq, Eq, Error)]
 pub enum ReadAllFault {
-    /// A read failed, as the source counts.
+    /// A read failed, as the source counts, before more bytes than the limit came.
     #[error("a read failed")]
     ReadFault,
     /// More bytes came than the limit allows.
     #[error("the input is too long")]
     TooLong,
-    /// Memory ran out.
+    /// Memory ran out for the bytes taken.
     #[error("out of memory")]
     Memory,
 }
@@ -46,7 +46,8 @@ impl Bytes {
 const PIECE: usize = 8192;
 
 /// All bytes to the end of the source, of which there may be at most `limit`. `TooLong` comes where
-/// one byte more was taken, and no further byte is. After `Memory` the bytes taken are lost.
+/// one byte more was taken, and no further byte is. `ReadFault` comes with at most `limit` bytes
+/// taken, and `Memory` with at most one more. After either the bytes taken are lost.
 pub fn read_all<S: Source>(alloc: Global, src: &mut S, limit: usize) -> Result<Bytes, ReadAllFault>
     ensures { ReadAll (S.state src.old) (S.state src.new) limit result }
 {

@@ -1,11 +1,11 @@
 // The standard streams as a source and a sink: the edge where contracts tell no bytes.
-ghost use Rattle.std.specs.Prelude.{◌≡◌, None};
+ghost use Rattle.std.specs.Prelude.{◌≡◌, None, true};
 
 use crate::{Failed, Sink, Source};
 use std::io::{Read, Stdin, Stdout, Write};
 use std::marker::Model;
 
-/// Standard input as a source. It doesn't tell which bytes are left.
+/// Standard input as a source. It doesn't tell which bytes are left, and counts the reads that fail.
 #[derive(Drop)]
 pub struct StdSource {
     input: Stdin,
@@ -22,7 +22,7 @@ impl Model for StdSource {
 }
 
 impl StdSource {
-    /// The standard input that `main` has, as in `StdSource::over(rt.stdin())`.
+    /// The standard input that `main` has, as in `StdSource::over(rt.stdin())`, with no fault counted.
     pub fn over(input: Stdin) -> StdSource
         ensures { result ≡ record { left = None; faults = 0 } }
     {
@@ -44,12 +44,14 @@ impl Source for StdSource {
     }
 }
 
-/// Standard output as a sink. It doesn't tell which bytes it took, and holds none back.
+/// Standard output as a sink. It doesn't tell which bytes it took. It counts its faults and its
+/// empty takes, and marks whether it was flushed since it last took a byte.
 #[derive(Drop)]
 pub struct StdSink {
     output: Stdout,
     faults: u64,
     empty_takes: u64,
+    flushed: bool,
 }
 
 impl Model for StdSink {
@@ -58,18 +60,19 @@ impl Model for StdSink {
 
     ghost Value = { SinkState };
 
-    ghost view = { λ s. record { taken = None; faults = s.faults; empty_takes = s.empty_takes } };
+    ghost view = { λ s. record { taken = None; faults = s.faults; empty_takes = s.empty_takes; flushed = s.flushed } };
 }
 
 impl StdSink {
-    /// The standard output that `main` has, as in `StdSink::over(rt.stdout())`.
+    /// The standard output that `main` has, as in `StdSink::over(rt.stdout())`, with nothing taken yet.
     pub fn over(output: Stdout) -> StdSink
-        ensures { result ≡ record { taken = None; faults = 0; empty_takes = 0 } }
+        ensures { result ≡ record { taken = None; faults = 0; empty_takes = 0; flushed = true } }
     {
         StdSink {
             output,
             faults: 0,
             empty_takes: 0,
+            flushed: true,
         }
     }
 }
@@ -80,7 +83,9 @@ impl Sink for StdSink {
     fn write(&mut self, piece: &[u8]) -> Result<usize, Failed> {
         match self.output.write(piece) {
             Ok(n) => {
-                if n == 0 && !piece.is_empty() {
+                if n > 0 {
+                    self.flushed = false;
+                } else if !piece.is_empty() {
                     self.empty_takes = self.empty_takes.saturating_add(1);
                 }
                 Ok(n)
@@ -94,7 +99,10 @@ impl Sink for StdSink {
 
     fn flush(&mut self) -> Result<(), Failed> {
         match self.output.flush() {
-            Ok(()) => Ok(()),
+            Ok(()) => {
+                self.flushed = true;
+                Ok(())
+            }
             Err(_) => {
                 self.faults = self.faults.saturating_add(1);
                 Err(Failed)

@@ -11,20 +11,21 @@ use Rattle.ule_types.specs.Form.{is_built}
 use Rattle.ule_types.specs.declared.command.Command.{Command}
 use Rattle.ule_types.specs.declared.command.Command.TheVariants.{Tick, Time, Yield, Resched, Sleep, Wake, Lend, Unlend, Renice, Fork, Exit, Idle, Balance, Look}
 use Rattle.ule_types.specs.declared.setup.ThreadSpec.{ThreadSpec}
-use Rattle.ule_scenario.specs.Scenario.{Line, command_line, script_line, end_line, is_in_range}
-use Rattle.ule_scenario.specs.Sections.{is_spellable, wakes_in_range, ids_of}
+use Rattle.ule_scenario.specs.Cut.{Line}
+use Rattle.ule_scenario.specs.Scenario.{command_line, script_line, end_line, is_in_range}
+use Rattle.ule_scenario.specs.Sections.{is_spellable, names_in_range, ids_of}
 use Rattle.ule_scenario.proofs.Numbers.{value_of_decimal}
 
 -- the tests that a command passes
-pub command_parts : (ids : List ℕ) (cpus : ℕ) (c : Command) → is_spellable ids cpus c ≡ true → (is_built c ≡ true) × (is_command ids cpus c ≡ true) × (wakes_in_range c ≡ true)
+pub command_parts : (ids : List ℕ) (cpus : ℕ) (c : Command) → is_spellable ids cpus c ≡ true → (is_built c ≡ true) × (is_command ids cpus c ≡ true) × (names_in_range c ≡ true)
 command_parts ids cpus c good =
-    let outer = and_parts (is_built c && is_command ids cpus c) (wakes_in_range c) good in
+    let outer = and_parts (is_built c && is_command ids cpus c) (names_in_range c) good in
     let inner = and_parts (is_built c) (is_command ids cpus c) outer.0 in
     (inner.0, inner.1, outer.1)
 
-pub command_from : (ids : List ℕ) (cpus : ℕ) (c : Command) → is_built c ≡ true → is_command ids cpus c ≡ true → wakes_in_range c ≡ true → is_spellable ids cpus c ≡ true
+pub command_from : (ids : List ℕ) (cpus : ℕ) (c : Command) → is_built c ≡ true → is_command ids cpus c ≡ true → names_in_range c ≡ true → is_spellable ids cpus c ≡ true
 command_from ids cpus c built valid range =
-    and_from (is_built c && is_command ids cpus c) (wakes_in_range c) (and_from (is_built c) (is_command ids cpus c) built valid) range
+    and_from (is_built c && is_command ids cpus c) (names_in_range c) (and_from (is_built c) (is_command ids cpus c) built valid) range
 
 -- a number that is in range
 pub within_parts : (low high n : ℕ) → is_within low high n ≡ true → (low ≤ n) × (n ≤ high)
@@ -42,17 +43,17 @@ among_in_range (spec ∷ threads) t all some =
     (λ later. among_in_range threads t parts.1 later)
     (or_cases (spec.id == t) (is_among (ids_of threads) t) some)
 
-pub range_from_ids : (threads : List ThreadSpec) (cpus : ℕ) (c : Command) → list_all is_in_range threads ≡ true → is_command (ids_of threads) cpus c ≡ true → wakes_in_range c ≡ true
+pub range_from_ids : (threads : List ThreadSpec) (cpus : ℕ) (c : Command) → list_all is_in_range threads ≡ true → is_command (ids_of threads) cpus c ≡ true → names_in_range c ≡ true
 range_from_ids threads cpus (Wake t) all valid = among_in_range threads t all valid
 range_from_ids threads cpus Tick all valid = refl
 range_from_ids threads cpus (Time k) all valid = refl
 range_from_ids threads cpus Yield all valid = refl
 range_from_ids threads cpus Resched all valid = refl
 range_from_ids threads cpus (Sleep channel) all valid = refl
-range_from_ids threads cpus (Lend t p) all valid = refl
-range_from_ids threads cpus (Unlend t) all valid = refl
-range_from_ids threads cpus (Renice t n) all valid = refl
-range_from_ids threads cpus (Fork t) all valid = refl
+range_from_ids threads cpus (Lend t p) all valid = among_in_range threads t all valid
+range_from_ids threads cpus (Unlend t) all valid = among_in_range threads t all valid
+range_from_ids threads cpus (Renice t n) all valid = among_in_range threads t all valid
+range_from_ids threads cpus (Fork t) all valid = among_in_range threads t all valid
 range_from_ids threads cpus Exit all valid = refl
 range_from_ids threads cpus Idle all valid = refl
 range_from_ids threads cpus Balance all valid = refl

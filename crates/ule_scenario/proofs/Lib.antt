@@ -1,7 +1,7 @@
 pub mod Causes
 pub mod Charges
-pub mod Clean
 pub mod Commands
+pub mod Ends
 pub mod Numbers
 pub mod Parts
 pub mod Pieces
@@ -10,5 +10,4 @@ pub mod Runs
 pub mod Script
 pub mod Scripts
 pub mod Setups
-pub mod Text
 pub mod Threads

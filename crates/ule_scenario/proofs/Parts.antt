@@ -1,6 +1,6 @@
 -- Parts of equal lines, and of equal lists of lines.
 use Rattle.std.proofs.Common.{◌≡◌, List, [], ◌∷◌}
-use Rattle.ule_scenario.specs.Scenario.{Word, Line}
+use Rattle.ule_scenario.specs.Cut.{Word, Line}
 
 pub first_line : {a b : Line} {ls ms : List Line} → a ∷ ls ≡ b ∷ ms → a ≡ b
 first_line e = cc

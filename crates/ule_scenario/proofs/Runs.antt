@@ -9,7 +9,8 @@ use Rattle.std.proofs.lemmas.List.Folds.{list_all-append, list_any-append}
 use Rattle.ule_types.specs.Commands.{is_among}
 use Rattle.ule_types.specs.Rules.{is_distinct}
 use Rattle.ule_types.specs.declared.setup.ThreadSpec.{ThreadSpec}
-use Rattle.ule_scenario.specs.Scenario.{Line, thread_line}
+use Rattle.ule_scenario.specs.Scenario.{thread_line}
+use Rattle.ule_scenario.specs.Cut.{Line}
 use Rattle.ule_scenario.specs.Sections.{Begins, Stops, ids_of, is_thread, RepeatsThread}
 
 -- one item more

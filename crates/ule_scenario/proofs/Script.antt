@@ -7,7 +7,8 @@ use Rattle.std.proofs.lemmas.List.{set-set, get_or-set_same}
 use Rattle.ule_types.specs.Commands.{greatest_of}
 use Rattle.ule_types.specs.Form.{is_tick}
 use Rattle.ule_types.specs.declared.command.Command.{Command}
-use Rattle.ule_scenario.specs.Scenario.{Line, script_line, command_line}
+use Rattle.ule_scenario.specs.Cut.{Line}
+use Rattle.ule_scenario.specs.Scenario.{script_line, command_line}
 use Rattle.ule_scenario.specs.Sections.{Begins, is_spellable, charge, are_few, HasNoScript}
 use Rattle.ule_scenario.proofs.Charges.{charge_push, charge-le, ticks-append, ticks-le, fewer}
 use Rattle.ule_scenario.proofs.Commands.{command_apart}

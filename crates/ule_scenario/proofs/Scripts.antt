@@ -10,7 +10,8 @@ use Rattle.ule_types.specs.Form.{is_tick, has_few_ticks}
 use Rattle.ule_types.specs.Rules.{budget_from}
 use Rattle.ule_types.specs.declared.command.Command.{Command}
 use Rattle.ule_types.specs.declared.setup.ThreadSpec.{ThreadSpec}
-use Rattle.ule_scenario.specs.Scenario.{Line, thread_line, script_line, script_lines, command_line, end_line}
+use Rattle.ule_scenario.specs.Cut.{Line}
+use Rattle.ule_scenario.specs.Scenario.{thread_line, script_line, script_lines, command_line, end_line}
 use Rattle.ule_scenario.specs.Sections.{Stops, is_spellable, charge, are_few, IsScript, TakesScript, HasNoScript, AreScripts, TakesScripts, HasNoScripts}
 use Rattle.ule_scenario.proofs.Commands.{command_apart, script_line_apart, end_line_apart}
 use Rattle.ule_scenario.proofs.Parts.{first_line, first_word, other_lines}

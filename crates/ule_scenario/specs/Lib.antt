@@ -1,3 +1,3 @@
-pub mod Scenario
 pub mod Cut
+pub mod Scenario
 pub mod Sections

@@ -1,50 +1,52 @@
--- Scenario text: the lines of a setup, each a list of words, and the bytes that spell it.
+-- Scenario text: how the words of a line spell a part of a setup, and the bytes a setup.
 use Rattle.std.specs.Prelude.{◌≡◌, ℕ, ◌+◌, ◌^◌, ◌<◌, ◌≤◌, nat_lt, Bool, true, false, List, [], ◌∷◌, ◌++◌, length, map, take, codes, IsTrue}
-use Rattle.std.specs.List.{flat_map, list_all, join_with_byte}
+use Rattle.std.specs.List.{list_all}
 use Rattle.std.specs.Fmt.{decimal, signed_decimal}
 use Rattle.ule_types.specs.Form.{IsOfForm}
 use Rattle.ule_types.specs.declared.command.Command.{Command}
-use Rattle.ule_types.specs.declared.command.Command.TheVariants.{Tick, Time, Yield, Resched, Sleep, Wake}
+use Rattle.ule_types.specs.declared.command.Command.TheVariants.{Tick, Time, Yield, Resched, Sleep, Wake, Lend, Unlend, Renice, Fork, Exit, Idle, Balance, Look}
 use Rattle.ule_types.specs.declared.fault.ScenarioFault.{ScenarioFault}
 use Rattle.ule_types.specs.declared.fault.ScenarioFault.TheVariants.{Refused, Memory}
 use Rattle.ule_types.specs.declared.setup.Form.{Form}
-use Rattle.ule_types.specs.declared.setup.Form.TheVariants.{Ts}
+use Rattle.ule_types.specs.declared.setup.Form.TheVariants as form
 use Rattle.ule_types.specs.declared.setup.ThreadSpec.{ThreadSpec}
 use Rattle.ule_types.specs.declared.setup.Setup.{Setup}
+use Rattle.ule_scenario.specs.Cut.{Word, Line, IsCut}
 
--- the bytes of a word
-abbrev pub Word : Type 0
-Word = List ℕ
-
--- the words of a line
-abbrev pub Line : Type 0
-Line = List Word
-
+-- the first line of a scenario
 abbrev pub header_line : Line
 header_line = codes "ule-scenario" ∷ decimal 1 ∷ []
 
+-- the line that seeds the balance count of CPU 0
 abbrev pub jitter_line : ℕ → Line
 jitter_line n = codes "jitter" ∷ decimal n ∷ []
 
+-- the line that says how many CPUs there are
 abbrev pub cpus_line : ℕ → Line
 cpus_line n = codes "cpus" ∷ decimal n ∷ []
 
--- the class of a thread, and its nice value
+-- the class of a thread, and its nice value or its base priority
 abbrev pub form_words : Form → List Word
-form_words (Ts n) = codes "ts" ∷ signed_decimal n ∷ []
-form_words _ = []
+form_words (form.Ts n) = codes "ts" ∷ signed_decimal n ∷ []
+form_words (form.Ithd p) = codes "ithd" ∷ decimal p ∷ []
+form_words (form.Rt p) = codes "rt" ∷ decimal p ∷ []
+form_words (form.Fifo p) = codes "fifo" ∷ decimal p ∷ []
+form_words (form.Idle p) = codes "idle" ∷ decimal p ∷ []
 
 -- the word of a thread that is bound
 abbrev pub bound_words : Bool → List Word
 bound_words true = codes "bound" ∷ []
 bound_words false = []
 
+-- the line that declares a thread
 abbrev pub thread_line : ThreadSpec → Line
 thread_line spec = codes "thread" ∷ decimal spec.id ∷ (form_words spec.form ++ decimal spec.cpu ∷ bound_words spec.bound)
 
+-- the line that begins the script of a worker
 abbrev pub script_line : ℕ → Line
 script_line worker = codes "script" ∷ decimal worker ∷ []
 
+-- the line that gives a command
 abbrev pub command_line : Command → Line
 command_line Tick = codes "tick" ∷ []
 command_line (Time k) = codes "time" ∷ decimal k ∷ []
@@ -52,34 +54,56 @@ command_line Yield = codes "yield" ∷ []
 command_line Resched = codes "resched" ∷ []
 command_line (Sleep channel) = codes "sleep" ∷ decimal channel ∷ []
 command_line (Wake t) = codes "wake" ∷ decimal t ∷ []
-command_line _ = []
+command_line (Lend t p) = codes "lend" ∷ decimal t ∷ decimal p ∷ []
+command_line (Unlend t) = codes "unlend" ∷ decimal t ∷ []
+command_line (Renice t n) = codes "renice" ∷ decimal t ∷ signed_decimal n ∷ []
+command_line (Fork t) = codes "fork" ∷ decimal t ∷ []
+command_line Exit = codes "exit" ∷ []
+command_line Idle = codes "idle" ∷ []
+command_line Balance = codes "balance" ∷ []
+command_line (Look c) = codes "look" ∷ decimal c ∷ []
 
 -- the scripts of the workers from this one on, each below its line
 abbrev pub script_lines : ℕ → List (List Command) → List Line
 script_lines worker [] = []
 script_lines worker (script ∷ scripts) = script_line worker ∷ (map command_line script ++ script_lines (worker + 1) scripts)
 
+-- the last line of a scenario
 abbrev pub end_line : Line
 end_line = codes "end" ∷ []
 
--- the lines of a setup: a script stands for each CPU
-abbrev pub lines_of : Setup → List Line
-lines_of s =
-    header_line ∷ jitter_line s.jitter ∷ cpus_line s.cpus ∷
-    (map thread_line s.threads ++ (script_lines 0 (take s.cpus s.scripts) ++ end_line ∷ []))
+-- the lines are the head of a scenario: its first line, the jitter and the number of CPUs
+abbrev pub SpellsHead : List Line → ℕ → ℕ → Type 0
+SpellsHead lines jitter cpus = lines ≡ header_line ∷ jitter_line jitter ∷ cpus_line cpus ∷ []
 
--- one space stands between two words (32), and a newline (10) ends each line
-abbrev pub text : List Line → List ℕ
-text lines = flat_map (λ line. join_with_byte 32 line ++ 10 ∷ []) lines
+-- the lines declare the threads, each of them one
+abbrev pub SpellsThreads : List Line → List ThreadSpec → Type 0
+SpellsThreads lines threads = lines ≡ map thread_line threads
+
+-- the lines are the scripts of the workers of so many CPUs, each below its line
+abbrev pub SpellsScripts : List Line → ℕ → List (List Command) → Type 0
+SpellsScripts lines cpus scripts = lines ≡ script_lines 0 (take cpus scripts)
+
+-- the lines spell a setup, section by section: the head, the threads, the scripts, and the last line
+pub record SpellsSetup (lines : List Line) (s : Setup) : Type 0 where
+  pub head : List Line
+  pub declaring : List Line
+  pub commanding : List Line
+  pub whole : lines ≡ head ++ (declaring ++ (commanding ++ end_line ∷ []))
+  pub headed : SpellsHead head s.jitter s.cpus
+  pub threads : SpellsThreads declaring s.threads
+  pub scripts : SpellsScripts commanding s.cpus s.scripts
 
 -- whether a thread's number is one of 0..255
 abbrev pub is_in_range : ThreadSpec → Bool
 is_in_range spec = nat_lt spec.id 256
 
--- the bytes are the text of a setup of the form so far, 1,048,576 of them at most, and its numbers are in range
+-- the bytes, 1,048,576 at most, are lines that spell a setup of the form so far, whose numbers are in range
 pub record Spells (bytes : List ℕ) (s : Setup) : Type 0 where
-  pub spelled : bytes ≡ text (lines_of s)
   pub limit : length bytes ≤ 1048576
+  pub lines : List Line
+  pub are_lines : IsCut bytes lines
+  pub spelled : SpellsSetup lines s
   pub form : IsOfForm s
   pub jitter : s.jitter < 2 ^ 32
   pub threads : IsTrue (list_all is_in_range s.threads)

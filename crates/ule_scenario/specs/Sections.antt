@@ -5,11 +5,12 @@ use Rattle.ule_types.specs.Commands.{greatest_of, is_command}
 use Rattle.ule_types.specs.Form.{is_plain, is_built, is_tick, has_few_ticks}
 use Rattle.ule_types.specs.Rules.{is_distinct, is_spec, budget_from}
 use Rattle.ule_types.specs.declared.command.Command.{Command}
-use Rattle.ule_types.specs.declared.command.Command.TheVariants.{Wake}
+use Rattle.ule_types.specs.declared.command.Command.TheVariants.{Tick, Time, Yield, Resched, Sleep, Wake, Lend, Unlend, Renice, Fork, Exit, Idle, Balance, Look}
 use Rattle.ule_types.specs.declared.fault.ScenarioFault.{ScenarioFault}
 use Rattle.ule_types.specs.declared.fault.ScenarioFault.TheVariants.{Refused, Memory}
 use Rattle.ule_types.specs.declared.setup.ThreadSpec.{ThreadSpec}
-use Rattle.ule_scenario.specs.Scenario.{Line, header_line, jitter_line, cpus_line, thread_line, script_line, script_lines, command_line, end_line, is_in_range}
+use Rattle.ule_scenario.specs.Cut.{Line}
+use Rattle.ule_scenario.specs.Scenario.{header_line, jitter_line, cpus_line, thread_line, script_line, script_lines, command_line, end_line, is_in_range}
 
 -- whether a line can declare a thread so far on this number of CPUs: a plain one in range
 abbrev pub is_thread : ℕ → ThreadSpec → Bool
@@ -42,14 +43,26 @@ pub record TakesThreads (cpus : ℕ) (lines : List Line) (threads : List ThreadS
 abbrev pub RepeatsThread : ℕ → List Line → Type 0
 RepeatsThread cpus lines = (threads : List ThreadSpec) × (rest : List Line) × Begins (is_thread cpus) thread_line lines threads rest × (is_distinct (ids_of threads) ≡ false)
 
--- whether the thread that a command wakes has a number of 0..255
-abbrev pub wakes_in_range : Command → Bool
-wakes_in_range (Wake t) = nat_lt t 256
-wakes_in_range _ = true
+-- whether the thread that a command names has a number of 0..255
+abbrev pub names_in_range : Command → Bool
+names_in_range Tick = true
+names_in_range (Time k) = true
+names_in_range Yield = true
+names_in_range Resched = true
+names_in_range (Sleep channel) = true
+names_in_range (Wake t) = nat_lt t 256
+names_in_range (Lend t p) = nat_lt t 256
+names_in_range (Unlend t) = nat_lt t 256
+names_in_range (Renice t n) = nat_lt t 256
+names_in_range (Fork t) = nat_lt t 256
+names_in_range Exit = true
+names_in_range Idle = true
+names_in_range Balance = true
+names_in_range (Look c) = true
 
 -- whether a line can give a command so far, where these threads are declared
 abbrev pub is_spellable : List ℕ → ℕ → Command → Bool
-is_spellable ids cpus c = is_built c && is_command ids cpus c && wakes_in_range c
+is_spellable ids cpus c = is_built c && is_command ids cpus c && names_in_range c
 
 -- what a worker's commands are charged
 abbrev pub charge : ℕ → ℕ → List Command → ℕ

@@ -4,8 +4,8 @@ ghost use Rattle.std.specs.Prelude.{◌≡◌, ◌≢◌, ℕ, ◌<◌, ◌≤�
 ghost use Rattle.std.specs.List.{slice_split};
 ghost use Rattle.std.specs.Fmt.{decimal, signed_decimal};
 ghost use Rattle.ule_types.specs.Rules.{is_nice};
-ghost use Rattle.ule_scenario.specs.Scenario.{Word, bound_words};
-ghost use Rattle.ule_scenario.specs.Cut.{words_of, cut};
+ghost use Rattle.ule_scenario.specs.Cut.{Word, words_of, cut};
+ghost use Rattle.ule_scenario.specs.Scenario.{bound_words};
 
 use crate::number::{nice_value, number};
 use std::marker::Model;

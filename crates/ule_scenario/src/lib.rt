@@ -28,7 +28,6 @@ const DEFAULT_SETTINGS: Settings = Settings {
 
 /// The setup that the bytes spell. They are refused where they spell none; line, reason and detail
 /// of the refusal are 0 while the grammar isn't whole.
-#[tactic(auto, using(crate::proofs::Setups::one_setup))]
 pub fn read(alloc: Global, bytes: &[u8]) -> Result<Setup, ScenarioFault>
     // What is read is spelled so.
     ensures ok { IfOk result (λ s. Spells bytes.now s) }
@@ -77,6 +76,3 @@ fn read_within(alloc: Global, bytes: &[u8]) -> Result<Setup, ScenarioFault>
         turns,
     })
 }
-
-#[cfg(test)]
-mod tests;

@@ -3,8 +3,8 @@
 ghost use Rattle.std.specs.Prelude.{◌≡◌, ◌≢◌, ℕ, ◌+◌, ◌^◌, ◌<◌, ◌≤◌, Bool, List, [], ◌∷◌, length, replicate, count_by, slice_index_or, slice_set, IfOk, IfErr, OnOk, IfSome, IfNone, IsTrue, ◌↔◌};
 ghost use Rattle.ule_types.specs.Commands.{greatest_of};
 ghost use Rattle.ule_types.specs.Form.{is_tick};
-ghost use Rattle.ule_scenario.specs.Scenario.{Line, thread_line, script_line, command_line, end_line};
-ghost use Rattle.ule_scenario.specs.Cut.{cut};
+ghost use Rattle.ule_scenario.specs.Scenario.{thread_line, script_line, command_line, end_line};
+ghost use Rattle.ule_scenario.specs.Cut.{Line, cut, no_more};
 ghost use Rattle.ule_scenario.specs.Sections.{is_thread, is_spellable, ids_of, head_lines, charge, are_few, Stops, TakesThreads, RepeatsThread, TakesScript, HasNoScript, TakesScripts, HasNoScripts, RefusedOnlyIf};
 
 use crate::cut::next_line;
@@ -136,7 +136,19 @@ fn ticks_of(command: &Command) -> u32
 {
     match *command {
         Command::Tick => 1,
-        _ => 0,
+        Command::Time(_)
+        | Command::Yield
+        | Command::Resched
+        | Command::Sleep(_)
+        | Command::Wake(_)
+        | Command::Lend(..)
+        | Command::Unlend(_)
+        | Command::Renice(..)
+        | Command::Fork(_)
+        | Command::Exit
+        | Command::Idle
+        | Command::Balance
+        | Command::Look(_) => 0,
     }
 }
 
@@ -218,7 +230,7 @@ pub(crate) fn read_scripts<'a>(
 
 /// Whether the last line is left, and nothing after it.
 pub(crate) fn is_last_line(text: &[u8]) -> bool
-    ensures { IsTrue result ↔ (cut text.now ≡ end_line ∷ ([] ∷ []) ∷ []) }
+    ensures { IsTrue result ↔ (cut text.now ≡ end_line ∷ no_more) }
 {
     match next_line(text) {
         Some((line, rest)) => is_end(line) && rest.is_empty(),

@@ -1,81 +1,68 @@
 -- From what each part comes to, the answer of the whole.
-use Rattle.std.proofs.Common.{◌≡◌, ◌<◌, ℕ, List, [], ◌∷◌, map, length, get_or, Option, Some, None, Ok, Err, ◌⊎◌, inl, inr, ⊎_elim, refl, sym, ◌∙◌, ap, arith}
+use Rattle.std.proofs.Common.{◌≡◌, ◌≤◌, ◌++◌, ℕ, ◌+◌, ◌%◌, List, [], ◌∷◌, map, length, get_or, Option, Some, None, ⊎_elim, refl, sym, ◌∙◌, ap, subst, arith}
 use Rattle.std.specs.List.{AllByRecursion, cons_option, filter_map, range_with_len}
 use Rattle.std.specs.Option.{option_map}
-use Rattle.ule_io.specs.Counter.{Rose}
-use Rattle.ule_io.specs.Sink.{SinkState, WroteWhole}
-use Rattle.ule_io.specs.Source.{ReadsWhole, SourceState}
-use Rattle.ule_io.specs.declared.writing.WriteFault.{WriteFault}
-use Rattle.ule_io.specs.declared.writing.WriteFault.TheVariants.{Failed, TookNothing}
+use Rattle.std.proofs.lemmas.List.{length-append}
+use Rattle.ule_io.specs.Sink.{SinkState}
+use Rattle.ule_io.specs.Source.{ReadsWhole, SourceState, with_front}
+use Rattle.ule_members.proofs.Membership.{all_has, has_thread_of}
+use Rattle.ule_model.specs.Ends.{outcome_of}
 use Rattle.ule_model.specs.Finals.{thread_line, thread_lines}
-use Rattle.ule_model.specs.Places.{lock_of}
+use Rattle.ule_model.specs.History.{IsHistoryOf}
+use Rattle.ule_model.specs.Places.{hand_of, lock_of}
 use Rattle.ule_model.specs.Rounds.{play_of}
-use Rattle.ule_model.specs.World.{Member, thread_of}
+use Rattle.ule_model.specs.World.{Member, World, thread_of}
 use Rattle.ule_rounds.proofs.HistoryLaws.{history_of_rounds}
-use Rattle.ule_score.specs.declared.record.CpuLine.{CpuLine}
+use Rattle.ule_score.specs.declared.place.Place.{Place}
+use Rattle.ule_score.specs.declared.place.Place.TheVariants.{Running, Queued, Asleep, Unborn, Gone, Hand}
 use Rattle.ule_seq.specs.Outcomes.{IsOutcomeOf}
 use Rattle.ule_trace.specs.Trace.{trace_text}
 use Rattle.ule_types.specs.Outcome.{OutcomeValue}
-use Rattle.ule_types.specs.declared.event.Entry.{Entry}
-use Rattle.ule_types.specs.declared.outcome.ThreadLine.{ThreadLine}
 use Rattle.ule_types.specs.declared.setup.Setup.{Setup}
-use Rattle.ule_top.specs.Run.{Answers, AnswersInput, AnswersRefusal, HasRun, IsRefused, SpellsNone, TookFront, Wrote, no_memory, outcome_of, refused, refusal_text, run_words, scenario_limit, traced}
+use Rattle.ule_top.specs.Run.{Answers, AnswersInput, AnswersRefusal, HasRun, IsDue, IsRefused, NamesItsLock, ReadNone, SpellsNone, TookFront, Wrote, no_memory, refusal_due, refused, refusal_text, rounds_text, run_words, scenario_limit, too_long, trace_due, traced, unspelled}
 
 -- ---- the text of an outcome
 
--- the trace of these entries and lines
-text_of : List Entry → List ThreadLine → List CpuLine → ℕ → List ℕ
-text_of entries threads cpus now = trace_text (record { entries = entries; threads = threads; cpus = cpus; now = now; room = 0 })
-
--- the trace of an outcome of a setup is the trace of its history of rounds
-pub trace_of : (s : Setup) (o : OutcomeValue) → IsOutcomeOf s o → trace_text o ≡ trace_text (outcome_of s)
-unfolding text_of
-trace_of s o h =
-    let p = play_of s in
-    ap (λ (x : List Entry). text_of x o.threads o.cpus o.now) h.entries
-    ∙ ap (λ (x : List ThreadLine). text_of p.entries x o.cpus o.now) h.lines.threads
-    ∙ ap (λ (x : List CpuLine). text_of p.entries (thread_lines p.world.members) x o.now) h.lines.cpus
-    ∙ ap (λ (x : ℕ). text_of p.entries (thread_lines p.world.members) p.world.lines x) h.lines.end
-
--- ---- writing a text
-
-pub wrote_done : (k0 k1 : SinkState) (text : List ℕ) → WroteWhole k0 k1 text (Ok tt) → Wrote k0 k1 text 0 0
-wrote_done k0 k1 text w = record {
-  known = inl refl;
-  whole = λ e. w.whole;
-  fault = λ e. absurd (omega arith);
-  kept = λ e. (w.else_kept (λ h. cc), w.else_took (λ h. cc));
-}
-
-fault_rose : (k0 k1 : SinkState) (text : List ℕ) (fault : WriteFault) → WroteWhole k0 k1 text (Err fault) → Rose k0.faults k1.faults ⊎ Rose k0.empty_takes k1.empty_takes
-fault_rose k0 k1 text Failed w = inl (w.failed refl)
-fault_rose k0 k1 text TookNothing w = inr (w.took_nothing refl)
-
-pub wrote_front : (k0 k1 : SinkState) (text : List ℕ) (fault : WriteFault) → WroteWhole k0 k1 text (Err fault) → Wrote k0 k1 text 0 4
-wrote_front k0 k1 text fault w = record {
-  known = inr refl;
-  whole = λ e. absurd (omega arith);
-  fault = λ e. (w.front, fault_rose k0 k1 text fault w);
-  kept = λ e. absurd (e refl);
-}
+-- the trace of the outcome of a setup's play is the trace of its history of rounds
+pub trace_of : (s : Setup) (o : OutcomeValue) → IsOutcomeOf s o → trace_text o ≡ rounds_text s
+trace_of s o is = ap (λ (x : OutcomeValue). trace_text x) is
 
 -- ---- the words of threads
 
--- the lines of some numbers name the locks of their places
-lines_name : (members : List Member) (ts : List ℕ) → AllByRecursion (λ line. line.word ≡ lock_of line.place) (filter_map (λ t. option_map (thread_line members) (thread_of t members)) ts)
-lines_name members [] = tt
-lines_name members (t ∷ ts) = split (thread_of t members) (lines_name members ts)
-  where
-    split : (o : Option Member) → AllByRecursion (λ line. line.word ≡ lock_of line.place) (filter_map (λ u. option_map (thread_line members) (thread_of u members)) ts) →
-        AllByRecursion (λ line. line.word ≡ lock_of line.place) (cons_option (option_map (thread_line members) o) (filter_map (λ u. option_map (thread_line members) (thread_of u members)) ts))
-    split None rest = rest
-    split (Some m) rest = (refl, rest)
+-- a place that is no hand lies under a lock
+lock_there : (place : Place) → hand_of place ≡ None → (l : ℕ) × (lock_of place ≡ Some l)
+lock_there (Running c) free = (c, refl)
+lock_there (Queued c k b) free = (c, refl)
+lock_there (Asleep channel) free = (16 + channel % 8, refl)
+lock_there Unborn free = (24, refl)
+lock_there Gone free = (24, refl)
+lock_there (Hand w) free = cc
 
-pub words_name : (members : List Member) → AllByRecursion (λ line. line.word ≡ lock_of line.place) (thread_lines members)
-words_name members = lines_name members (range_with_len 0 256)
+-- the line of a thread that is in no hand names the lock of its place
+line_names : (members : List Member) (m : Member) → hand_of m.place ≡ None → NamesItsLock (thread_line members m)
+line_names members m free = let there = lock_there m.place free in (there.0, there.1, there.1)
+
+-- where no thread is in a hand, the lines of some numbers name the locks of their places
+lines_name : (members : List Member) (ts : List ℕ) → AllByRecursion (λ m. hand_of m.place ≡ None) members →
+    AllByRecursion NamesItsLock (filter_map (λ t. option_map (thread_line members) (thread_of t members)) ts)
+lines_name members [] free = tt
+lines_name members (t ∷ ts) free = split (thread_of t members) refl (lines_name members ts free)
+  where
+    split : (o : Option Member) → thread_of t members ≡ o → AllByRecursion NamesItsLock (filter_map (λ u. option_map (thread_line members) (thread_of u members)) ts) →
+        AllByRecursion NamesItsLock (cons_option (option_map (thread_line members) o) (filter_map (λ u. option_map (thread_line members) (thread_of u members)) ts))
+    split None found rest = rest
+    split (Some m) found rest =
+        (line_names members m (all_has (λ n. hand_of n.place ≡ None) m members free (has_thread_of t m members found).0), rest)
+
+-- each thread's word names the lock of its place at the end of a history of rounds
+pub words_name : (s : Setup) → IsHistoryOf s (play_of s) → AllByRecursion NamesItsLock (outcome_of s s.scripts (play_of s).entries).threads
+words_name s history =
+    subst (λ (w : World). AllByRecursion NamesItsLock (thread_lines w.members)) (sym history.world)
+    (lines_name (play_of s).world.members (range_with_len 0 256) history.hands)
 
 -- ---- each status
 
+-- the answer where the trace was written
 answers_done : (s0 s1 : SourceState) (k0 k1 : SinkState) (status : ℕ) → status ≡ 0 → HasRun s0 s1 k0 k1 → s1.faults ≡ s0.faults →
     (k1.faults ≡ k0.faults) × (k1.empty_takes ≡ k0.empty_takes) → Answers run_words s0 s1 k0 k1 status
 answers_done s0 s1 k0 k1 status is has read wrote = record {
@@ -92,6 +79,7 @@ answers_done s0 s1 k0 k1 status is has read wrote = record {
   write_kept = λ e. wrote;
 }
 
+-- the answer where the line of the refusal was written
 answers_refused : (s0 s1 : SourceState) (k0 k1 : SinkState) (status : ℕ) → status ≡ 3 → IsRefused s0 s1 k0 k1 → s1.faults ≡ s0.faults →
     (k1.faults ≡ k0.faults) × (k1.empty_takes ≡ k0.empty_takes) → Answers run_words s0 s1 k0 k1 status
 answers_refused s0 s1 k0 k1 status is has read wrote = record {
@@ -108,7 +96,8 @@ answers_refused s0 s1 k0 k1 status is has read wrote = record {
   write_kept = λ e. wrote;
 }
 
-answers_fault : (s0 s1 : SourceState) (k0 k1 : SinkState) (status : ℕ) → status ≡ 4 → TookFront k0 k1 → s1.faults ≡ s0.faults → Answers run_words s0 s1 k0 k1 status
+-- the answer where a fault of writing came
+answers_fault : (s0 s1 : SourceState) (k0 k1 : SinkState) (status : ℕ) → status ≡ 4 → TookFront s0 s1 k0 k1 → s1.faults ≡ s0.faults → Answers run_words s0 s1 k0 k1 status
 answers_fault s0 s1 k0 k1 status is has read = record {
   known = omega arith;
   done = λ e. absurd (omega arith);
@@ -123,6 +112,7 @@ answers_fault s0 s1 k0 k1 status is has read = record {
   write_kept = λ e. absurd (e is);
 }
 
+-- the answer where memory ran out
 answers_no_memory : (s0 s1 : SourceState) (k0 k1 : SinkState) (status : ℕ) → status ≡ 5 → k1 ≡ k0 → s1.faults ≡ s0.faults → Answers run_words s0 s1 k0 k1 status
 answers_no_memory s0 s1 k0 k1 status is same read = record {
   known = omega arith;
@@ -140,22 +130,35 @@ answers_no_memory s0 s1 k0 k1 status is same read = record {
 
 -- ---- the whole input
 
-took_front : (k0 k1 : SinkState) (text : List ℕ) (good status : ℕ) → Wrote k0 k1 text good status → status ≡ 4 → TookFront k0 k1
-took_front k0 k1 text good status w is = let parts = w.fault is in record { text = text; front = parts.0; cause = parts.1 }
+-- what was taken is no longer than what was told before
+longer_left : (rest : Option (List ℕ)) (left taken : List ℕ) → Some left ≡ with_front taken rest → length taken ≤ length left
+longer_left None left taken is = cc
+longer_left (Some rest) left taken is =
+    let same : left ≡ taken ++ rest = cc in rw (same, length-append taken rest) (omega arith)
 
--- a refusal is the answer where the input spells no setup
-pub answers_refusal : (s0 s1 : SourceState) (k0 k1 : SinkState) (status : ℕ) → SpellsNone s0.left → s1.faults ≡ s0.faults → AnswersRefusal k0 k1 status → Answers run_words s0 s1 k0 k1 status
+-- a fault in the text that is due
+took_front : (s0 s1 : SourceState) (k0 k1 : SinkState) (text : List ℕ) (good status : ℕ) → IsDue s0 s1 text → Wrote k0 k1 text good status → status ≡ 4 → TookFront s0 s1 k0 k1
+took_front s0 s1 k0 k1 text good status due w is =
+    let parts = w.fault is in record { text = text; due = due; front = parts.0; cause = parts.1 }
+
+-- where what was read spells no setup, none is what the source told
+spells_none : (s0 s1 : SourceState) → ReadNone s0 s1 → SpellsNone s0.left
+spells_none s0 s1 (unspelled input reads none) left told s spells = none s (rw (reads.all left told) spells)
+spells_none s0 s1 (too_long taken given count) left told s spells =
+    let limit = spells.limit in
+    let longer = longer_left s1.left left taken (sym told ∙ given) in omega arith
+
+-- a refusal is the answer where what was read spells no setup
+pub answers_refusal : (s0 s1 : SourceState) (k0 k1 : SinkState) (status : ℕ) → ReadNone s0 s1 → s1.faults ≡ s0.faults → AnswersRefusal k0 k1 status → Answers run_words s0 s1 k0 k1 status
 answers_refusal s0 s1 k0 k1 status none faults w =
     ⊎_elim
-    (λ (is : status ≡ 3). answers_refused s0 s1 k0 k1 status is (record { cause = none; written = w.whole is }) faults (w.kept (λ e. omega arith)))
-    (λ (is : status ≡ 4). answers_fault s0 s1 k0 k1 status is (took_front k0 k1 refusal_text 3 status w is) faults)
+    (λ (is : status ≡ 3). answers_refused s0 s1 k0 k1 status is
+    (record { cause = spells_none s0 s1 none; read = none; written = w.whole is; flushed = w.flushed is })
+    faults (w.kept (λ e. omega arith)))
+    (λ (is : status ≡ 4). answers_fault s0 s1 k0 k1 status is (took_front s0 s1 k0 k1 refusal_text 3 status (refusal_due none refl) w is) faults)
     w.known
 
--- an input that is too long spells none
-pub too_long_spells_none : (s0 : SourceState) → ((left : List ℕ) → s0.left ≡ Some left → scenario_limit < length left) → SpellsNone s0.left
-too_long_spells_none s0 more left told s spells = let limit = spells.limit in let longer = more left told in omega arith
-
--- what the whole input comes to is the answer
+-- what the whole input comes to is the answer of the command
 pub answers_input : (s0 s1 : SourceState) (k0 k1 : SinkState) (input : List ℕ) (status : ℕ) → ReadsWhole s0 s1 scenario_limit input → s1.faults ≡ s0.faults →
     AnswersInput input k0 k1 status → Answers run_words s0 s1 k0 k1 status
 answers_input s0 s1 k0 k1 input status reads faults (traced s spells w) =
@@ -167,14 +170,15 @@ answers_input s0 s1 k0 k1 input status reads faults (traced s spells w) =
       read = reads;
       spelled = spells;
       written = w.whole is;
+      flushed = w.flushed is;
       history = history_of_rounds s spells.form;
-      words = words_name (play_of s).world.members;
+      words = words_name s (history_of_rounds s spells.form);
     })
     faults (w.kept (λ e. omega arith)))
-    (λ (is : status ≡ 4). answers_fault s0 s1 k0 k1 status is (took_front k0 k1 (trace_text (outcome_of s)) 0 status w is) faults)
+    (λ (is : status ≡ 4). answers_fault s0 s1 k0 k1 status is (took_front s0 s1 k0 k1 (rounds_text s) 0 status (trace_due input s reads spells refl) w is) faults)
     w.known
 answers_input s0 s1 k0 k1 input status reads faults (refused none w) =
-    answers_refusal s0 s1 k0 k1 status (λ left told s spells. none s (rw (reads.all left told) spells)) faults w
+    answers_refusal s0 s1 k0 k1 status (unspelled input reads none) faults w
 answers_input s0 s1 k0 k1 input status reads faults (no_memory is same) = answers_no_memory s0 s1 k0 k1 status is same faults
 
 -- a list of one item

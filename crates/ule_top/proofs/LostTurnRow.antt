@@ -1,6 +1,8 @@
 -- A turn lost to a thread in another worker's hand: the play and its trace, by computing.
-use Rattle.std.proofs.Common.{◌≡◌, [], ◌∷◌, Some, None, true, false, pos, refl, lit≤}
+use Rattle.std.proofs.Common.{◌≡◌, List, [], ◌∷◌, Some, None, true, false, pos, refl, lit≤}
 use Rattle.ule_history.specs.CpuUseUpdate.{updated_use, slid_use, ran_ticks}
+use Rattle.ule_model.specs.Ends.{outcome_of}
+use Rattle.ule_model.specs.Legal.{replayed}
 use Rattle.ule_model.specs.Program.{next_in}
 use Rattle.ule_model.specs.Rounds.{Play, opening, round, rounds}
 use Rattle.ule_prio.specs.declared.class.Class.TheVariants.{Ts}
@@ -11,34 +13,40 @@ use Rattle.ule_score.specs.declared.place.Place.TheVariants.{Queued}
 use Rattle.ule_score.specs.declared.record.Why.TheVariants.{Yield}
 use Rattle.ule_trace.specs.Trace.{trace_text}
 use Rattle.ule_types.specs.Outcome.{OutcomeValue}
+use Rattle.ule_types.specs.declared.event.Entry.{Entry}
 use Rattle.ule_types.specs.declared.event.Event.TheVariants.{Switch, Drop, Bed, Wake, Land}
 use Rattle.ule_types.specs.declared.event.Reply.TheVariants.{Switched, Dropped, Bedded, Woken, Landed}
 use Rattle.ule_top.proofs.Numerals.{digits_0, digits_1, digits_2, digits_3, digits_4, digits_5, digits_17, digits_64, digits_172, digits_1024, digits_20000, digits_20001}
-use Rattle.ule_top.proofs.Tracing.{outcome_at, traced_after}
+use Rattle.ule_top.proofs.Tracing.{traced_after}
 use Rattle.ule_top.specs.Example.{LostTurnIsTraced, lost_turn, lost_turn_trace}
 
 -- the play after its four rounds
 last_play : Play
 last_play = round (round (round (round (opening lost_turn))))
 
+-- the four rounds come to that play
 four_rounds : rounds 4 (opening lost_turn) ≡ last_play
 unfolding last_play rounds
 four_rounds = refl
 
--- after them nothing is left
+-- after the four rounds nothing is left
 still : round last_play ≡ last_play
 unfolding last_play next_in timeshare_priority priority_at score_of batch_priority use_steps updated_use slid_use ran_ticks
 still = refl
 
--- what the play comes to
+-- the entries of the four rounds
+noted : List Entry
+noted =
+    record { worker = 0; event = Switch 0 Yield; now = 20000; reply = Switched None (Some 0) false } ∷
+    record { worker = 0; event = Drop 0 3; now = 20001; reply = Dropped 0 None } ∷
+    record { worker = 0; event = Bed 0 3; now = 20001; reply = Bedded } ∷
+    record { worker = 1; event = Wake 0; now = 20001; reply = Woken 172 (Some 0) 0 20001 } ∷
+    record { worker = 1; event = Land 0 0; now = 20001; reply = Landed Batch 17 true } ∷ []
+
+-- what those entries come to
 ended : OutcomeValue
 ended = record {
-  entries =
-      record { worker = 0; event = Switch 0 Yield; now = 20000; reply = Switched None (Some 0) false } ∷
-      record { worker = 0; event = Drop 0 3; now = 20001; reply = Dropped 0 None } ∷
-      record { worker = 0; event = Bed 0 3; now = 20001; reply = Bedded } ∷
-      record { worker = 1; event = Wake 0; now = 20001; reply = Woken 172 (Some 0) 0 20001 } ∷
-      record { worker = 1; event = Land 0 0; now = 20001; reply = Landed Batch 17 true } ∷ [];
+  entries = noted;
   threads =
       record {
         id = 0;
@@ -69,16 +77,22 @@ ended = record {
   room = 0;
 }
 
-last_play_ended : outcome_at last_play ≡ ended
-unfolding outcome_at last_play ended next_in timeshare_priority priority_at score_of batch_priority use_steps updated_use slid_use ran_ticks
-last_play_ended = refl
+-- that play has those entries, in their order
+last_play_noted : last_play.entries ≡ noted
+unfolding last_play noted next_in timeshare_priority priority_at score_of batch_priority use_steps updated_use slid_use ran_ticks
+last_play_noted = refl
 
--- its text
+-- the outcome of those entries, step by step from the start
+noted_ended : outcome_of lost_turn lost_turn.scripts noted ≡ ended
+unfolding noted ended replayed timeshare_priority priority_at score_of batch_priority use_steps updated_use slid_use ran_ticks
+noted_ended = refl
+
+-- the text of what they come to
 ended_traced : trace_text ended ≡ lost_turn_trace
-unfolding ended
+unfolding noted ended
 ended_traced =
     rw (digits_0, digits_1, digits_2, digits_3, digits_4, digits_5, digits_17, digits_64, digits_172, digits_1024, digits_20000, digits_20001) refl
 
 -- the trace of a thread that sleeps and is woken, with a turn lost between
 pub lost_turn_traced : LostTurnIsTraced
-lost_turn_traced = traced_after 4 lost_turn last_play ended lost_turn_trace (lit≤ tt) four_rounds still last_play_ended ended_traced
+lost_turn_traced = traced_after 4 lost_turn last_play noted ended lost_turn_trace (lit≤ tt) four_rounds still last_play_noted noted_ended ended_traced

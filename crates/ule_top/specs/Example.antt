@@ -1,11 +1,12 @@
 -- Two examples: the smallest, and one in which a turn is lost.
 use Rattle.std.specs.Prelude.{◌≡◌, ℕ, pos, true, false, List, [], ◌∷◌, ◌++◌, replicate, codes, refl}
+use Rattle.ule_model.specs.Ends.{outcome_of}
+use Rattle.ule_model.specs.Rounds.{play_of}
 use Rattle.ule_trace.specs.Trace.{trace_text}
 use Rattle.ule_types.specs.Form.{default_settings}
 use Rattle.ule_types.specs.declared.command.Command.TheVariants.{Yield, Sleep, Time, Wake}
 use Rattle.ule_types.specs.declared.setup.Form.TheVariants.{Ts}
 use Rattle.ule_types.specs.declared.setup.Setup.{Setup}
-use Rattle.ule_top.specs.Run.{outcome_of}
 
 -- a line of a text
 abbrev pub line : List ℕ → List ℕ
@@ -36,7 +37,7 @@ one_yield_trace =
 
 -- the definitions give that text
 abbrev pub OneYieldIsTraced : Type 0
-OneYieldIsTraced = trace_text (outcome_of one_yield) ≡ one_yield_trace
+OneYieldIsTraced = trace_text (outcome_of one_yield one_yield.scripts (play_of one_yield).entries) ≡ one_yield_trace
 
 -- ---- a turn lost to a thread in another worker's hand
 
@@ -65,4 +66,4 @@ lost_turn_trace =
 
 -- the definitions give that text
 abbrev pub LostTurnIsTraced : Type 0
-LostTurnIsTraced = trace_text (outcome_of lost_turn) ≡ lost_turn_trace
+LostTurnIsTraced = trace_text (outcome_of lost_turn lost_turn.scripts (play_of lost_turn).entries) ≡ lost_turn_trace

@@ -1,16 +1,17 @@
 -- What the top call promises of the command `run`, and the cause of every status.
-use Rattle.std.specs.Prelude.{◌≡◌, ◌≢◌, ℕ, ◌<◌, List, [], ◌∷◌, ◌++◌, codes, Option, Some, ◌⊎◌}
+use Rattle.std.specs.Prelude.{◌≡◌, ◌≢◌, ℕ, ◌+◌, ◌<◌, true, List, [], ◌∷◌, ◌++◌, length, codes, Option, Some, Result, ◌⊎◌}
 use Rattle.std.specs.List.{AllByRecursion}
 use Rattle.ule_io.specs.Counter.{Rose}
-use Rattle.ule_io.specs.Sink.{Appends, AppendsFront, SinkState}
-use Rattle.ule_io.specs.Source.{ReadsWhole, SourceState}
-use Rattle.ule_model.specs.Finals.{thread_lines}
+use Rattle.ule_io.specs.Sink.{Appends, AppendsFront, SinkState, WroteWhole}
+use Rattle.ule_io.specs.Source.{Gives, ReadsWhole, SourceState}
+use Rattle.ule_io.specs.declared.writing.WriteFault.{WriteFault}
+use Rattle.ule_model.specs.Ends.{outcome_of}
 use Rattle.ule_model.specs.History.{IsHistoryOf}
 use Rattle.ule_model.specs.Places.{lock_of}
 use Rattle.ule_model.specs.Rounds.{play_of}
 use Rattle.ule_scenario.specs.Scenario.{Spells}
 use Rattle.ule_trace.specs.Trace.{trace_text}
-use Rattle.ule_types.specs.Outcome.{OutcomeValue}
+use Rattle.ule_types.specs.declared.outcome.ThreadLine.{ThreadLine}
 use Rattle.ule_types.specs.declared.setup.Setup.{Setup}
 
 -- the most bytes that a scenario may have
@@ -21,43 +22,59 @@ scenario_limit = 1048576
 abbrev pub run_words : List (List ℕ)
 run_words = codes "run" ∷ []
 
--- the history of rounds of a setup with its final lines
-abbrev pub outcome_of : Setup → OutcomeValue
-outcome_of s = record {
-  entries = (play_of s).entries;
-  threads = thread_lines (play_of s).world.members;
-  cpus = (play_of s).world.lines;
-  now = (play_of s).now;
-  room = 0;
-}
+-- the trace of a setup's history of rounds
+abbrev pub rounds_text : Setup → List ℕ
+rounds_text s = trace_text (outcome_of s s.scripts (play_of s).entries)
+
+-- a thread's word names the lock of its place, and there is one
+abbrev pub NamesItsLock : ThreadLine → Type 0
+NamesItsLock line = (l : ℕ) × (line.word ≡ Some l) × (lock_of line.place ≡ Some l)
 
 -- the line of a refusal while the grammar isn't whole
 abbrev pub refusal_text : List ℕ
 refusal_text = codes "refused 0 0 0" ++ 10 ∷ []
 
--- the headline for `run`: the whole input spells a setup; the trace of its history of rounds was written;
+-- the headline for `run`: the whole input spells a setup; the trace of its history of rounds was written and flushed;
 -- that history is legal and whole, and each thread's word names the lock of its place
 pub record HasRun (s0 s1 : SourceState) (k0 k1 : SinkState) : Type 0 where
   pub input : List ℕ
   pub setup : Setup
   pub read : ReadsWhole s0 s1 scenario_limit input
   pub spelled : Spells input setup
-  pub written : Appends k0.taken k1.taken (trace_text (outcome_of setup))
+  pub written : Appends k0.taken k1.taken (trace_text (outcome_of setup setup.scripts (play_of setup).entries))
+  pub flushed : k1.flushed ≡ true
   pub history : IsHistoryOf setup (play_of setup)
-  pub words : AllByRecursion (λ line. line.word ≡ lock_of line.place) (thread_lines (play_of setup).world.members)
+  pub words : AllByRecursion NamesItsLock (outcome_of setup setup.scripts (play_of setup).entries).threads
+
+-- these bytes spell no setup
+abbrev pub IsUnspelled : List ℕ → Type 0
+IsUnspelled input = (s : Setup) → Spells input s → ⊥
 
 -- the input, where the source tells it, spells no setup
 abbrev pub SpellsNone : Option (List ℕ) → Type 0
-SpellsNone left = (input : List ℕ) → left ≡ Some input → (s : Setup) → Spells input s → ⊥
+SpellsNone left = (input : List ℕ) → left ≡ Some input → IsUnspelled input
 
--- a refusal: the line of the refusal was written
+-- what was read spells no setup: it is the whole input, which spells none, or one byte more than a scenario may have
+pub data ReadNone (s0 s1 : SourceState) : Type 0 where
+  unspelled : (input : List ℕ) → ReadsWhole s0 s1 scenario_limit input → IsUnspelled input → ReadNone s0 s1
+  too_long : (taken : List ℕ) → Gives s0.left s1.left taken → length taken ≡ scenario_limit + 1 → ReadNone s0 s1
+
+-- a refusal: what was read spells no setup, and the line of the refusal was written and flushed
 pub record IsRefused (s0 s1 : SourceState) (k0 k1 : SinkState) : Type 0 where
   pub cause : SpellsNone s0.left
+  pub read : ReadNone s0 s1
   pub written : Appends k0.taken k1.taken refusal_text
+  pub flushed : k1.flushed ≡ true
 
--- a front of a text was taken
-pub record TookFront (k0 k1 : SinkState) : Type 0 where
+-- the text that is due: the trace of the setup that the whole input spells, or the line of the refusal where what was read spells none
+pub data IsDue (s0 s1 : SourceState) (text : List ℕ) : Type 0 where
+  trace_due : (input : List ℕ) (s : Setup) → ReadsWhole s0 s1 scenario_limit input → Spells input s → text ≡ rounds_text s → IsDue s0 s1 text
+  refusal_due : ReadNone s0 s1 → text ≡ refusal_text → IsDue s0 s1 text
+
+-- a fault of writing: a front of the text that is due was taken, and nothing else
+pub record TookFront (s0 s1 : SourceState) (k0 k1 : SinkState) : Type 0 where
   pub text : List ℕ
+  pub due : IsDue s0 s1 text
   pub front : AppendsFront k0.taken k1.taken text
   pub cause : Rose k0.faults k1.faults ⊎ Rose k0.empty_takes k1.empty_takes
 
@@ -71,7 +88,7 @@ pub record Answers (words : List (List ℕ)) (s0 s1 : SourceState) (k0 k1 : Sink
   pub untouched : status ≡ 1 → (s1 ≡ s0) × (k1 ≡ k0)
   pub read_fault : status ≡ 2 → Rose s0.faults s1.faults × (k1 ≡ k0)
   pub refused : status ≡ 3 → IsRefused s0 s1 k0 k1
-  pub write_fault : status ≡ 4 → TookFront k0 k1
+  pub write_fault : status ≡ 4 → TookFront s0 s1 k0 k1
   pub no_memory : status ≡ 5 → k1 ≡ k0
   -- the counts stand as before the call after every other status
   pub read_kept : status ≢ 2 → s1.faults ≡ s0.faults
@@ -79,22 +96,28 @@ pub record Answers (words : List (List ℕ)) (s0 s1 : SourceState) (k0 k1 : Sink
 
 -- ---- the parts of the answer
 
--- what writing a text comes to, by the status where it was written whole
+-- what writing and flushing a text comes to, by the status where both were done
 pub record Wrote (k0 k1 : SinkState) (text : List ℕ) (good status : ℕ) : Type 0 where
   pub known : (status ≡ good) ⊎ (status ≡ 4)
   pub whole : status ≡ good → Appends k0.taken k1.taken text
+  pub flushed : status ≡ good → k1.flushed ≡ true
   pub fault : status ≡ 4 → AppendsFront k0.taken k1.taken text × (Rose k0.faults k1.faults ⊎ Rose k0.empty_takes k1.empty_takes)
   pub kept : status ≢ 4 → (k1.faults ≡ k0.faults) × (k1.empty_takes ≡ k0.empty_takes)
 
+-- how the writing of a text ends: whatever text went to the sink k with this result, the sink is k1 then, and the status tells it
+abbrev pub Finishes : SinkState → SinkState → Result Unit WriteFault → ℕ → ℕ → Type 0
+Finishes k k1 written good status = (k0 : SinkState) (text : List ℕ) → WroteWhole k0 k text written → Wrote k0 k1 text good status
+
+-- the line of a refusal was written
 abbrev pub AnswersRefusal : SinkState → SinkState → ℕ → Type 0
 AnswersRefusal k0 k1 status = Wrote k0 k1 refusal_text 3 status
 
--- a setup was played and its trace written, or there was no memory
+-- what a setup comes to: its trace was written, or there was no memory
 abbrev pub AnswersSetup : Setup → SinkState → SinkState → ℕ → Type 0
-AnswersSetup s k0 k1 status = Wrote k0 k1 (trace_text (outcome_of s)) 0 status ⊎ ((status ≡ 5) × (k1 ≡ k0))
+AnswersSetup s k0 k1 status = Wrote k0 k1 (rounds_text s) 0 status ⊎ ((status ≡ 5) × (k1 ≡ k0))
 
 -- what an input comes to: it spells a setup whose trace was written, or it spells none and is refused, or there was no memory
 pub data AnswersInput (input : List ℕ) (k0 k1 : SinkState) (status : ℕ) : Type 0 where
-  traced : (s : Setup) → Spells input s → Wrote k0 k1 (trace_text (outcome_of s)) 0 status → AnswersInput input k0 k1 status
-  refused : ((s : Setup) → Spells input s → ⊥) → AnswersRefusal k0 k1 status → AnswersInput input k0 k1 status
+  traced : (s : Setup) → Spells input s → Wrote k0 k1 (rounds_text s) 0 status → AnswersInput input k0 k1 status
+  refused : IsUnspelled input → AnswersRefusal k0 k1 status → AnswersInput input k0 k1 status
   no_memory : status ≡ 5 → k1 ≡ k0 → AnswersInput input k0 k1 status

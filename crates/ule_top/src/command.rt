@@ -1,15 +1,13 @@
 ghost use Rattle.std.specs.Prelude.{◌≡◌, ◌↔◌, ◌≢◌, IsTrue, map, string_bytes};
-ghost use Rattle.ule_trace.specs.Trace.{trace_text};
-ghost use Rattle.ule_io.specs.Sink.{WroteWhole};
 ghost use Rattle.ule_types.specs.Form.{IsOfForm};
-ghost use Rattle.ule_top.specs.Run.{Answers, AnswersInput, AnswersRefusal, AnswersSetup, refusal_text, run_words};
+ghost use Rattle.ule_top.specs.Run.{Answers, AnswersInput, AnswersRefusal, AnswersSetup, Finishes, run_words};
 
 use std::alloc::Global;
 use ule_io::{ReadAllFault, Sink, Source, WriteFault, read_all, write_all};
 use ule_scenario::read;
 use ule_seq::play;
 use ule_trace::write_trace;
-use ule_types::{Outcome, ScenarioFault, Setup};
+use ule_types::{ScenarioFault, Setup};
 
 /// The most bytes that a scenario may have.
 const SCENARIO_LIMIT: usize = 1_048_576;
@@ -33,9 +31,14 @@ const WRITE_FAULT: u8 = 4;
 const NO_MEMORY: u8 = 5;
 
 /// Performs the command that the words name, from the source to the sink, and gives the exit
-/// status: 0 done, 1 no command, 2 read fault, 3 refused, 4 write fault, 5 no memory. The one
-/// command so far is `run`: it reads a scenario to its end, plays it in rounds and writes the
-/// trace. The sink is flushed once, at the end.
+/// status. The one command so far is `run`: it reads a scenario to its end, plays it in rounds and
+/// writes the trace.
+///
+/// 0: done, and the trace was written and flushed. 1: the words are no command, and nothing is read
+/// or written. 2: a read failed, within the first 1,048,576 bytes, and nothing is written. 3: the
+/// input spells no setup or has more bytes than that, and the line `refused 0 0 0` was written and
+/// flushed. 4: a write or a flush failed or a write took no byte, and a front of the text of 0 or 3
+/// was taken, after as much was read as there. 5: memory ran out, and nothing is written.
 pub fn top<S: Source, K: Sink>(alloc: Global, words: &[String], src: &mut S, out: &mut K) -> u8
     ensures { Answers (map string_bytes words.now) (S.state src.old) (S.state src.new)
         (K.state out.old) (K.state out.new) result }
@@ -47,7 +50,7 @@ pub fn top<S: Source, K: Sink>(alloc: Global, words: &[String], src: &mut S, out
     }
 }
 
-/// Whether the words are those of the command `run`.
+/// Whether the words are the one word `run`.
 fn is_run(words: &[String]) -> bool
     ensures { IsTrue result ↔ (map string_bytes words.now ≡ run_words) }
 {
@@ -86,22 +89,11 @@ fn run_setup<K: Sink>(alloc: Global, setup: &Setup, out: &mut K) -> u8
     ensures { AnswersSetup setup.now (K.state out.old) (K.state out.new) result }
 {
     match play(alloc, setup) {
-        Ok(outcome) => match finish(setup, &outcome, out) {
-            Ok(()) => DONE,
-            Err(_) => WRITE_FAULT,
-        },
+        Ok(outcome) => {
+            let written = write_trace(setup, &outcome, out);
+            finish(written, DONE, out)
+        }
         Err(_) => NO_MEMORY,
-    }
-}
-
-/// Writes the trace of an outcome to its end.
-fn finish<K: Sink>(setup: &Setup, outcome: &Outcome, out: &mut K) -> Result<(), WriteFault>
-    ensures { WroteWhole (K.state out.old) (K.state out.new) (trace_text outcome.now) result }
-{
-    write_trace(setup, outcome, out)?;
-    match out.flush() {
-        Ok(()) => Ok(()),
-        Err(_) => Err(WriteFault::Failed),
     }
 }
 
@@ -109,18 +101,20 @@ fn finish<K: Sink>(setup: &Setup, outcome: &Outcome, out: &mut K) -> Result<(), 
 fn refuse<K: Sink>(out: &mut K) -> u8
     ensures { AnswersRefusal (K.state out.old) (K.state out.new) result }
 {
-    match write_refusal(out) {
-        Ok(()) => REFUSED,
-        Err(_) => WRITE_FAULT,
-    }
+    let written = write_all(out, b"refused 0 0 0\n");
+    finish(written, REFUSED, out)
 }
 
-fn write_refusal<K: Sink>(out: &mut K) -> Result<(), WriteFault>
-    ensures { WroteWhole (K.state out.old) (K.state out.new) refusal_text result }
+/// Flushes a text that was written whole, and gives `good` if that is done too.
+fn finish<K: Sink>(written: Result<(), WriteFault>, good: u8, out: &mut K) -> u8
+    requires { good ≢ WRITE_FAULT }
+    ensures { Finishes (K.state out.old) (K.state out.new) written good result }
 {
-    write_all(out, b"refused 0 0 0\n")?;
+    if written.is_err() {
+        return WRITE_FAULT;
+    }
     match out.flush() {
-        Ok(()) => Ok(()),
-        Err(_) => Err(WriteFault::Failed),
+        Ok(()) => good,
+        Err(_) => WRITE_FAULT,
     }
 }

@@ -5,7 +5,5 @@
 pub use command::top;
 pub use example::{lost_turn_is_traced, one_yield_is_traced};
 
-pub mod command;
-pub mod example;
-#[cfg(test)]
-mod tests;
+mod command;
+mod example;

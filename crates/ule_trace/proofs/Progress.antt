@@ -10,14 +10,15 @@ use Rattle.ule_trace.specs.Held.{Moves}
 pub wrote_nothing : (s : SinkState) → WroteWhole s s [] (Ok tt)
 wrote_nothing s = grind (arith, writes)
 
+-- a front of the text was written, what is held comes next, and the rest follows
 pub record Holds (old new : SinkState) (held rest text : List ℕ) : Type 0 where
   pub moved : List ℕ
   pub written : WroteWhole old new moved (Ok tt)
   pub parts : text ≡ moved ++ (held ++ rest)
 
 -- nothing was spelled yet
-pub starts : (s : SinkState) (text : List ℕ) → Holds s s [] text text
-starts s text = record { moved = []; written = wrote_nothing s; parts = refl }
+pub nothing_spelled : (s : SinkState) (text : List ℕ) → Holds s s [] text text
+nothing_spelled s text = record { moved = []; written = wrote_nothing s; parts = refl }
 
 -- the next part was spelled
 pub spelled : {old new : SinkState} {held rest text : List ℕ} (part left : List ℕ) → Holds old new held rest text → rest ≡ part ++ left → Holds old new (held ++ part) left text

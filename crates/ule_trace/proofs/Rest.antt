@@ -26,6 +26,7 @@ after_entries o k =
     lines_text (entry_lines (k + 1) (drop k o.entries) ++
     (map thread_words o.threads ++ (cpu_lines 0 o.cpus ++ closing_lines o.now (length o.entries))))
 
+-- behind the first k items of a list stands the item at place k
 drop_got : {X : Type 0} (xs : List X) (k : ℕ) (x : X) → slice_get xs k ≡ Some x → drop k xs ≡ x ∷ drop (k + 1) xs
 drop_got xs k x e =
     let within = slice_get_within xs k x e in
@@ -33,22 +34,28 @@ drop_got xs k x e =
     let same : get_or xs k x ≡ x = cc in
     drop_more xs k x within ∙ ap (λ y. y ∷ drop (k + 1) xs) same
 
+-- the line of the next entry comes first of what is left
 pub entry_next : (o : OutcomeValue) (k : ℕ) (e : Entry) → slice_get o.entries k ≡ Some e → after_entries o k ≡ line_text (entry_words (k + 1) e) ++ after_entries o (k + 1)
 entry_next o k e got = rw (drop_got o.entries k e got) refl
 
+-- behind the last entry come the thread lines
 pub entries_end : (o : OutcomeValue) (k : ℕ) → length o.entries ≤ k → after_entries o k ≡ after_threads o 0
 entries_end o k past = rw (drop_all k o.entries past) refl
 
+-- the next thread line comes first of what is left
 pub thread_next : (o : OutcomeValue) (k : ℕ) (l : ThreadLine) → k < length o.threads → l ≡ get_or o.threads k l → after_threads o k ≡ line_text (thread_words l) ++ after_threads o (k + 1)
 thread_next o k l within read = rw (drop_more o.threads k l within, ← read) refl
 
+-- behind the last thread line come the CPU lines
 pub threads_end : (o : OutcomeValue) (k : ℕ) → length o.threads ≤ k → after_threads o k ≡ after_cpus o 0
 threads_end o k past = rw (drop_all k o.threads past) refl
 
+-- the next CPU line comes first of what is left
 pub cpu_next : (o : OutcomeValue) (lines : List CpuLine) (k : ℕ) (d : CpuLine) → lines ≡ o.cpus → k < length lines → after_cpus o k ≡ line_text (cpu_words k (get_or lines k d)) ++ after_cpus o (k + 1)
 cpu_next o lines k d e within =
     let within : k < length o.cpus = omega (arith, ap length e) in
     rw (e, drop_more o.cpus k d within) refl
 
+-- behind the last CPU line come the closing lines
 pub cpus_end : (o : OutcomeValue) (k : ℕ) → length o.cpus ≤ k → after_cpus o k ≡ lines_text (closing_lines o.now (length o.entries))
 cpus_end o k past = rw (drop_all k o.cpus past) refl

@@ -8,6 +8,7 @@ use Rattle.ule_trace.specs.Line.{optional_word, flag_word}
 use Rattle.ule_trace.specs.PlaceText.{final_place_word}
 use Rattle.ule_types.specs.declared.outcome.ThreadLine.{ThreadLine}
 
+-- the keyword of a class
 abbrev pub class_word : Class → List ℕ
 class_word Ithd = codes "ithd"
 class_word Rt = codes "rt"

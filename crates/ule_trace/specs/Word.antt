@@ -17,4 +17,8 @@ word_text Absent = codes "-"
 -- whether a word is at most 24 bytes long
 abbrev pub is_short : Word → Bool
 is_short (Text t) = nat_le (length t.now) 24
-is_short _ = true
+is_short (Number n) = true
+is_short (Signed z) = true
+is_short (Worker w) = true
+is_short (Flag b) = true
+is_short Absent = true

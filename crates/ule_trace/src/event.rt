@@ -63,7 +63,8 @@ pub fn spell_event(held: &mut Held, e: Event)
     }
 }
 
-/// Writes the text of an event, as `switch 0 yield`, and no newline.
+/// Writes the text of an event, as `switch 0 yield`, and no newline. Nothing is flushed. Where a
+/// write fails or takes no byte, a front of the text was taken.
 pub fn write_event<K: Sink>(e: &Event, out: &mut K) -> Result<(), WriteFault>
     ensures { WroteWhole (K.state out.old) (K.state out.new) (event_text e.now) result }
 {

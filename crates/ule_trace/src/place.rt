@@ -57,7 +57,8 @@ pub fn spell_place(held: &mut Held, place: Place)
     }
 }
 
-/// Writes the text of a place, as `q0.batch.17`, and no newline.
+/// Writes the text of a place, as `q0.batch.17`, and no newline. Nothing is flushed. Where a
+/// write fails or takes no byte, a front of the text was taken.
 pub fn write_place<K: Sink>(p: &Place, out: &mut K) -> Result<(), WriteFault>
     ensures { WroteWhole (K.state out.old) (K.state out.new) (place_word p.now) result }
 {

@@ -167,7 +167,8 @@ pub fn spell_reply(held: &mut Held, r: Reply)
     }
 }
 
-/// Writes the text of a reply, as `switched - 0 0`, and no newline.
+/// Writes the text of a reply, as `switched - 0 0`, and no newline. Nothing is flushed. Where a
+/// write fails or takes no byte, a front of the text was taken.
 pub fn write_reply<K: Sink>(r: &Reply, out: &mut K) -> Result<(), WriteFault>
     ensures { WroteWhole (K.state out.old) (K.state out.new) (reply_text r.now) result }
 {

@@ -37,7 +37,9 @@ fn spell_closing(held: &mut Held, now: u64, count: u64)
 }
 
 /// Writes the trace of an outcome: its entries, numbered from 1, its thread lines, its CPU lines,
-/// the time at the end and the number of entries. Nothing is flushed.
+/// the time at the end, in hz ticks, and the number of entries. It goes out in pieces of at most
+/// 8,192 bytes, and nothing is flushed. Where a write fails or takes no byte, a front of the trace
+/// was taken. The setup has no part in the text.
 pub fn write_trace<K: Sink>(_setup: &Setup, o: &Outcome, out: &mut K) -> Result<(), WriteFault>
     ensures { WroteWhole (K.state out.old) (K.state out.new) (trace_text o.now) result }
 {

@@ -5,7 +5,7 @@ use Rattle.ule_score.specs.declared.record.Settings.{Settings}
 use Rattle.ule_types.specs.declared.command.Command.{Command}
 use Rattle.ule_types.specs.declared.command.Command.TheVariants.{Tick, Time, Yield, Resched, Sleep, Wake, Lend, Unlend, Renice, Fork, Exit, Idle, Balance, Look}
 use Rattle.ule_types.specs.declared.setup.Form.{Form}
-use Rattle.ule_types.specs.declared.setup.Form.TheVariants.{Ts}
+use Rattle.ule_types.specs.declared.setup.Form.TheVariants as form
 use Rattle.ule_types.specs.declared.setup.ThreadSpec.{ThreadSpec}
 use Rattle.ule_types.specs.declared.setup.Setup.{Setup}
 
@@ -13,9 +13,13 @@ use Rattle.ule_types.specs.declared.setup.Setup.{Setup}
 abbrev pub default_settings : Settings
 default_settings = record { interact = 30; slice = 12; preempt = 80; steal = 2 }
 
+-- whether a thread is of the timeshare class
 abbrev pub is_timeshare : Form → Bool
-is_timeshare (Ts n) = true
-is_timeshare _ = false
+is_timeshare (form.Ts n) = true
+is_timeshare (form.Ithd p) = false
+is_timeshare (form.Rt p) = false
+is_timeshare (form.Fifo p) = false
+is_timeshare (form.Idle p) = false
 
 -- whether a thread is a timeshare thread, which is bound where there are several CPUs
 abbrev pub is_plain : ℕ → ThreadSpec → Bool
@@ -38,9 +42,22 @@ is_built Idle = false
 is_built Balance = false
 is_built (Look c) = false
 
+-- whether a command is a tick
 abbrev pub is_tick : Command → Bool
 is_tick Tick = true
-is_tick _ = false
+is_tick (Time k) = false
+is_tick Yield = false
+is_tick Resched = false
+is_tick (Sleep channel) = false
+is_tick (Wake t) = false
+is_tick (Lend t p) = false
+is_tick (Unlend t) = false
+is_tick (Renice t n) = false
+is_tick (Fork t) = false
+is_tick Exit = false
+is_tick Idle = false
+is_tick Balance = false
+is_tick (Look c) = false
 
 -- whether no balance comes due while it has no items: on several CPUs, worker 0 has fewer ticks
 -- than the least balance count

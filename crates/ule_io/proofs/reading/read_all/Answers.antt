@@ -16,6 +16,7 @@ returns-then-is_err g c =
         grind (arith, common_steps),
       );
       failed = λ e. cc;
+      fault_within = λ e. cc;
       else_kept = λ _. grind arith;
       told = grind (arith, common_steps);
     }

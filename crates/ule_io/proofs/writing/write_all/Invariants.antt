@@ -1,4 +1,4 @@
-use Rattle.std.proofs.Common.{◌≡◌, List, ℕ, ◌++◌, length}
+use Rattle.std.proofs.Common.{◌≡◌, ◌<◌, List, ℕ, ◌++◌, length, false}
 use Rattle.ule_io.specs.Sink.{Appends}
 use Rattle.ule_io.proofs.writing.write_all.Given as goal
 
@@ -13,6 +13,8 @@ invariant-loop-rest g l =
       taken : Appends old.taken new.taken front;
       faults : new.faults ≡ old.faults;
       empty_takes : new.empty_takes ≡ old.empty_takes;
+      unflushed : 0 < length front → new.flushed ≡ false;
+      still_flushed : length front ≡ 0 → new.flushed ≡ old.flushed;
     }
 
 abbrev pub decreases-loop-rest : goal.decreases-loop-rest

@@ -1,5 +1,5 @@
 use Rattle.std.proofs.Common.{refl}
-use Rattle.ule_scenario.proofs.Text.{last_line}
+use Rattle.ule_scenario.proofs.Ends.{last_line}
 use Rattle.ule_scenario.proofs.section.is_last_line.Goals as goal
 
 pub returns-then-is_end : goal.returns-then-is_end

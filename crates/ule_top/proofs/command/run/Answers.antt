@@ -1,7 +1,7 @@
 use Rattle.std.proofs.Common.{◌≡◌, ℕ, List, Err, sym, ◌∙◌, ap, subst}
 use Rattle.ule_io.specs.declared.reading.ReadAllFault.TheVariants.{ReadFault, TooLong}
-use Rattle.ule_top.specs.Run.{AnswersInput}
-use Rattle.ule_top.proofs.Answering.{answers_input, answers_refusal, too_long_spells_none}
+use Rattle.ule_top.specs.Run.{AnswersInput, too_long}
+use Rattle.ule_top.proofs.Answering.{answers_input, answers_refusal}
 use Rattle.ule_top.proofs.command.run.Goals as goal
 
 pub returns-in-Ok : goal.returns-in-Ok
@@ -11,6 +11,7 @@ returns-in-Ok g c =
 
 pub returns-in-Err-TooLong : goal.returns-in-Err-TooLong
 returns-in-Err-TooLong g c =
-    let too_long : c.read_all.result ≡ Err TooLong = c.in-Err-TooLong.is ∙ ap Err c.in-Err-TooLong.field-0-is in
-    answers_refusal _ _ _ _ _ (too_long_spells_none (g.S.Source.state c.args.src.now) (λ left. c.read_all.ensures.more left too_long))
-    (c.read_all.ensures.else_kept (λ h. let fault : Err TooLong ≡ Err ReadFault = sym too_long ∙ h in cc)) c.refuse.ensures
+    let past : c.read_all.result ≡ Err TooLong = c.in-Err-TooLong.is ∙ ap Err c.in-Err-TooLong.field-0-is in
+    let took = c.read_all.ensures.too_long past in
+    answers_refusal _ _ _ _ _ (too_long took.0 took.1 took.2)
+    (c.read_all.ensures.else_kept (λ h. let fault : Err TooLong ≡ Err ReadFault = sym past ∙ h in cc)) c.refuse.ensures

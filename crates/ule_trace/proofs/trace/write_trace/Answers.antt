@@ -2,7 +2,7 @@ use Rattle.std.proofs.Common.{◌≡◌, ◌+◌, ◌-◌, ◌<◌, ◌≤◌, [
 use Rattle.std.specs.Prelude.{slice_get}
 use Rattle.std.proofs.lemmas.List.{append-nil}
 use Rattle.std.proofs.lemmas.Result.{err_from_is_err_and}
-use Rattle.ule_trace.proofs.Progress.{starts, spelled, made_room, failed, finished}
+use Rattle.ule_trace.proofs.Progress.{nothing_spelled, spelled, made_room, failed, finished}
 use Rattle.ule_trace.proofs.Rest.{after_entries, entry_next, thread_next, cpu_next, cpus_end}
 use Rattle.ule_score.specs.declared.record.CpuLine.{CpuLine}
 use Rattle.ule_trace.specs.Line.{line_text, lines_text}
@@ -12,7 +12,7 @@ use Rattle.ule_trace.proofs.trace.write_trace.Goals as goal
 pub loop-k-init : goal.loop-k-init
 loop-k-init g c =
     let o = c.args.o.now in
-    let begun = spelled (line_text (codes "ule-trace" ∷ codes "1" ∷ [])) (after_entries o 0) (starts (g.K.Sink.state c.args.out.now) (trace_text o)) refl in
+    let begun = spelled (line_text (codes "ule-trace" ∷ codes "1" ∷ [])) (after_entries o 0) (nothing_spelled (g.K.Sink.state c.args.out.now) (trace_text o)) refl in
     rw (c.text.ensures, c.new-held.ensures) begun
 
 pub returns-in_err-make_room : goal.returns-in_err-make_room
@@ -71,4 +71,4 @@ returns g c =
     let last = closing_lines o.now (length o.entries) in
     let rest = cpus_end o c.loop-c.c past ∙ sym (append-nil (lines_text last)) in
     let h = spelled (lines_text last) [] (made_room c.loop-c.invariant c.in_ok-make_room-4.ensures.moved) rest in
-    finished (rw (c.spell_closing.ensures, c.end_time.ensures, c.from-2.ensures, c.len.ensures) h) (rw c.as_slice.ensures at c.write_all.ensures)
+    finished (rw (c.spell_closing.ensures, c.end_time.ensures, c.from-2.ensures, c.len.ensures) h) (rw c.as_slice.ensures at c.write_all.ensures.wrote)

@@ -1,7 +1,7 @@
-use crate::read;
 use std::alloc::{AllocError, Global};
 use std::test::Fail;
 use ule_prio::{Cpu, Nice, ThreadId};
+use ule_scenario::read;
 use ule_score::Settings;
 use ule_types::{Command, Form, ScenarioFault, ThreadSpec};
 

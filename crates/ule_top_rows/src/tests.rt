@@ -1,7 +1,7 @@
-use super::*;
 use std::alloc::{AllocError, Global};
 use std::test::Fail;
 use ule_io::{MemSink, MemSource};
+use ule_top::top;
 
 /// One CPU and no thread, with a worker that yields twice.
 const TWO_YIELDS: &[u8] = b"ule-scenario 1\njitter 1\ncpus 1\nscript 0\nyield\nyield\nend\n";
@@ -70,6 +70,7 @@ fn run_writes_a_trace_or_a_refusal(rt: HostRuntime) -> Result<(), Fail> {
         assert_eq!(rt; status(rt.alloc(), &["run"], &mut src, &mut out)?, want);
         assert!(rt; src.left().is_empty(), "the whole input is read");
         assert_eq!(rt; out.bytes(), text);
+        assert!(rt; out.is_flushed());
     }
     Ok(())
 }

@@ -1,5 +1,8 @@
-use super::*;
 use std::test::Fail;
+use ule_io::{
+    Failed, MemSink, MemSource, ReadAllFault, Sink, Source, StdSink, StdSource, WriteFault,
+    read_all, write_all,
+};
 
 #[test]
 fn a_source_in_memory_plays_back(rt: HostRuntime) -> Result<(), Fail> {
@@ -26,7 +29,10 @@ fn a_sink_in_memory_keeps_what_it_takes(rt: HostRuntime) -> Result<(), Fail> {
     assert_eq!(rt; out.write(b"f"), Err(Failed), "the room is full");
     assert_eq!(rt; out.write(b""), Ok(0));
     assert_eq!(rt; out.flush(), Err(Failed));
+    assert!(rt; !out.is_flushed());
     assert_eq!(rt; out.flush(), Ok(()));
+    assert_eq!(rt; out.write(b""), Ok(0));
+    assert!(rt; out.is_flushed(), "nothing was taken since");
     assert_eq!(rt; out.bytes(), b"abcde".as_slice());
     Ok(())
 }
@@ -77,13 +83,14 @@ fn a_fault_leaves_a_front(rt: HostRuntime) -> Result<(), Fail> {
     for (room, most, fails, want, front) in cases {
         let mut out = MemSink::start(rt.alloc(), room, most, fails)?;
         assert_eq!(rt; write_all(&mut out, b"abcdefgh"), want);
+        assert_eq!(rt; out.is_flushed(), front.is_empty());
         assert_eq!(rt; out.bytes(), front);
     }
     Ok(())
 }
 
 #[test]
-fn standard_input_is_read_to_its_end(rt: HostRuntime) -> Result<(), Fail> {
+fn no_standard_input_is_the_end(rt: HostRuntime) -> Result<(), Fail> {
     let mut src = StdSource::over(rt.stdin());
     let bytes = read_all(rt.alloc(), &mut src, 1 << 20)?;
     assert!(rt; bytes.as_slice().is_empty(), "a test is given no input");
