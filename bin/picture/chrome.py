@@ -4,6 +4,7 @@ One process has a track for each CPU and its counter of the load, and one a trac
 is one instant event, on the track of the CPU where it happens, or else of the thread that it is about.
 """
 import json
+from itertools import chain
 
 from .scene import stretches, words_of
 from .story import named_in
@@ -19,10 +20,10 @@ def chrome_text(scene, axis):
     def at(coordinate):
         return (axis.at(coordinate) - axis.low) * unit
 
-    events = [*names(scene), *runs(scene, at), *loads(scene, at), *places(scene, at), *entries(scene, at)]
+    spell = json.JSONEncoder(separators=(",", ":")).encode
+    events = chain(names(scene), runs(scene, at), loads(scene, at), places(scene, at), entries(scene, at))
     head = {"displayTimeUnit": "ms", "otherData": other(scene, axis)}
-    body = ",\n".join(json.dumps(event, separators=(",", ":")) for event in events)
-    return '%s,"traceEvents":[\n%s\n]}\n' % (json.dumps(head, separators=(",", ":"))[:-1], body)
+    return '%s,"traceEvents":[\n%s\n]}\n' % (spell(head)[:-1], ",\n".join(map(spell, events)))
 
 
 def other(scene, axis):

@@ -31,7 +31,7 @@ function entryAxis() {
     name: "entries", low, high,
     at: (coordinate) => coordinate,
     from: within, upTo: within, standing: within,
-    words: (value) => String(value),
+    words: (value) => value < scene.first ? "" : String(value),
   };
 }
 

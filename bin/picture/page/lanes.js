@@ -56,7 +56,7 @@ function drawStrip(frame, numbers, y) {
     lined = Math.floor(x);
     context.fillStyle = scene.looks.line;
     context.fillRect(lined, y + 2, 1, STRIP - 2);
-    const room = (at + 1 < numbers.length ? frame.px(numbers[at + 1]) : frame.right) - x;
+    const next = at + 1 < numbers.length ? frame.px(numbers[at + 1]) : frame.right, room = Math.min(next, frame.right) - x;
     const offset = markOf(numbers[at]) === null ? 3 : 17;
     if (room > 20 && context.measureText(eventOf(numbers[at])).width + offset + 3 <= room) {
       context.fillText(eventOf(numbers[at]), x + offset, y + 11);

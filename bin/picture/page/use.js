@@ -92,18 +92,24 @@ function entryAt(lane, x) {
   return frame.axis.standing(frame.valueAt(x));
 }
 
-// The lines of the entries that stand in one column of pixels with a point, the one at the point first.
-function linesAt(lane, x) {
-  const first = entryAt(lane, x), lines = hasEntry(first) ? [lineOf(first)] : [];
-  let others = 0;
-  const to = Math.min(frame.axis.upTo(frame.valueAt(x + 0.5)), scene.last);
-  for (let number = Math.max(frame.axis.from(frame.valueAt(x - 0.5)), scene.first); number <= to; number++) {
-    if (number === first || Math.abs(frame.px(number) - x) > 1) continue;
-    others += 1;
-    if (lines.length < LINES_IN_TIP) lines.push(lineOf(number));
+// The entries that stand in one column of pixels with a point or with the entry there, which comes first.
+function entriesAt(lane, x) {
+  const first = entryAt(lane, x);
+  if (!hasEntry(first)) return [];
+  const there = frame.px(first), numbers = [first];
+  const from = Math.max(frame.axis.from(frame.valueAt(Math.min(x, there) - 1)), scene.first);
+  const to = Math.min(frame.axis.upTo(frame.valueAt(Math.max(x, there) + 1)), scene.last);
+  for (let number = from; number <= to; number++) {
+    const far = Math.min(Math.abs(frame.px(number) - x), Math.abs(frame.px(number) - there));
+    if (number !== first && far <= 0.5) numbers.push(number);
   }
-  const more = others - (lines.length - 1);
-  return more > 0 && lines.length ? lines.concat([`and ${more} more here; zoom in to tell them apart`]) : lines;
+  return numbers;
+}
+
+function linesAt(lane, x) {
+  const numbers = entriesAt(lane, x), lines = numbers.slice(0, LINES_IN_TIP).map(lineOf);
+  const more = numbers.length - lines.length;
+  return more > 0 ? lines.concat([`and ${more} more here; zoom in to tell them apart`]) : lines;
 }
 
 // What a lane shows at a point, in words.
