@@ -45,7 +45,7 @@ def legend():
     """The states and the marks with what they say."""
     states = "".join(state(name, style) for name, style in STATES.items())
     marks = "".join(mark(name, *MARKS[name]) for name in MARKS)
-    return "<svg width='0' height='0' aria-hidden='true'><defs>%s</defs></svg>%s%s" % ("".join(patterns()), states, marks)
+    return "<svg width='0' height='0' aria-hidden='true'><defs>%s</defs></svg>%s%s" % ("".join(patterns(STATES)), states, marks)
 
 
 def state(name, style):

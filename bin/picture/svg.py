@@ -52,10 +52,10 @@ def fill_of(style):
     return "url(#%s)" % style if STATES[style].lines else STATES[style].fill
 
 
-def patterns():
-    """The patterns of the states that have one."""
+def patterns(names):
+    """The patterns of those of the named states that have one."""
     for name, style in STATES.items():
-        if style.lines:
+        if name in names and style.lines:
             path = "".join("M%s %sL%s %s" % tuple(map(number, line)) for line in PATTERN_LINES[style.lines])
             lines = tag("path", d=path, stroke=EDGE, stroke_width=0.7)
             square = tag("rect", width=6, height=6, fill=style.fill) + lines
@@ -71,6 +71,7 @@ class Drawing:
         self.scale = min(WIDTH / span, GREATEST_COLUMN)
         self.width = GUTTER + span * self.scale + 16
         self.tints = {row.number: tint_of(order) for order, row in enumerate(scene.threads)}
+        self.used = {style_of(place) for row in scene.threads for place in row.pieces}
         self.greatest = max((max(row.pieces) for row in scene.loads), default=0)
         self.elements, self.y = [], TOP
 
@@ -106,7 +107,7 @@ class Drawing:
             return
         edge = FAINT if fill == "none" else EDGE
         parts = [tag("rect", x=x, y=self.y, width=width, height=BAR, fill=fill, stroke=edge, stroke_width=0.7)]
-        if len(words) * LETTER_WIDTH + 8 + offset <= width:
+        if words and len(words) * LETTER_WIDTH + 8 + offset <= width:
             room = len(words) * LETTER_WIDTH + 4
             parts.append(tag("rect", x=x + 3 + offset, y=self.y + 4, width=room, height=BAR - 8, fill="#FFFFFF", fill_opacity=0.75))
             parts.append(text(x + 5 + offset, self.y + 15, words))
@@ -116,8 +117,9 @@ class Drawing:
         """A mark at an entry."""
         fill, ink = MARK_COLOURS[mark]
         x, letter = self.x(coordinate) + 8, MARKS[mark][0]
-        self.add(tag("circle", cx=x, cy=y, r=7, fill=fill, stroke=ink if fill == "#FFFFFF" else "#000000"))
-        self.add(text(x, y + 3.5, letter, fill=ink, font_size="10", font_weight="bold", text_anchor="middle"))
+        circle = tag("circle", cx=x, cy=y, r=7, fill=fill, stroke=ink if fill == "#FFFFFF" else "#000000")
+        words = text(x, y + 3.5, letter, fill=ink, font_size="10", font_weight="bold", text_anchor="middle")
+        self.add(titled("%s: %s" % (mark, MARKS[mark][1]), circle, words))
 
     def strip(self, worker):
         """The entries of a worker, each with its word or its mark."""
@@ -173,8 +175,7 @@ class Drawing:
 
     def legend(self):
         """The styles and the marks that the picture has."""
-        used = {style_of(place) for row in self.scene.threads for place in row.pieces}
-        x = self.legend_line([(self.swatch(name), STATES[name].says) for name in STATES if name in used], 8)
+        x = self.legend_line([(self.swatch(name), STATES[name].says) for name in STATES if name in self.used], 8)
         marks = [(self.letter(name), name) for name in MARKS if name in self.scene.marks]
         if x + sum(len(name) * LETTER_WIDTH + 32 for _, name in marks) > self.width:
             self.y, x = self.y + 20, 8
@@ -224,7 +225,7 @@ def svg_text(scene, axis):
         "width": number(drawing.width),
         "height": number(drawing.y),
         "title": escape("%s: entries %d to %d of %d" % (scene.name, scene.first, scene.last, scene.count)),
-        "patterns": "\n".join(patterns()),
+        "patterns": "\n".join(patterns(drawing.used)),
     }
     body = head + "\n".join(drawing.elements) + "\n</svg>\n"
     return body.encode("ascii", "xmlcharrefreplace").decode("ascii")

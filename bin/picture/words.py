@@ -6,7 +6,6 @@ from .reader import NotATrace, read_trace
 from .scene import EntryAxis, TickAxis, scene_of
 
 STANDARD_INPUT, STANDARD_OUTPUT, STANDARD_ERROR = 0, 1, 2
-FILES = {STANDARD_INPUT: "standard input", STANDARD_OUTPUT: "standard output", None: "a file"}
 NO_PICTURE, WRONG_WORDS = 1, 2
 
 USAGE = "usage: ule-picture [--perfetto | --svg] [--ticks] [--from K] [--to K] [FILE]"
@@ -66,13 +65,18 @@ def trace_in(file):
         return read_trace(source.read())
 
 
+def name_of(file):
+    """The name of a file in a picture, with `?` for what can't be printed."""
+    name = "standard input" if file == "-" else os.path.basename(file)
+    return "".join(letter if letter.isprintable() else "?" for letter in name)
+
+
 def text_of(asked, trace):
     """The picture of a trace that the words ask for."""
     last = min(asked.last, len(trace.entries))
     if asked.first > max(last, 1):
         raise WrongWords("no entry is from %d on; the trace has %d" % (asked.first, len(trace.entries)))
-    name = "standard input" if asked.file == "-" else os.path.basename(asked.file)
-    scene = scene_of(trace, name, asked.first, last)
+    scene = scene_of(trace, name_of(asked.file), asked.first, last)
     axis = TickAxis(scene) if asked.ticks else EntryAxis(scene)
     if asked.perfetto:
         from .chrome import chrome_text
@@ -117,7 +121,7 @@ def main(arguments):
     except BrokenPipeError:
         pass
     except OSError as fault:
-        say("%s: %s" % (FILES.get(fault.filename, fault.filename), fault.strerror))
+        say("%s: %s" % (fault.filename or "a standard stream", fault.strerror))
     except KeyboardInterrupt:
         pass
     return NO_PICTURE

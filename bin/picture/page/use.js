@@ -75,6 +75,7 @@ function select(number) {
     if (hasEntry(near)) lines.push((near === number ? "> " : "  ") + lineOf(near));
   }
   told.textContent = lines.join("\n");
+  told.className = "";
   document.getElementById("number").value = number;
   redraw();
 }
