@@ -90,8 +90,16 @@ class Columns {
   }
 }
 
-// The pieces of a lane that the frame shows. `lookOf` tells of a piece its fill, plain colour and words.
-function drawPieces(frame, starts, pieces, y, plain, lookOf, isMarked) {
+// How far behind the left end of a piece the words stand, so that no mark lies on them.
+function offsetOf(frame, marked, start, left) {
+  const at = lastUpTo(marked, start);
+  const behind = [marked[at], marked[at + 1]].map((number) => number === undefined ? 0 : frame.px(number) + 15 - left);
+  return Math.max(0, ...behind.filter((offset) => offset < 19));
+}
+
+// The pieces of a lane that the frame shows. `lookOf` tells of a piece its fill, plain colour and words, and
+// `marked` are the entries whose marks are drawn over them.
+function drawPieces(frame, starts, pieces, y, plain, lookOf, marked) {
   const columns = new Columns(frame, y, plain);
   for (let at = Math.max(0, lastUpTo(starts, frame.from)); at < starts.length && starts[at] <= frame.to; at++) {
     const end = at + 1 < starts.length ? starts[at + 1] : scene.last + 1;
@@ -103,7 +111,7 @@ function drawPieces(frame, starts, pieces, y, plain, lookOf, isMarked) {
       columns.add(left, right - left, look.plain);
     } else {
       columns.flush();
-      drawPiece(frame, left, right, y, look, isMarked(starts[at]) ? 15 : 0);
+      drawPiece(frame, left, right, y, look, offsetOf(frame, marked, starts[at], left));
     }
   }
   columns.flush();

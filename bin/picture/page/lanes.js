@@ -34,14 +34,13 @@ function runnerLook(thread) {
 
 function drawCpu(frame, cpu, y) {
   drawStrip(frame, performed.get(cpu.number), y);
-  drawPieces(frame, cpu.starts, cpu.pieces, y + STRIP, scene.looks.tints, runnerLook, () => false);
+  drawPieces(frame, cpu.starts, cpu.pieces, y + STRIP, scene.looks.tints, runnerLook, []);
   drawLoad(frame, cpu, y + STRIP + BAR);
 }
 
 function drawThread(frame, thread, y) {
-  const marked = new Set(thread.marked);
   const lookOf = (place) => placeLook(thread.number, place);
-  drawPieces(frame, thread.starts, thread.pieces, y, plainStates, lookOf, (number) => marked.has(number));
+  drawPieces(frame, thread.starts, thread.pieces, y, plainStates, lookOf, thread.marked);
   drawMarks(frame, thread.marked, y + BAR / 2);
 }
 

@@ -5,7 +5,9 @@ const tip = document.getElementById("tip"), told = document.getElementById("told
 const LEAST_SPAN = 4, LINES_AROUND = 3, LINES_IN_TIP = 8, GRASP = 15;
 let selected = null, drag = null, waits = false, frame = null;
 
+// Draws the view anew, once however often it changed; what the pointer was told is no longer so.
 function redraw() {
+  tip.hidden = true;
   if (waits) return;
   waits = true;
   requestAnimationFrame(() => {
@@ -110,7 +112,9 @@ function entriesAt(lane, x) {
 function linesAt(lane, x) {
   const numbers = entriesAt(lane, x), lines = numbers.slice(0, LINES_IN_TIP).map(lineOf);
   const more = numbers.length - lines.length;
-  return more > 0 ? lines.concat([`and ${more} more here; zoom in to tell them apart`]) : lines;
+  if (more <= 0) return lines;
+  const apart = frame.px(numbers[0]) === frame.px(numbers[1]) ? "the other axis tells them apart" : "zoom in to tell them apart";
+  return lines.concat([`and ${more} more here; ${apart}`]);
 }
 
 // What a lane shows at a point, in words.
