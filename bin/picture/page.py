@@ -45,14 +45,16 @@ def legend():
     """The states and the marks with what they say."""
     states = "".join(state(name, style) for name, style in STATES.items())
     marks = "".join(mark(name, *MARKS[name]) for name in MARKS)
-    return "<svg width='0' height='0' aria-hidden='true'><defs>%s</defs></svg>%s%s" % ("".join(patterns(STATES)), states, marks)
+    shared = "<svg width='0' height='0' aria-hidden='true'><defs>%s</defs></svg>" % "".join(patterns(STATES))
+    return shared + states + marks
 
 
 def state(name, style):
     """One state of the legend."""
     fill = "url(#%s)" % name if style.lines else style.fill
     square = tag("rect", x=0.5, y=0.5, width=17, height=13, fill=fill, stroke=EDGE)
-    return "<span><svg width='18' height='14' aria-hidden='true'>%s</svg> %s</span>" % (square, escape(style.says))
+    drawing = "<svg width='18' height='14' aria-hidden='true'>%s</svg>" % square
+    return "<span>%s %s</span>" % (drawing, escape(style.says))
 
 
 def mark(name, letter, says):

@@ -91,20 +91,17 @@ class Teller:
     def switch_switched(self, cpu, _why, leaver, taker, _preempted):
         self.gives_way(cpu, leaver, queued(int(cpu)), taker)
 
-    def switch_nothing(self, cpu, _why):
+    def no_current(self, cpu, *_words):
+        """The CPU has no current thread."""
         self.runs(cpu, "-")
+
+    switch_nothing = drop_nothing = exit_nothing = no_current
 
     def drop_dropped(self, cpu, _channel, leaver, taker):
         self.gives_way(cpu, leaver, in_hand(self.worker), taker)
 
-    def drop_nothing(self, cpu, _channel):
-        self.runs(cpu, "-")
-
     def exit_exited(self, cpu, leaver, taker, _parent, _run):
         self.gives_way(cpu, leaver, in_hand(self.worker), taker)
-
-    def exit_nothing(self, cpu):
-        self.runs(cpu, "-")
 
     def bed_bedded(self, thread, channel):
         self.goes(thread, in_hand(self.worker), asleep(int(channel)))
@@ -112,41 +109,25 @@ class Teller:
     def wake_woken(self, thread, _priority, _bound, _last, _last_run):
         self.goes(thread, asleep(), in_hand(self.worker))
 
-    def wake_notasleep(self, thread, place):
-        self.at_place(thread, place_of(place))
-
     def land_landed(self, thread, cpu, kind, bucket, _yes):
         self.goes(thread, in_hand(self.worker), queued(int(cpu), kind, bucket))
 
     def move_moved(self, giver, taker, _why, thread, kind, bucket, _yes):
         self.goes(thread, queued(int(giver)), queued(int(taker), kind, bucket))
 
-    def lend_changed(self, thread, _lent, _priority, requeued, _marked):
-        self.changed(thread, requeued)
-
-    def unlend_changed(self, thread, _priority, requeued, _marked):
-        self.changed(thread, requeued)
-
-    def renice_changed(self, thread, _nice, _priority, requeued, _marked):
-        self.changed(thread, requeued)
-
-    def inherit_changed(self, thread, _run, _priority, requeued, _marked):
-        self.changed(thread, requeued)
-
-    def changed(self, thread, requeued):
+    def changed(self, thread, *words):
         """The priority of a thread changed; its place did only where it was queued anew."""
-        lane = self.threads[int(thread)]
+        _priority, requeued, _marked = words[-3:]
         if requeued == "1":
-            lane.requeue(self.at)
+            self.threads[int(thread)].requeue(self.at)
 
-    def lend_notallowed(self, thread, _lent, place):
-        self.at_place(thread, place_of(place))
+    lend_changed = unlend_changed = renice_changed = inherit_changed = changed
 
-    def unlend_notallowed(self, thread, place):
-        self.at_place(thread, place_of(place))
+    def left_there(self, thread, *words):
+        """The thread stays at the place that the reply tells."""
+        self.at_place(thread, place_of(words[-1]))
 
-    def renice_notallowed(self, thread, _nice, place):
-        self.at_place(thread, place_of(place))
+    wake_notasleep = lend_notallowed = unlend_notallowed = renice_notallowed = left_there
 
     def inherit_parentgone(self, thread, _run):
         self.at_place(thread, GONE)

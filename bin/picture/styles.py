@@ -1,13 +1,13 @@
 """The colours and patterns of the pictures, which readers of every colour vision can tell apart.
 
-The colours are those of Okabe and Ito and tints of them. No two styles differ in colour alone: a state has a
-pattern of its own, a mark a letter, and the bands of a CPU say their numbers.
+The colours are those of Okabe and Ito and tints of them. No two states differ in colour alone: each has a
+pattern of its own, but running and unborn threads, which are coloured and white. A mark has a letter.
 """
 from typing import NamedTuple
 
 
 class Style(NamedTuple):
-    """A fill, the lines over it, and what it says. Lines are `/`, `\\`, `-`, `.`, `x` or none."""
+    """A fill, the name of the lines over it, which is empty for none, and what it says."""
 
     fill: str
     lines: str
@@ -21,10 +21,10 @@ STATES = {
     "real": Style("#56B4E9", "/", "queued, real queue"),
     "batch": Style("#A9D8F4", "-", "queued, batch queue"),
     "idle": Style("#D6ECF9", ".", "queued, idle queue"),
-    "queued": Style("#A9D8F4", "", "queued, queue not told"),
+    "queued": Style("#A9D8F4", "~", "queued, queue not told"),
     "hand": Style("#F0B440", "x", "in a worker's hand"),
-    "asleep": Style("#E4E4E4", "", "asleep"),
-    "unborn": Style("#FFFFFF", "..", "unborn"),
+    "asleep": Style("#E4E4E4", "..", "asleep"),
+    "unborn": Style("#FFFFFF", "", "unborn"),
     "gone": Style("#9A9A9A", "\\", "gone"),
 }
 
@@ -34,6 +34,7 @@ PATTERN_LINES = {
     "\\": ((-1, 5, 1, 7), (0, 0, 6, 6), (5, -1, 7, 1)),
     "-": ((0, 1.5, 6, 1.5), (0, 4.5, 6, 4.5)),
     ".": ((1, 1.5, 2, 1.5), (4, 4.5, 5, 4.5)),
+    "~": ((0.5, 3, 3.5, 3),),
     "..": ((2.6, 3, 3.4, 3),),
     "x": ((0, 0, 6, 6), (0, 6, 6, 0)),
 }

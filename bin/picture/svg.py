@@ -31,7 +31,7 @@ def number(value):
 def tag(name, content="", **attributes):
     """An element; the underscores of attributes' names stand for hyphens."""
     words = "".join(
-        ' %s="%s"' % (key.strip("_").replace("_", "-"), number(value) if isinstance(value, (int, float)) else escape(value))
+        ' %s="%s"' % (key.replace("_", "-"), escape(value) if isinstance(value, str) else number(value))
         for key, value in attributes.items()
     )
     return "<%s%s>%s</%s>" % (name, words, content, name) if content else "<%s%s/>" % (name, words)
@@ -60,6 +60,15 @@ def patterns(names):
             lines = tag("path", d=path, stroke=EDGE, stroke_width=0.7)
             square = tag("rect", width=6, height=6, fill=style.fill) + lines
             yield tag("pattern", square, id=name, width=6, height=6, patternUnits="userSpaceOnUse")
+
+
+def glyph(x, y, mark):
+    """The circle of a mark round a point, and its letter."""
+    fill, ink = MARK_COLOURS[mark]
+    edge = ink if fill == "#FFFFFF" else "#000000"
+    letter = {"fill": ink, "font_size": "10", "font_weight": "bold", "text_anchor": "middle"}
+    yield tag("circle", cx=x, cy=y, r=7, fill=fill, stroke=edge)
+    yield text(x, y + 3.5, MARKS[mark][0], **letter)
 
 
 class Drawing:
@@ -108,18 +117,14 @@ class Drawing:
         edge = FAINT if fill == "none" else EDGE
         parts = [tag("rect", x=x, y=self.y, width=width, height=BAR, fill=fill, stroke=edge, stroke_width=0.7)]
         if words and len(words) * LETTER_WIDTH + 8 + offset <= width:
-            room = len(words) * LETTER_WIDTH + 4
-            parts.append(tag("rect", x=x + 3 + offset, y=self.y + 4, width=room, height=BAR - 8, fill="#FFFFFF", fill_opacity=0.75))
+            ground = {"width": len(words) * LETTER_WIDTH + 4, "height": BAR - 8, "fill": "#FFFFFF"}
+            parts.append(tag("rect", x=x + 3 + offset, y=self.y + 4, **ground, fill_opacity=0.75))
             parts.append(text(x + 5 + offset, self.y + 15, words))
         self.add(titled(title, *parts))
 
     def mark(self, coordinate, mark, y):
         """A mark at an entry."""
-        fill, ink = MARK_COLOURS[mark]
-        x, letter = self.x(coordinate) + 8, MARKS[mark][0]
-        circle = tag("circle", cx=x, cy=y, r=7, fill=fill, stroke=ink if fill == "#FFFFFF" else "#000000")
-        words = text(x, y + 3.5, letter, fill=ink, font_size="10", font_weight="bold", text_anchor="middle")
-        self.add(titled("%s: %s" % (mark, MARKS[mark][1]), circle, words))
+        self.add(titled("%s: %s" % (mark, MARKS[mark][1]), *glyph(self.x(coordinate) + 8, y, mark)))
 
     def strip(self, worker):
         """The entries of a worker, each with its word or its mark."""
@@ -127,7 +132,8 @@ class Drawing:
         begins = [n for n, entry, _ in self.scene.numbered() if entry.worker == worker]
         ends = [*begins[1:], self.scene.last + 1]
         for begin, end in zip(begins, ends):
-            entry, mark = self.scene.entries[begin - self.scene.first], self.scene.marks[begin - self.scene.first]
+            at = begin - self.scene.first
+            entry, mark = self.scene.entries[at], self.scene.marks[at]
             x, offset, words = self.x(begin), 14 if mark else 0, entry.event[0]
             parts = [tag("path", d="M%s %sv%s" % (number(x), number(self.y + 2), STRIP - 2), stroke=LINE)]
             if x + offset + len(words) * LETTER_WIDTH + 4 <= self.x(end):
@@ -153,8 +159,9 @@ class Drawing:
         for begin, end, load in stretches(row, self.scene):
             x, width = self.x(begin), self.x(end) - self.x(begin)
             height = (BAND - 4) * load / max(self.greatest, 1)
-            parts = [tag("rect", x=x, y=self.y + BAND - height, width=width, height=height, fill=LOAD, fill_opacity=0.25)]
-            parts.append(tag("path", d="M%s %sh%s" % (number(x), number(self.y + BAND - height), number(width)), stroke=LOAD))
+            top = self.y + BAND - height
+            parts = [tag("rect", x=x, y=top, width=width, height=height, fill=LOAD, fill_opacity=0.25)]
+            parts.append(tag("path", d="M%s %sh%s" % tuple(map(number, (x, top, width))), stroke=LOAD))
             if width >= 14:
                 parts.append(text(x + 4, self.y + BAND - 4, str(load), font_size="10"))
             if width > 0:
@@ -201,12 +208,7 @@ class Drawing:
 
     def letter(self, name):
         """A drawing of a mark for the legend."""
-        fill, ink = MARK_COLOURS[name]
-        edge = ink if fill == "#FFFFFF" else "#000000"
-        return lambda x, y: self.add(
-            tag("circle", cx=x + 9, cy=y + 7, r=7, fill=fill, stroke=edge),
-            text(x + 9, y + 10.5, MARKS[name][0], fill=ink, font_size="10", font_weight="bold", text_anchor="middle"),
-        )
+        return lambda x, y: self.add(*glyph(x + 9, y + 7, name))
 
 
 def svg_text(scene, axis):

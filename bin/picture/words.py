@@ -32,6 +32,7 @@ class Words(argparse.ArgumentParser):
     """A reader of words that raises WrongWords."""
 
     def error(self, message):
+        """Raises what the words are wrong for."""
         raise WrongWords(message)
 
 
@@ -42,7 +43,7 @@ def entry_number(word):
     return int(word)
 
 
-def words_of(arguments):
+def asked_by(arguments):
     """What the words of the command line ask for."""
     words = Words(prog="ule-picture", add_help=False, allow_abbrev=False)
     form = words.add_mutually_exclusive_group()
@@ -93,7 +94,7 @@ def text_of(asked, trace):
 
 def picture(arguments):
     """Writes what the words of the command line ask for."""
-    asked = words_of(arguments)
+    asked = asked_by(arguments)
     text = USAGE + "\n" + ABOUT if asked.help else text_of(asked, trace_in(asked.file))
     with open(STANDARD_OUTPUT, "wb") as sink:
         sink.write(text.encode("ascii", "replace"))

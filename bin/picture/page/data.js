@@ -31,7 +31,7 @@ function entryAxis() {
     name: "entries", low, high,
     at: (coordinate) => coordinate,
     from: within, upTo: within, standing: within,
-    words: (value) => value < scene.first ? "" : String(value),
+    words: (value) => hasEntry(value) ? String(value) : "",
   };
 }
 
@@ -44,7 +44,7 @@ function tickAxis() {
   const low = least - margin, high = most + margin;
   return {
     name: "hz ticks", low, high,
-    at: (coordinate) => coordinate < scene.first ? low : coordinate > scene.last ? high : scene.times[coordinate - scene.first],
+    at: (coordinate) => hasEntry(coordinate) ? scene.times[coordinate - scene.first] : coordinate < scene.first ? low : high,
     // from what stands at a value: the entry before the first one that is as late
     from: (value) => scene.first + lastUpTo(reached, value - 1e-9),
     upTo: (value) => scene.first + lastUpTo(ahead, value),

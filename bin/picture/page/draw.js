@@ -166,9 +166,10 @@ function drawLoad(frame, cpu, y) {
     if (column) band(column.x, column.x + 1, column.least, 0.25);
     column = null;
   };
-  for (let at = Math.max(0, lastUpTo(cpu.loadStarts, frame.from)); at < cpu.loadStarts.length && cpu.loadStarts[at] <= frame.to; at++) {
-    const load = cpu.loads[at], end = at + 1 < cpu.loadStarts.length ? cpu.loadStarts[at + 1] : scene.last + 1;
-    const left = Math.max(frame.px(cpu.loadStarts[at]), GUTTER), right = Math.min(frame.px(end), frame.right);
+  const starts = cpu.loadStarts;
+  for (let at = Math.max(0, lastUpTo(starts, frame.from)); at < starts.length && starts[at] <= frame.to; at++) {
+    const load = cpu.loads[at], end = at + 1 < starts.length ? starts[at + 1] : scene.last + 1;
+    const left = Math.max(frame.px(starts[at]), GUTTER), right = Math.min(frame.px(end), frame.right);
     if (right <= left) continue;
     if (right - left >= NARROW) {
       flush();

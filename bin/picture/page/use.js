@@ -113,8 +113,8 @@ function linesAt(lane, x) {
   const numbers = entriesAt(lane, x), lines = numbers.slice(0, LINES_IN_TIP).map(lineOf);
   const more = numbers.length - lines.length;
   if (more <= 0) return lines;
-  const apart = frame.px(numbers[0]) === frame.px(numbers[1]) ? "the other axis tells them apart" : "zoom in to tell them apart";
-  return lines.concat([`and ${more} more here; ${apart}`]);
+  const helps = frame.px(numbers[0]) === frame.px(numbers[1]) ? "turn to the other axis" : "zoom in";
+  return lines.concat([`and ${more} more here; ${helps} to tell them apart`]);
 }
 
 // What a lane shows at a point, in words.
@@ -182,7 +182,8 @@ function onMove(event) {
 
 function onUp(event) {
   const edge = canvas.getBoundingClientRect(), x = event.clientX - edge.left;
-  if (drag !== null && !drag.moved && x >= GUTTER) select(Math.max(entryAt(laneAt(event.clientY - edge.top), x), scene.first));
+  const lane = laneAt(event.clientY - edge.top);
+  if (drag !== null && !drag.moved && x >= GUTTER) select(Math.max(entryAt(lane, x), scene.first));
   drag = null;
 }
 
@@ -195,7 +196,9 @@ canvas.addEventListener("mouseleave", () => {
   tip.hidden = true;
   drag = null;
 });
-canvas.addEventListener("dblclick", (event) => zoom(0.5, frame.valueAt(event.clientX - canvas.getBoundingClientRect().left)));
+canvas.addEventListener("dblclick", (event) => {
+  zoom(0.5, frame.valueAt(event.clientX - canvas.getBoundingClientRect().left));
+});
 box.addEventListener("scroll", redraw);
 box.addEventListener("wheel", onWheel, { passive: false });
 document.addEventListener("keydown", onKey);
