@@ -1,5 +1,5 @@
 // For print all lanes are drawn, in canvases that each fit a page, with the window that the screen shows.
-const PAPER_WIDTH = 1040, PAPER_HEIGHT = 560, PAPER_DOTS = 2;
+const PAPER_WIDTH = 1040, PAPER_HEIGHT = 640, PAPER_DOTS = 2;
 
 // The lanes, parted so that those of each part fit a page.
 function sheets() {
