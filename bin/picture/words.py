@@ -1,0 +1,128 @@
+"""The words of the command line, and what goes where."""
+import argparse
+import os
+
+from .reader import NotATrace, read_trace
+from .scene import EntryAxis, TickAxis, scene_of
+
+STANDARD_INPUT, STANDARD_OUTPUT, STANDARD_ERROR = 0, 1, 2
+NO_PICTURE, WRONG_WORDS = 1, 2
+
+USAGE = "usage: ule-picture [--perfetto | --svg] [--ticks] [--from K] [--to K] [FILE]"
+ABOUT = """
+Reads a trace, from FILE or from standard input, and writes a picture of it to standard output.
+
+  --perfetto  write JSON of the Chrome trace event format, which Perfetto and chrome://tracing open
+  --svg       write an SVG picture without script
+              (else write one page of HTML, which needs no network)
+  --ticks     begin with time in hz ticks along the axis, in place of the numbers of the entries
+  --from K    draw from entry K on
+  --to K      draw up to entry K
+  --help      write this page
+
+The status is 0, or 1 where there is no picture, and 2 where the words are wrong.
+"""
+
+
+class WrongWords(Exception):
+    """The words of the command line are wrong, for the reason that it is made with."""
+
+
+class Words(argparse.ArgumentParser):
+    """A reader of words that raises WrongWords."""
+
+    def error(self, message):
+        """Raises what the words are wrong for."""
+        raise WrongWords(message)
+
+
+def entry_number(word):
+    """The number of an entry that a word spells."""
+    if not (word.isascii() and word.isdigit() and len(word) <= 5 and 1 <= int(word) <= 65_536):
+        raise argparse.ArgumentTypeError("%r is no number from 1 to 65536" % word)
+    return int(word)
+
+
+def asked_by(arguments):
+    """What the words of the command line ask for."""
+    words = Words(prog="ule-picture", add_help=False, allow_abbrev=False)
+    form = words.add_mutually_exclusive_group()
+    form.add_argument("--perfetto", action="store_true")
+    form.add_argument("--svg", action="store_true")
+    words.add_argument("--ticks", action="store_true")
+    words.add_argument("--from", dest="first", type=entry_number, default=1)
+    words.add_argument("--to", dest="last", type=entry_number, default=65_536)
+    words.add_argument("--help", action="store_true")
+    words.add_argument("file", nargs="?", default="-")
+    asked = words.parse_args(arguments)
+    if asked.first > asked.last:
+        raise WrongWords("no entry is from %d to %d" % (asked.first, asked.last))
+    return asked
+
+
+def trace_in(file):
+    """The trace in a file, or in standard input for `-`."""
+    with open(STANDARD_INPUT if file == "-" else file, "rb") as source:
+        return read_trace(source.read())
+
+
+def name_of(file):
+    """The name of a file in a picture, with `?` for what can't be printed."""
+    name = "standard input" if file == "-" else os.path.basename(file)
+    return "".join(letter if letter.isprintable() else "?" for letter in name)
+
+
+def text_of(asked, trace):
+    """The picture of a trace that the words ask for."""
+    last = min(asked.last, len(trace.entries))
+    if asked.first > max(last, 1):
+        raise WrongWords("no entry is from %d on; the trace has %d" % (asked.first, len(trace.entries)))
+    scene = scene_of(trace, name_of(asked.file), asked.first, last)
+    axis = TickAxis(scene) if asked.ticks else EntryAxis(scene)
+    if asked.perfetto:
+        from .chrome import chrome_text
+
+        return chrome_text(scene, axis)
+    if asked.svg:
+        from .svg import svg_text
+
+        return svg_text(scene, axis)
+    from .page import page_text
+
+    return page_text(scene, axis)
+
+
+def picture(arguments):
+    """Writes what the words of the command line ask for."""
+    asked = asked_by(arguments)
+    text = USAGE + "\n" + ABOUT if asked.help else text_of(asked, trace_in(asked.file))
+    with open(STANDARD_OUTPUT, "wb") as sink:
+        sink.write(text.encode("ascii", "replace"))
+
+
+def say(message):
+    """One line on standard error."""
+    line = "ule-picture: %s\n" % " ".join(str(message).split())
+    try:
+        os.write(STANDARD_ERROR, line.encode("ascii", "backslashreplace"))
+    except OSError:
+        pass
+
+
+def main(arguments):
+    """The status of the script for the words of the command line."""
+    try:
+        picture(arguments)
+        return 0
+    except WrongWords as wrong:
+        say("%s; %s" % (wrong, USAGE))
+        return WRONG_WORDS
+    except NotATrace as fault:
+        say(fault)
+    except BrokenPipeError:
+        pass
+    except OSError as fault:
+        say("%s: %s" % (fault.filename or "a standard stream", fault.strerror))
+    except KeyboardInterrupt:
+        pass
+    return NO_PICTURE
