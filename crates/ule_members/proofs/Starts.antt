@@ -1,4 +1,4 @@
--- The world at the start of a setup that can be spelled so far: its threads' numbers, records and places.
+-- The world at the start of a setup: the numbers, records and places of its threads, while they are laid and after.
 use Rattle.std.proofs.Common.{◌≡◌, ℕ, ◌<◌, ◌≤◌, ◌==◌, ◌||◌, Bool, true, false, not, ℤ, pos, negsuc, nat_lt, List, [], ◌∷◌, ◌++◌, zero, suc, ◌+◌, drop, fold, length, map, replicate, slice_get, take, Some, None, IfSome, refl, sym, ◌∙◌, ap, subst, arith}
 use Rattle.std.specs.List.{AllByRecursion, list_all}
 use Rattle.std.proofs.lemmas.Bool.{and_from, and_parts, both_ways, cond-false, cond_both, eq-eqb, false≢true, leb-true, ltb-true, not-true, or_from, or_parts, ne_eqb}
@@ -14,6 +14,7 @@ use Rattle.ule_score.specs.declared.place.Place.TheVariants.{Running, Queued, As
 use Rattle.ule_score.specs.declared.record.CpuLine.{CpuLine}
 use Rattle.ule_score.specs.declared.record.Settings.{Settings}
 use Rattle.ule_score.specs.declared.record.ThreadRecord.{ThreadRecord}
+use Rattle.ule_prio.specs.declared.class.Class.TheVariants as class
 use Rattle.ule_types.specs.Commands.{is_among}
 use Rattle.ule_types.specs.Form.{IsOfForm, is_plain, is_timeshare}
 use Rattle.ule_types.specs.Rules.{declared_ids, is_distinct, is_form, is_nice, is_spec}
@@ -25,7 +26,7 @@ use Rattle.ule_model.specs.declared.insertion.Insertion.TheVariants.{Ordinary}
 use Rattle.ule_model.specs.Insertion.{order_of_insertion, place_of_insertion, with_queued}
 use Rattle.ule_model.specs.Places.{hand_of}
 use Rattle.ule_model.specs.Shows.{ids_of}
-use Rattle.ule_model.specs.Start.{base_of, empty_world, first_line, fresh_history, fresh_use, laid, laid_on, nice_of, record_of, starting_time, unborn_member, unborn_record, with_unborn, world_at_start}
+use Rattle.ule_model.specs.Start.{base_of, class_of, empty_world, first_line, fresh_history, fresh_use, laid, laid_on, nice_of, record_of, starting_time, unborn_member, unborn_record, with_unborn, world_at_start}
 use Rattle.ule_model.specs.WellMade.{AreApart, IsWellMade, IsWellMadeWorld}
 use Rattle.ule_model.specs.World.{Member, Side, World, fresh_line, is_thread, others, side_of, thread_of, with_side}
 use Rattle.ule_members.proofs.Lists.{drop_at}
@@ -42,21 +43,37 @@ pub nice_is : (n : ℤ) → is_nice n ≡ true → IsNice n
 nice_is (pos n) is = let within : n ≤ 20 = leb-true n 20 is in (omega (arith, ints), omega (arith, ints))
 nice_is (negsuc n) is = let within : n < 20 = ltb-true n 20 is in (omega (arith, ints), omega (arith, ints))
 
--- a timeshare thread's nice value and base priority are in their ranges
-pub form_bounds : (settings : Settings) (f : Form) → is_timeshare f ≡ true → is_form f ≡ true →
-    IsNice (nice_of f) × (120 ≤ base_of settings f) × (base_of settings f ≤ 223)
-form_bounds settings (Ts n) plain valid =
+-- the priority that a thread is declared with is a byte; a timeshare thread is declared with none
+abbrev pub HasByte : Form → Type 0
+HasByte (Ts n) = Unit {0}
+HasByte (Ithd p) = p < 256
+HasByte (Rt p) = p < 256
+HasByte (Fifo p) = p < 256
+HasByte (Idle p) = p < 256
+
+-- the nice value and the base priority of a declared thread are in their ranges
+pub record IsInRange (settings : Settings) (f : Form) : Type 0 where
+  pub nice : IsNice (nice_of f)
+  pub base : base_of settings f < 256
+  pub low : class_of f ≡ class.Ts → 120 ≤ base_of settings f
+  pub high : class_of f ≡ class.Ts → base_of settings f ≤ 223
+
+-- a declared thread has its nice value and base priority in their ranges
+pub form_bounds : (settings : Settings) (f : Form) → is_form f ≡ true → HasByte f → IsInRange settings f
+form_bounds settings (Ts n) valid byte =
     let nice : IsNice n = nice_is n valid in
     let bounds = timeshare_priority-bounds fresh_history fresh_use n settings.interact nice in
-    (nice, bounds.0, bounds.1)
-form_bounds settings (Ithd p) plain valid = absurd (false≢true plain)
-form_bounds settings (Rt p) plain valid = absurd (false≢true plain)
-form_bounds settings (Fifo p) plain valid = absurd (false≢true plain)
-form_bounds settings (Idle p) plain valid = absurd (false≢true plain)
+    record { nice = nice; base = omega (arith, bounds.1); low = λ is. bounds.0; high = λ is. bounds.1 }
+form_bounds settings (Ithd p) valid byte = record { nice = nice_is (pos 0) refl; base = byte; low = λ is. absurd cc; high = λ is. absurd cc }
+form_bounds settings (Rt p) valid byte = record { nice = nice_is (pos 0) refl; base = byte; low = λ is. absurd cc; high = λ is. absurd cc }
+form_bounds settings (Fifo p) valid byte = record { nice = nice_is (pos 0) refl; base = byte; low = λ is. absurd cc; high = λ is. absurd cc }
+form_bounds settings (Idle p) valid byte = record { nice = nice_is (pos 0) refl; base = byte; low = λ is. absurd cc; high = λ is. absurd cc }
 
--- what holds of the threads that a setup can declare so far
-abbrev pub IsGood : ℕ → ThreadSpec → Type 0
-IsGood cpus spec = (is_plain cpus spec ≡ true) × (is_spec cpus spec ≡ true) × (spec.id < 256)
+-- what holds of each thread that a setup declares
+pub record IsGood (cpus : ℕ) (spec : ThreadSpec) : Type 0 where
+  pub valid : is_spec cpus spec ≡ true
+  pub number : spec.id < 256
+  pub priority : HasByte spec.form
 
 -- what a record keeps at the start
 pub record IsFreshRecord (cpus : ℕ) (r : ThreadRecord) : Type 0 where
@@ -65,11 +82,11 @@ pub record IsFreshRecord (cpus : ℕ) (r : ThreadRecord) : Type 0 where
   pub bound : IfSome r.bound (λ c. c < cpus)
 
 -- the record of a declared thread is as it must be at the start
-pub fresh_record : (cpus : ℕ) (settings : Settings) (spec : ThreadSpec) → IsGood cpus spec → IsFreshRecord cpus (record_of settings spec) × HasNumbers (record_of settings spec)
+pub fresh_record : (cpus : ℕ) (settings : Settings) (spec : ThreadSpec) → IsGood cpus spec →
+    IsFreshRecord cpus (record_of settings spec) × HasNumbers (record_of settings spec)
 fresh_record cpus settings spec good =
-    let plain = and_parts (is_timeshare spec.form) (nat_lt cpus 2 || spec.bound) good.0 in
-    let valid = and_parts (is_form spec.form) (nat_lt spec.cpu cpus) good.1 in
-    let bounds = form_bounds settings spec.form plain.0 valid.0 in (
+    let valid = and_parts (is_form spec.form) (nat_lt spec.cpu cpus) good.valid in
+    let bounds = form_bounds settings spec.form valid.0 good.priority in (
       record {
         bounds = record {
           history = omega arith;
@@ -79,13 +96,13 @@ fresh_record cpus settings spec good =
           last_run = omega arith;
           slice_count = omega arith;
           priority = refl;
-          low = λ is. bounds.1;
-          high = λ is. bounds.2;
+          low = bounds.low;
+          high = bounds.high;
         };
         by_now = record { ltick = omega arith; slept_at = omega arith; last_run = omega arith };
         bound = cond_both spec.bound (Some spec.cpu) None (λ o. IfSome o (λ c. c < cpus)) (λ is. ltb-true spec.cpu cpus valid.1) (λ is. tt);
       },
-      record { id = good.2; base = omega (arith, bounds.2); priority = omega (arith, bounds.2); nice = bounds.0 },
+      record { id = good.number; base = bounds.base; priority = bounds.base; nice = bounds.nice },
     )
 
 -- the record of an unborn thread is as it must be at the start
@@ -265,7 +282,7 @@ pub laid_once : (cpus : ℕ) (settings : Settings) (ids : List ℕ) (w : World) 
     IsLaid (IsQueuedBelow cpus) cpus settings ids w → IsLaid (IsQueuedBelow cpus) cpus settings (ids ++ spec.id ∷ []) (laid w spec)
 laid_once cpus settings ids w spec good new so_far =
     subst (IsLaid (IsQueuedBelow cpus) cpus settings (ids ++ spec.id ∷ [])) (sym (laid_is w spec absent))
-    (with_one (IsQueuedBelow cpus) cpus settings ids w (newly_laid w spec) fresh.0 (ltb-true spec.cpu cpus (and_parts (is_form spec.form) (nat_lt spec.cpu cpus) good.1).1) made so_far)
+    (with_one (IsQueuedBelow cpus) cpus settings ids w (newly_laid w spec) fresh.0 (ltb-true spec.cpu cpus (and_parts (is_form spec.form) (nat_lt spec.cpu cpus) good.valid).1) made so_far)
   where
     absent : thread_of spec.id w.members ≡ None
     absent = laid_new (IsQueuedBelow cpus) cpus settings ids w spec.id new so_far
@@ -304,6 +321,14 @@ put_all number put K Good once ids w (x ∷ xs) good distinct so_far =
 
 -- ---- the start
 
+-- a timeshare thread is declared with no priority
+plain_byte : (f : Form) → is_timeshare f ≡ true → HasByte f
+plain_byte (Ts n) is = tt
+plain_byte (Ithd p) is = absurd (false≢true is)
+plain_byte (Rt p) is = absurd (false≢true is)
+plain_byte (Fifo p) is = absurd (false≢true is)
+plain_byte (Idle p) is = absurd (false≢true is)
+
 -- each thread of a setup that can be spelled so far can be declared
 pub form_good : (cpus : ℕ) (specs : List ThreadSpec) → list_all (is_plain cpus) specs ≡ true → list_all (is_spec cpus) specs ≡ true →
     list_all (λ t. nat_lt t 256) (map (λ spec. spec.id) specs) ≡ true → AllByRecursion (IsGood cpus) specs
@@ -312,7 +337,10 @@ form_good cpus (spec ∷ specs) plain valid numbers =
     let first = and_parts (is_plain cpus spec) (list_all (is_plain cpus) specs) plain in
     let second = and_parts (is_spec cpus spec) (list_all (is_spec cpus) specs) valid in
     let third = and_parts (nat_lt spec.id 256) (list_all (λ t. nat_lt t 256) (map (λ (x : ThreadSpec). x.id) specs)) numbers in
-    ((first.0, second.0, ltb-true spec.id 256 third.0), form_good cpus specs first.1 second.1 third.1)
+    let plain_form = (and_parts (is_timeshare spec.form) (nat_lt cpus 2 || spec.bound) first.0).0 in (
+      record { valid = second.0; number = ltb-true spec.id 256 third.0; priority = plain_byte spec.form plain_form },
+      form_good cpus specs first.1 second.1 third.1,
+    )
 
 -- the numbers of the threads that are queued at the start
 abbrev pub queued_numbers : List ThreadSpec → List ℕ
