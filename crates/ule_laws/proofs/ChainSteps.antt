@@ -1,24 +1,20 @@
 -- The events of sleep chains and of limbo, on the value under their lock and on the world: a thread goes from
 -- a hand to its place there, or from there to a hand.
-use Rattle.std.proofs.Common.{◌≡◌, ◌≢◌, ℕ, ◌+◌, ◌%◌, ◌<◌, ◌≤◌, Bool, true, false, ◌==◌, pos, List, [], ◌∷◌, length, Option, Some, None, if◌then◌else◌, option_and_then, refl, sym, ◌∙◌, ap, subst, arith}
+use Rattle.std.proofs.Common.{◌≡◌, ℕ, ◌<◌, Bool, true, false, ◌==◌, pos, List, length, Option, Some, None, if◌then◌else◌, option_and_then, refl, sym, ◌∙◌, ap, subst}
 use Rattle.std.specs.Option.{option_map}
-use Rattle.std.proofs.lemmas.Bool.{both_ways, cond-false, cond-true, eq-eqb, eqb-true}
-use Rattle.std.proofs.lemmas.List.{length-set}
+use Rattle.std.proofs.lemmas.Bool.{cond-true, eq-eqb}
 use Rattle.std.proofs.lemmas.Option.{none-some}
-use Rattle.ule_score.specs.Changes.{RecordChange, record_after}
 use Rattle.ule_score.specs.declared.place.Place.{Place}
 use Rattle.ule_score.specs.declared.place.Place.TheVariants.{Running, Queued, Asleep, Unborn, Gone, Hand}
-use Rattle.ule_score.specs.declared.record.Settings.{Settings}
 use Rattle.ule_score.specs.declared.record.ThreadRecord.{ThreadRecord}
-use Rattle.ule_sleep.specs.Chain.{standing_in, with_standing, without_standing}
+use Rattle.ule_sleep.specs.Chain.{with_standing, without_standing}
 use Rattle.ule_threads.specs.declared.standing.Standing.{Standing}
 use Rattle.ule_model.specs.Events.{holder_of}
-use Rattle.ule_model.specs.Frames.{thread_under}
 use Rattle.ule_model.specs.Places.{hand_of, is_hand_of, is_under}
 use Rattle.ule_model.specs.WellMade.{IsWellMade}
-use Rattle.ule_model.specs.World.{Member, World, moved_to, thread_of, with_record}
-use Rattle.ule_model.specs.WorldValue.{if_thread, standing_of}
-use Rattle.ule_members.proofs.PlaceFinds.{thread_at-changed, thread_at_within}
+use Rattle.ule_model.specs.World.{Member, moved_to, thread_of, with_record}
+use Rattle.ule_model.specs.WorldValue.{if_thread}
+use Rattle.ule_members.proofs.PlaceFinds.{thread_at_within}
 use Rattle.ule_members.proofs.Threads.{changed_further}
 use Rattle.ule_members.proofs.Within.{Within, changed, within_thread}
 use Rattle.ule_laws.proofs.LockLaws.{AreThese, IsThis, put_in, put_under, take_from_under, take_out_of}

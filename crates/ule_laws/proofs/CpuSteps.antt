@@ -1,17 +1,16 @@
 -- The events of one CPU leave the settings of its side, so that a world with the side has the side.
 use Rattle.std.proofs.Common.{◌≡◌, ℕ, Bool, true, false, Option, Some, None, if◌then◌else◌, refl, ◌∙◌}
 use Rattle.ule_score.specs.declared.record.Why.{Why}
-use Rattle.ule_types.specs.declared.event.Reply.{Reply}
 use Rattle.ule_types.specs.declared.event.Reply.TheVariants.{Unmarked}
 use Rattle.ule_model.specs.Choice.{choice_of}
 use Rattle.ule_model.specs.Insertion.{queued, with_queued}
-use Rattle.ule_model.specs.Landing.{is_taking_over, landed, landed_with}
+use Rattle.ule_model.specs.Landing.{landed, landed_with}
 use Rattle.ule_model.specs.Sleep.{dropped, dropped_with, taken}
 use Rattle.ule_model.specs.Switch.{choosing_next, given_way, is_preemption, is_unasked, running_chosen, switched, switched_from, unmarked}
 use Rattle.ule_model.specs.Tick.{clocked, is_due, load_of, ticked, ticked_with}
 use Rattle.ule_model.specs.World.{Member, Side, current_of, thread_of}
 use Rattle.ule_model.specs.declared.insertion.Insertion.{Insertion}
-use Rattle.ule_score.specs.Changes.{RecordChange, sleeps}
+use Rattle.ule_score.specs.Changes.{sleeps}
 
 -- an insertion leaves the settings
 queued_settings : (how : Insertion) (c t : ℕ) (s : Side) → (queued how c t s).settings ≡ s.settings

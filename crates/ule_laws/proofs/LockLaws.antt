@@ -1,17 +1,16 @@
 -- What stands under a lock, and in a hand, after one thread comes there or leaves.
-use Rattle.std.proofs.Common.{◌≡◌, ◌≢◌, ℕ, ◌<◌, ◌==◌, Bool, true, false, List, length, slice_index_or, slice_set, Option, Some, None, ⊎_elim, if◌then◌else◌, refl, sym, ◌∙◌, ap, subst}
+use Rattle.std.proofs.Common.{◌≡◌, ℕ, ◌<◌, ◌==◌, Bool, true, false, List, length, slice_index_or, slice_set, Option, Some, None, ⊎_elim, if◌then◌else◌, refl, sym, ◌∙◌, ap}
 use Rattle.std.specs.Option.{option_map}
 use Rattle.std.proofs.lemmas.Bool.{cases_eq, eq-eqb, ne_eqb, eqb-true, cond-true, cond-false}
 use Rattle.std.proofs.lemmas.List.{get_or-set_same, get_or-set_other}
-use Rattle.ule_score.specs.declared.place.Place.{Place}
 use Rattle.ule_score.specs.declared.record.ThreadRecord.{ThreadRecord}
 use Rattle.ule_sleep.specs.Chain.{standing_in, with_standing, without_standing}
 use Rattle.ule_threads.specs.declared.standing.Standing.{Standing}
 use Rattle.ule_model.specs.Frames.{thread_in_hand, thread_under}
 use Rattle.ule_model.specs.Places.{is_hand_of, is_under}
-use Rattle.ule_model.specs.WorldValue.{AreUnder, IsHandOf, if_thread, standing_of}
-use Rattle.ule_model.specs.World.{Member, World}
-use Rattle.ule_members.proofs.PlaceFinds.{thread_at, thread_at-changed, thread_at-changed_other, thread_at_within}
+use Rattle.ule_model.specs.WorldValue.{if_thread, standing_of}
+use Rattle.ule_model.specs.World.{Member}
+use Rattle.ule_members.proofs.PlaceFinds.{thread_at-changed, thread_at-changed_other, thread_at_within}
 use Rattle.ule_members.proofs.Within.{Within, changed}
 
 -- ---- under a lock of threads with places

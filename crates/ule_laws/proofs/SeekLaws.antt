@@ -1,15 +1,13 @@
 -- A look-up of a thread under the locks of a scheduler finds what its world has there, and the lock of its place.
-use Rattle.std.proofs.Common.{◌≡◌, ◌≢◌, ℕ, zero, suc, ◌+◌, ◌%◌, ◌<◌, ◌≤◌, Bool, true, false, ◌==◌, ◌&&◌, ◌||◌, List, [], ◌∷◌, find, get_or, length, slice_get, Option, Some, None, IfSome, IsSome, is_some, if◌then◌else◌, option_and_then, ⊎_elim, refl, sym, ◌∙◌, ap, subst, arith, mod-lt}
+use Rattle.std.proofs.Common.{◌≡◌, ◌≢◌, ℕ, ◌+◌, ◌%◌, ◌<◌, ◌≤◌, Bool, true, false, ◌==◌, ◌&&◌, ◌||◌, List, [], ◌∷◌, get_or, length, Option, Some, None, is_some, if◌then◌else◌, option_and_then, ⊎_elim, refl, sym, ◌∙◌, ap, subst, arith}
 use Rattle.std.specs.Option.{option_map}
-use Rattle.std.proofs.lemmas.Bool.{cases_lt, cond-false, cond-true, eq-eqb, eqb-true, ne_eqb}
-
+use Rattle.std.proofs.lemmas.Bool.{cases_lt, cond-false, cond-true, eq-eqb, ne_eqb}
 use Rattle.std.proofs.lemmas.Option.{get_or_from_slice_get, none-some}
 use Rattle.ule_score.specs.declared.place.Place.{Place}
 use Rattle.ule_score.specs.declared.place.Place.TheVariants.{Running, Queued, Asleep, Unborn, Gone, Hand}
 use Rattle.ule_score.specs.declared.record.ThreadRecord.{ThreadRecord}
-use Rattle.ule_sleep.specs.Chain.{standing_in}
 use Rattle.ule_threads.specs.declared.standing.Standing.{Standing}
-use Rattle.ule_model.specs.CpuValue.{CpuValue, StandsFor, thread_in, thread_on, value_place}
+use Rattle.ule_model.specs.CpuValue.{CpuValue, StandsFor, thread_on, value_place}
 use Rattle.ule_model.specs.Finals.{position_of}
 use Rattle.ule_model.specs.Frames.{thread_under}
 use Rattle.ule_model.specs.LockValue.{LockValue, chain, found_in, found_on, has_under, limbo, nothing, queue}
@@ -19,9 +17,9 @@ use Rattle.ule_runq.proofs.Counts.{position-at}
 use Rattle.ule_model.specs.World.{Member, Side, World, is_thread, side_of, thread_of}
 use Rattle.ule_model.specs.WorldValue.{Shows, StandsUnder, WorldValue, lock_with, standing_of}
 use Rattle.ule_members.proofs.PlaceFinds.{thread_at, thread_at_within}
-use Rattle.ule_members.proofs.Within.{Within, within_thread}
+use Rattle.ule_members.proofs.Within.{within_thread}
 use Rattle.ule_laws.proofs.CpuPlaces.{positions_stand}
-use Rattle.ule_laws.proofs.WorldLaws.{HasValue, at_some, if_some, value_at}
+use Rattle.ule_laws.proofs.WorldLaws.{HasValue, value_at}
 
 -- ---- places under a queue lock
 

@@ -1,13 +1,12 @@
 -- Where a worker can perform an event in a world, the scheduler that shows it has what the step under the
 -- event's lock needs.
-use Rattle.std.proofs.Common.{◌≡◌, ◌≢◌, ℕ, ◌+◌, ◌%◌, ◌<◌, ◌≤◌, Bool, true, false, ◌==◌, ◌||◌, List, [], ◌∷◌, length, slice_get, Option, Some, None, IfSome, if◌then◌else◌, refl, sym, ◌∙◌, ap, subst, arith, mod-lt}
-use Rattle.std.specs.List.{AllByRecursion, list_any}
+use Rattle.std.proofs.Common.{◌≡◌, ℕ, ◌+◌, ◌%◌, ◌<◌, ◌≤◌, Bool, true, false, ◌==◌, ◌||◌, List, [], ◌∷◌, length, slice_get, Option, Some, None, IfSome, refl, sym, ◌∙◌, ap, subst, arith, mod-lt}
+use Rattle.std.specs.List.{list_any}
 use Rattle.std.specs.Option.{option_map}
 use Rattle.std.proofs.lemmas.Bool.{cond-false, cond-true, eq-eqb, eqb-true, ltb-true, true≢false}
 use Rattle.std.proofs.lemmas.Option.{none-some}
 use Rattle.ule_score.specs.Changes.{IsBy}
 use Rattle.ule_score.specs.declared.place.Place.{Place}
-use Rattle.ule_score.specs.declared.place.Place.TheVariants.{Unborn, Hand}
 use Rattle.ule_score.specs.declared.record.ThreadRecord.{ThreadRecord}
 use Rattle.ule_sleep.specs.Chain.{standing_in}
 use Rattle.ule_threads.specs.declared.standing.Standing.{Standing}
@@ -17,16 +16,15 @@ use Rattle.ule_model.specs.Conditions.{IsByIfReached, IsHandled, IsPossible}
 use Rattle.ule_model.specs.CpuValue.{thread_in, thread_on}
 use Rattle.ule_model.specs.Events.{handling, is_reached, lock_of_thread, locking, locks_of}
 use Rattle.ule_model.specs.Frames.{thread_in_hand, thread_under}
-use Rattle.ule_model.specs.LockConditions.{CanStepAt, IsTime}
+use Rattle.ule_model.specs.LockConditions.{CanStepAt}
 use Rattle.ule_model.specs.LockValue.{LockValue, chain, limbo, nothing, queue}
-use Rattle.ule_model.specs.Places.{hand_of, is_hand_of, is_number, is_under, lock_of}
+use Rattle.ule_model.specs.Places.{hand_of, is_hand_of, is_number, is_under}
 use Rattle.ule_model.specs.WellMade.{IsWellMade}
 use Rattle.ule_sleep.specs.Limbo.{HasUnborn}
-use Rattle.ule_model.specs.World.{Member, World, thread_of}
+use Rattle.ule_model.specs.World.{Member, World}
 use Rattle.ule_model.specs.WorldValue.{CanStep, Shows, StandsUnder, WorldValue, held_by, if_thread, lock_for, lock_with, standing_of}
 use Rattle.ule_members.proofs.Membership.{all_has, has_within}
-use Rattle.ule_members.proofs.PlaceFinds.{thread_at_is, thread_at_stands, thread_at_within, within_thread_at}
-use Rattle.ule_members.proofs.Within.{Within, within_thread}
+use Rattle.ule_members.proofs.PlaceFinds.{thread_at_stands, thread_at_within, within_thread_at}
 use Rattle.ule_laws.proofs.ChainSteps.{place_from_hand_of}
 use Rattle.ule_laws.proofs.SeekLaws.{on_is_under}
 use Rattle.ule_laws.proofs.StepLaws.{IsAtEvent, IsSought, few_queues, slot_of, sought_stands, unborn_stands}

@@ -1,11 +1,11 @@
 -- A step of the whole scheduler is that of the world that it shows: each event on the value under its lock and
 -- on the worker's hand.
-use Rattle.std.proofs.Common.{◌≡◌, ◌≢◌, ℕ, ◌+◌, ◌%◌, ◌<◌, ◌≤◌, Bool, true, false, not, ◌==◌, pos, List, [], ◌∷◌, length, slice_get, slice_index_or, slice_set, Option, Some, None, IfSome, IsSome, IsTrue, is_some, nat_lt, if◌then◌else◌, option_and_then, ◌⊎◌, inl, inr, ⊎_elim, refl, sym, ◌∙◌, ap, subst, arith, mod-lt}
+use Rattle.std.proofs.Common.{◌≡◌, ◌≢◌, ℕ, ◌+◌, ◌%◌, ◌<◌, ◌≤◌, Bool, true, false, not, ◌==◌, pos, List, [], ◌∷◌, length, slice_set, Option, Some, None, IfSome, IsSome, if◌then◌else◌, option_and_then, ◌⊎◌, inl, inr, ⊎_elim, refl, sym, ◌∙◌, ap, subst, arith, mod-lt}
 use Rattle.std.specs.Option.{option_map, option_to_list}
-use Rattle.std.proofs.lemmas.Bool.{both_ways, cases_eq, cases_lt, cond-true, eq-eqb, cond-false, eqb-true, ltb-true, ne_eqb, true≢false}
-use Rattle.std.proofs.lemmas.List.{get_or-set_other, get_or-set_same, length-set, set-get_or, set_past}
+use Rattle.std.proofs.lemmas.Bool.{cases_eq, cases_lt, cond-true, eq-eqb, cond-false, eqb-true, ltb-true, ne_eqb, true≢false}
+use Rattle.std.proofs.lemmas.List.{get_or-set_other, get_or-set_same, length-set, set_past}
 use Rattle.std.proofs.lemmas.Option.{none-some}
-use Rattle.ule_score.specs.Changes.{RecordChange, after_sleep, before_sleep, record_after, sleeps, woken}
+use Rattle.ule_score.specs.Changes.{record_after, sleeps, woken}
 use Rattle.ule_score.specs.declared.place.Place.{Place}
 use Rattle.ule_score.specs.declared.place.Place.TheVariants.{Running, Queued, Asleep, Unborn, Gone, Hand}
 use Rattle.ule_score.specs.declared.record.CpuLine.{CpuLine}
@@ -21,27 +21,26 @@ use Rattle.ule_types.specs.declared.event.Reply.{Reply}
 use Rattle.ule_types.specs.declared.event.Reply.TheVariants.{Bedded, Buried, Dropped, Hatched, Landed, Nothing, NotAsleep, Returned}
 use Rattle.ule_model.specs.Conditions.{HasEmptyHand, IsPossible}
 use Rattle.ule_model.specs.CpuValue.{CpuValue, StandsFor, Taken, takes_over_in, value_added, value_switched, value_taken, value_ticked}
-use Rattle.ule_model.specs.Events.{holder_of, is_no_others, is_unborn, is_unborn_thread, lock_of_thread, locking, locks_of, sought_by}
+use Rattle.ule_model.specs.Events.{holder_of, is_no_others, is_unborn, is_unborn_thread, lock_of_thread, locking, locks_of}
 use Rattle.ule_model.specs.Frames.{thread_in_hand, thread_under}
-use Rattle.ule_model.specs.LockValue.{LockValue, Stepped, chain, chain_bedded, chain_woken, found_in, found_on, kept, limbo_buried, limbo_hatched, limbo_returned, queue_landed, limbo, lock_step, not_asleep, nothing, queue, queue_dropped}
-use Rattle.ule_model.specs.Places.{hand_of, is_hand_of, is_number, is_on, is_under, lock_of, runs_on}
+use Rattle.ule_model.specs.LockValue.{LockValue, Stepped, chain, chain_bedded, chain_woken, found_in, kept, limbo_buried, limbo_hatched, limbo_returned, queue_landed, limbo, lock_step, not_asleep, nothing, queue, queue_dropped}
+use Rattle.ule_model.specs.Places.{hand_of, is_hand_of, is_number, is_on, is_under, lock_of}
 use Rattle.ule_model.specs.Insertion.{bucket_of}
 use Rattle.ule_model.specs.declared.insertion.Insertion.TheVariants.{Ordinary}
 use Rattle.ule_prio.specs.Kind.{kind_at}
 use Rattle.ule_model.specs.Landing.{landed}
 use Rattle.ule_model.specs.Sleep.{dropped, put_in_hand, woken_at, woken_reply, woken_thread, woken_with}
-use Rattle.ule_model.specs.Step.{on_side, step}
+use Rattle.ule_model.specs.Step.{step}
 use Rattle.ule_model.specs.Switch.{switched}
 use Rattle.ule_model.specs.Tick.{ticked}
 use Rattle.ule_model.specs.WellMade.{IsWellMade, IsWellMadeWorld}
 use Rattle.ule_model.specs.Words.{WordChange, change_of}
-use Rattle.ule_model.specs.World.{Member, Side, World, current_of, fresh_line, moved_to, side_of, thread_of, with_record, with_side}
+use Rattle.ule_model.specs.World.{Member, Side, World, current_of, fresh_line, moved_to, side_of, thread_of, with_side}
 use Rattle.ule_model.specs.WorldValue.{IsAsleepOn, IsChainOf, IsHandOf, IsLimboOf, IsQueueOf, Shows, StandsUnder, WorldValue, held_by, if_thread, lock_for, lock_with, put_back, standing_of, value_step, value_step_at}
-use Rattle.ule_members.proofs.Membership.{has_thread_of}
 use Rattle.ule_members.proofs.PlaceFinds.{thread_at_is, thread_at_stands, thread_at_within}
 use Rattle.ule_members.proofs.Threads.{thread_of_within, within_current}
 use Rattle.ule_members.proofs.Within.{Within, changed, within_thread}
-use Rattle.ule_laws.proofs.ChainSteps.{IsInHand, IsPutDown, IsTakenUp, holder_holds, place_from_hand_of, put_down, take_up, taken_up, taken_up_is}
+use Rattle.ule_laws.proofs.ChainSteps.{IsInHand, IsPutDown, IsTakenUp, holder_holds, put_down, take_up, taken_up, taken_up_is}
 use Rattle.ule_laws.proofs.CpuEvents.{dropped_reply, dropped_stands, landed_stands, AreDropped, AreLanded, record_dropped, ticked_stands}
 use Rattle.ule_laws.proofs.CpuLaws.{ActsAlike, switched_stands}
 use Rattle.ule_laws.proofs.CpuSteps.{dropped_settings, landed_settings, switched_settings, ticked_settings}

@@ -1,8 +1,8 @@
 -- What a scheduler tells of a thread: its holder, and its final line.
-use Rattle.std.proofs.Common.{◌≡◌, ◌≢◌, ℕ, zero, suc, ◌+◌, ◌%◌, ◌<◌, ◌≤◌, Bool, true, false, ◌==◌, List, [], ◌∷◌, length, map, slice_get, slice_index_or, Option, Some, None, IfSome, if◌then◌else◌, option_and_then, ⊎_elim, inl, inr, ◌⊎◌, refl, sym, ◌∙◌, ap, subst, arith}
+use Rattle.std.proofs.Common.{◌≡◌, ◌≢◌, ℕ, zero, suc, ◌+◌, ◌%◌, ◌<◌, ◌≤◌, Bool, true, false, ◌==◌, List, [], ◌∷◌, length, slice_get, Option, Some, None, IfSome, if◌then◌else◌, option_and_then, ⊎_elim, ◌⊎◌, refl, sym, ◌∙◌, ap, subst, arith}
 use Rattle.std.specs.List.{cons_option, filter_map, range_with_len}
 use Rattle.std.specs.Option.{option_map}
-use Rattle.std.proofs.lemmas.Bool.{cases_lt, cond-false, cond-true, eq-eqb, eqb-true, ne_eqb}
+use Rattle.std.proofs.lemmas.Bool.{cases_lt, cond-false, cond-true, eq-eqb, ne_eqb}
 use Rattle.std.proofs.lemmas.List.{get_or_past}
 use Rattle.std.proofs.lemmas.Option.{get_or_from_slice_get, none-some, slice_get-get_or}
 use Rattle.ule_score.specs.declared.place.Place.{Place}
@@ -11,7 +11,7 @@ use Rattle.ule_score.specs.declared.record.ThreadRecord.{ThreadRecord}
 use Rattle.ule_sleep.specs.Chain.{standing_in}
 use Rattle.ule_threads.specs.declared.standing.Standing.{Standing}
 use Rattle.ule_types.specs.declared.outcome.ThreadLine.{ThreadLine}
-use Rattle.ule_model.specs.CpuValue.{first_found, value_line}
+use Rattle.ule_model.specs.CpuValue.{first_found}
 use Rattle.ule_model.specs.Events.{holder_of}
 use Rattle.ule_model.specs.Finals.{line_of, position_of, thread_line, thread_lines}
 use Rattle.ule_model.specs.Frames.{thread_in_hand, thread_under}
@@ -20,7 +20,7 @@ use Rattle.ule_model.specs.Places.{hand_of, is_hand_of, is_number, is_under, loc
 use Rattle.ule_model.specs.WellMade.{IsWellMade}
 use Rattle.ule_model.specs.World.{Member, World, side_of, thread_of}
 use Rattle.ule_model.specs.WorldValue.{IsAsleepOn, Shows, StandsUnder, WorldValue, held_by, held_line, holder_among, holder_at, holder_in, if_thread, line_among, line_at, line_in_hands, standing_of, value_lines}
-use Rattle.ule_members.proofs.PlaceFinds.{thread_at_none, thread_at_stands, thread_at_within}
+use Rattle.ule_members.proofs.PlaceFinds.{thread_at_none, thread_at_within}
 use Rattle.ule_members.proofs.Within.{within_thread}
 use Rattle.ule_laws.proofs.CpuPlaces.{line_stands}
 use Rattle.ule_laws.proofs.SeekLaws.{lock_found, on_is_under, one_lock}

@@ -1,16 +1,13 @@
 -- A step of a scheduler, by what it made of one lock's value and of the worker's hand.
-use Rattle.std.proofs.Common.{◌≡◌, ℕ, ◌<◌, List, slice_get, slice_set, Option, Some, None, refl, sym, ◌∙◌, ap, subst}
+use Rattle.std.proofs.Common.{◌≡◌, ℕ, slice_get, Option, Some, None, sym, ◌∙◌, ap, subst}
 use Rattle.std.specs.Option.{option_map}
-use Rattle.ule_score.specs.declared.record.ThreadRecord.{ThreadRecord}
 use Rattle.ule_types.specs.declared.event.Event.{Event}
 use Rattle.ule_types.specs.declared.event.Reply.{Reply}
 use Rattle.ule_types.specs.declared.event.Reply.TheVariants.{Nothing}
-use Rattle.ule_model.specs.Conditions.{IsPossible}
 use Rattle.ule_model.specs.Events.{locking}
 use Rattle.ule_model.specs.LockValue.{LockValue, Stepped, lock_step}
 use Rattle.ule_model.specs.Step.{step}
-use Rattle.ule_model.specs.World.{World}
-use Rattle.ule_model.specs.WorldValue.{CanStep, IsShown, Shows, Steps, WorldValue, held_by, lock_for, put_back, value_step, value_step_at}
+use Rattle.ule_model.specs.WorldValue.{CanStep, IsShown, Steps, WorldValue, held_by, lock_for, put_back, value_step, value_step_at}
 use Rattle.ule_laws.proofs.StepLaws.{Agrees, step_shows}
 
 -- what an event makes of a lock's value

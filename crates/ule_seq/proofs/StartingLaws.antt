@@ -5,7 +5,7 @@ use Rattle.std.proofs.lemmas.List.{length-map, length_push}
 use Rattle.std.proofs.lemmas.Option.{slice_get-map}
 use Rattle.ule_model.specs.LockValue.{LockValue}
 use Rattle.ule_model.specs.Start.{world_at_start}
-use Rattle.ule_model.specs.WorldValue.{Shows, StandsUnder, WorldValue, held_by}
+use Rattle.ule_model.specs.WorldValue.{Shows, StandsUnder}
 use Rattle.ule_score.specs.declared.record.ThreadRecord.{ThreadRecord}
 use Rattle.ule_types.specs.Form.{IsOfForm}
 use Rattle.ule_types.specs.declared.setup.Setup.{Setup}

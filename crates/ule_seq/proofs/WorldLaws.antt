@@ -1,9 +1,8 @@
 -- What a world's fields are once one lock's value and one hand are written.
-use Rattle.std.proofs.Common.{◌≡◌, ◌<◌, ◌≤◌, ℕ, ◌+◌, Bool, not, cond, List, [], ◌∷◌, length, map, slice_get, slice_index_or, slice_set, Option, Some, None, nat_lt, vec_len, IsTrue, refl, sym, ◌∙◌, ap, subst}
-use Rattle.std.specs.List.{position, position_or_len}
+use Rattle.std.proofs.Common.{◌≡◌, ◌<◌, ℕ, List, length, slice_get, slice_index_or, slice_set, Option, Some, None, sym, ◌∙◌, ap, subst}
 use Rattle.std.specs.Option.{option_map}
 use Rattle.std.specs.Vec.{with_item}
-use Rattle.std.proofs.lemmas.List.{length-map, length-set, map-set}
+use Rattle.std.proofs.lemmas.List.{length-map, map-set}
 use Rattle.std.proofs.lemmas.Option.{get_or_from_slice_get, slice_get-get_or, slice_get-map}
 use Rattle.ule_score.specs.declared.record.Settings.{Settings}
 use Rattle.ule_score.specs.declared.record.ThreadRecord.{ThreadRecord}
@@ -12,11 +11,11 @@ use Rattle.ule_types.specs.declared.event.Reply.{Reply}
 use Rattle.ule_model.specs.Events.{locking}
 use Rattle.ule_model.specs.LockConditions.{CanStepAt}
 use Rattle.ule_model.specs.LockValue.{LockValue, Stepped, lock_step}
-use Rattle.ule_model.specs.WorldValue.{CanStep, IsShown, WorldValue, held_by, lock_for, put_back, value_step}
+use Rattle.ule_model.specs.WorldValue.{CanStep, WorldValue, held_by, lock_for, value_step}
 use Rattle.ule_laws.proofs.StepConditions.{CanStepUnder, can_step_under}
-use Rattle.ule_laws.proofs.WorldSteps.{IsMadeAt, made_is_step, made_of, value_step_shown}
+use Rattle.ule_laws.proofs.WorldSteps.{IsMadeAt, made_is_step}
 use Rattle.ule_seq.specs.Locks.{lock_value}
-use Rattle.ule_seq.specs.Worlds.{KeepsWorld, value_of}
+use Rattle.ule_seq.specs.Worlds.{value_of}
 use Rattle.ule_seq.specs.declared.lock.Guarded.{Guarded}
 use Rattle.ule_seq.specs.declared.world.World.TheInside.{Inside}
 

@@ -86,7 +86,9 @@ impl World {
             | Event::Land(_, c)
             | Event::Fork(c, _)
             | Event::Exit(c) => Some(usize::from(c.0)),
-            Event::Bed(_, channel) => Some(usize::from(FIRST_CHAIN_LOCK) + usize::from(channel % 8)),
+            Event::Bed(_, channel) => Some(
+                usize::from(FIRST_CHAIN_LOCK) + usize::from(channel % 8),
+            ),
             Event::Hatch(_) | Event::Return(_) | Event::Bury(_) => Some(usize::from(LIMBO_LOCK)),
             Event::Wake(t)
             | Event::Lend(t, _)

@@ -1,5 +1,5 @@
 -- One more lock has its value.
-use Rattle.std.proofs.Common.{◌≡◌, ℕ, ◌++◌, ◌∷◌, [], arith}
+use Rattle.std.proofs.Common.{◌≡◌, ◌++◌, ◌∷◌, [], arith}
 use Rattle.std.proofs.lemmas.Grind.{common_steps}
 use Rattle.ule_seq.proofs.StartingLaws.{opening_push}
 use Rattle.ule_seq.proofs.start.opening_values.Goals as goal

@@ -1,5 +1,5 @@
 -- Before the first lock the place is looked for among all of them.
-use Rattle.std.proofs.Common.{◌≡◌, List, sym, ◌∙◌, ap, map}
+use Rattle.std.proofs.Common.{List, sym, ◌∙◌, ap}
 use Rattle.std.specs.List.{position_from}
 use Rattle.ule_model.specs.LockValue.{has_under}
 use Rattle.ule_model.specs.WorldValue.{WorldValue, lock_with}

@@ -1,8 +1,7 @@
 -- The answer is that of each world that the scheduler shows.
 use Rattle.std.proofs.Common.{ℕ, Option, ◌∙◌, ap}
 use Rattle.std.specs.Option.{option_and_then}
-use Rattle.ule_model.specs.Events.{holder_of, sought_by}
-use Rattle.ule_model.specs.WorldValue.{WorldValue, holder_in}
+use Rattle.ule_model.specs.Events.{holder_of}
 use Rattle.ule_laws.proofs.TellLaws.{holder_shown}
 use Rattle.ule_seq.specs.Readiness.{ready_by}
 use Rattle.ule_seq.proofs.world.World.ready.Goals as goal

@@ -1,11 +1,11 @@
 -- The step of the scheduler is made of what was read under the event's lock and in the worker's hand.
-use Rattle.std.proofs.Common.{◌≡◌, ℕ, ◌≤◌, Option, Some, None, refl, sym, ◌∙◌, ap, subst}
-use Rattle.ule_model.specs.WorldValue.{IsShown, Steps, WorldValue, value_step}
+use Rattle.std.proofs.Common.{◌≡◌, sym, ap}
+use Rattle.ule_model.specs.WorldValue.{WorldValue, value_step}
 use Rattle.ule_types.specs.declared.event.Reply.{Reply}
 use Rattle.ule_types.specs.declared.event.Reply.TheVariants.{Nothing}
 use Rattle.ule_laws.proofs.WorldSteps.{none_is_step, value_step_shown, value_step_steps}
 use Rattle.ule_seq.specs.Worlds.{value_of}
-use Rattle.ule_seq.proofs.WorldLaws.{IsWritten, ReadsFields, reads_can, written, written_is_step}
+use Rattle.ule_seq.proofs.WorldLaws.{reads_can, written, written_is_step}
 use Rattle.ule_seq.proofs.world.World.step.Goals as goal
 
 pub returns-in_default-clause-steps : goal.returns-in_default-clause-steps
@@ -40,7 +40,7 @@ invariant_of-self c = record {
   settings = c.self.invariant.settings;
   workers = c.self.invariant.workers;
   shown = value_step_shown c.args.self.now c.args.worker c.args.e.now c.args.now
-    (value_of (written c.self.inside c.in-Some.lock c.step_at.new.guarded c.from.result c.step_at.new.hand), c.step_at.result) (is_step c) c.requires;
+      (value_of (written c.self.inside c.in-Some.lock c.step_at.new.guarded c.from.result c.step_at.new.hand), c.step_at.result) (is_step c) c.requires;
 }
 
 pub returns-clause-value : goal.returns-clause-value
