@@ -21,6 +21,7 @@ module _ {H O G E R C : Type 0} (m : Means H O G E R C) where
 
   -- at the start each thread stands under the lock that its word names, under no other, and in no hand
   pub record StartsSettled : Type 0 where
+    pub few : (t : ℕ) → m.declared t ≡ true → t < 256
     pub low : (t : ℕ) → m.word t < 25
     pub stands : (t : ℕ) → m.declared t ≡ true → stands_at m m.values (m.word t) t ≡ true
     pub once : (t l : ℕ) → m.declared t ≡ true → stands_at m m.values l t ≡ true → l ≡ m.word t

@@ -8,3 +8,5 @@ pub mod Turns
 pub mod Performing
 pub mod Programs
 pub mod Theorem
+pub mod Opening
+pub mod Kept

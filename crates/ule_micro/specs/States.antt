@@ -1,5 +1,5 @@
 -- The state of the step model: the lock words, the threads' words, the ticket, now, the values under the locks, the workers and the history.
-use Rattle.std.specs.Prelude.{◌≡◌, ℕ, ◌+◌, ◌==◌, Bool, true, false, List, [], ◌∷◌, map, Option, Some, None, slice_get, slice_index_or}
+use Rattle.std.specs.Prelude.{◌≡◌, ℕ, ◌+◌, ◌-◌, ◌==◌, Bool, true, false, List, [], ◌∷◌, map, Option, Some, None, slice_get, slice_index_or}
 use Rattle.ule_micro.specs.declared.entry.Entry.{Entry}
 use Rattle.ule_micro.specs.declared.entry.HeldLocks.{HeldLocks}
 use Rattle.ule_micro.specs.declared.seat.Phase.{Phase}
@@ -85,6 +85,11 @@ module _ {O G E R : Type 0} where
   -- courses: where each worker stands in its program
   abbrev pub courses : State O G E R → List (Course O E R)
   courses s = map course_of s.seats
+
+module _ {O G E R : Type 0} where
+  -- is entry: the entry of this number, from 1, is of this worker at this time, with this event and reply
+  abbrev pub IsEntry : State O G E R → ℕ → ℕ → ℕ → E → R → Type 0
+  IsEntry s k worker now event reply = (x : Entry E R) × (slice_get s.history (s.ticket - k) ≡ Some x) × (worker ≡ x.worker) × (now ≡ x.now) × (event ≡ x.event) × (reply ≡ x.reply)
 
 module _ {H O G E R C : Type 0} (m : Means H O G E R C) where
   -- hand of: what a worker has in hand

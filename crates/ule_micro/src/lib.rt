@@ -4,6 +4,8 @@
 
 pub mod entry;
 mod going;
+pub mod micro;
+pub mod opening;
 pub mod parts;
 mod performing;
 pub mod seat;
@@ -12,6 +14,7 @@ pub mod turn;
 pub mod word;
 
 pub use entry::HeldLocks;
+pub use micro::Micro;
 pub use parts::{OwnPart, Parts};
 pub use todo::Todo;
 pub use turn::{StepDone, Turn};
