@@ -56,16 +56,26 @@ module _ {O G E R : Type 0} where
   pub stands_by : (s : State O G E R) (w : ℕ) (q : Seat O E R) (there : Phase E R) → w < length s.seats → q ≡ slice_index_or s.seats w q → q.phase ≡ there → StandsAt s w there
   stands_by s w q there h is at = (q, slice_get_read s.seats (length s.seats) w q refl h is, at)
 
--- what an event needs, by the lists of its locks
-pub needs_one : (n : Needs) (items : List ℕ) (x : ℕ) → ◌≡◌ {A = Option ℕ} None (sought_by n) → items ≡ fixed_by n → length items ≡ 1 → x ≡ slice_index_or items 0 x → n ≡ one x
-needs_one (one a) items x s f l r = ap one (sym (r ∙ ap (λ i. slice_index_or i 0 x) f))
-needs_one (both a b) items x s f l r = absurd (let z : 2 ≡ 1 = sym (ap length f) ∙ l in omega arith)
-needs_one (lock_of t) items x s f l r = absurd (none-some t s)
+-- what an event needs, by its fixed locks and the thread that it seeks
+pub needs_one : (n : Needs) (a : ℕ) → Some (One a) ≡ fixed_by n → n ≡ one a
+needs_one (one b) a e = cc
+needs_one (both b c) a e = absurd (cc)
+needs_one (lock_of t) a e = absurd (cc)
 
-pub needs_both : (n : Needs) (items : List ℕ) (x y : ℕ) → ◌≡◌ {A = Option ℕ} None (sought_by n) → items ≡ fixed_by n → length items ≢ 1 → x ≡ slice_index_or items 0 x → y ≡ slice_index_or items 1 y → n ≡ both x y
-needs_both (one a) items x y s f l r q = absurd (l (ap length f))
-needs_both (both a b) items x y s f l r q = (λ i. both (sym (r ∙ ap (λ j. slice_index_or j 0 x) f) i) (sym (q ∙ ap (λ j. slice_index_or j 1 y) f) i))
-needs_both (lock_of t) items x y s f l r q = absurd (none-some t s)
+pub needs_both : (n : Needs) (a b : ℕ) → Some (Two a b) ≡ fixed_by n → n ≡ both a b
+needs_both (one c) a b e = absurd (cc)
+needs_both (both c d) a b e = cc
+needs_both (lock_of t) a b e = absurd (cc)
+
+pub needs_lock : (n : Needs) (t : ℕ) → Some t ≡ sought_by n → n ≡ lock_of t
+needs_lock (one a) t e = absurd (cc)
+needs_lock (both a b) t e = absurd (cc)
+needs_lock (lock_of u) t e = cc
+
+pub seeks_some : (n : Needs) → ◌≡◌ {A = Option HeldLocks} None (fixed_by n) → ◌≡◌ {A = Option ℕ} None (sought_by n) → ⊥
+seeks_some (one a) f e = cc
+seeks_some (both a b) f e = cc
+seeks_some (lock_of u) f e = cc
 
 -- the newest entry is the first of those that contracts see
 pub newest : {X : Type 0} (items items' : List X) (x : X) → items' ≡ items ++ x ∷ [] → reverse items' ≡ x ∷ reverse items

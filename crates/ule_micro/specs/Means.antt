@@ -1,5 +1,7 @@
 -- What the parts of a scheduler mean: the values under its locks, its workers' own parts, its events and its programs.
 use Rattle.std.specs.Prelude.{◌≡◌, ℕ, zero, suc, ◌+◌, Bool, false, List, [], ◌∷◌, Option, Some, None, slice_get}
+use Rattle.ule_micro.specs.declared.entry.HeldLocks.{HeldLocks}
+use Rattle.ule_micro.specs.declared.entry.HeldLocks.TheVariants.{One, Two}
 use Rattle.ule_micro.specs.declared.todo.Todo.{Todo}
 use Rattle.ule_micro.specs.declared.word.WordChange.{WordChange}
 use Rattle.ule_micro.specs.declared.word.WordChange.TheVariants.{Block, Point}
@@ -17,10 +19,10 @@ sought_by (both a b) = None
 sought_by (lock_of t) = Some t
 
 -- fixed by: the rising locks of an event that doesn't seek
-abbrev pub fixed_by : Needs → List ℕ
-fixed_by (one a) = a ∷ []
-fixed_by (both a b) = a ∷ b ∷ []
-fixed_by (lock_of t) = []
+abbrev pub fixed_by : Needs → Option HeldLocks
+fixed_by (one a) = Some (One a)
+fixed_by (both a b) = Some (Two a b)
+fixed_by (lock_of t) = None
 
 -- thread of: the thread whose word a change is about
 abbrev pub thread_of : WordChange → ℕ

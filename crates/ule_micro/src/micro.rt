@@ -5,7 +5,7 @@ ghost use Rattle.ule_micro.specs.States.{IsEntry, lock_word, pending, word_of};
 ghost use Rattle.ule_micro.specs.Theorem.{IsNotStuck, LockAgreement, WordTellsPlace};
 ghost use Rattle.ule_micro.specs.Turns.{is_named, played};
 ghost use Rattle.ule_micro.specs.declared.entry.HeldLocks.TheVariants.{One};
-ghost use Rattle.ule_micro.specs.Means.{lock_of};
+ghost use Rattle.ule_micro.specs.Means.{fixed_by, lock_of};
 ghost use Rattle.ule_micro.specs.declared.seat.Phase.TheVariants as phase;
 ghost use Rattle.ule_micro.specs.declared.seat.Progress.TheVariants as progress;
 ghost use Rattle.ule_micro.specs.declared.seat.Seat.{Seat};
@@ -173,20 +173,39 @@ impl<P: Parts> Micro<P> {
         requires { StandsAt self.old.state worker (phase.Event e progress.Open) }
         ensures { IsTurned (P.means self.old.parts) self.old worker result self.new }
     {
-        if let Some(t) = self.parts.sought(&e) {
-            return self.first_read(worker, e, t);
+        let Some(held) = self.parts.fixed(&e) else {
+            return self.seek(worker, e);
+        };
+        self.take_first(worker, e, &held)
+    }
+
+    /// The first step of an event that doesn't seek: it takes the first of these locks.
+    fn take_first(&mut self, worker: u8, e: P::Event, held: &HeldLocks) -> Turn
+        requires at { StandsAt self.old.state worker (phase.Event e progress.Open) }
+        requires fixed { Some held.now ≡ fixed_by ((P.means self.old.parts).needs e) }
+        ensures { IsTurned (P.means self.old.parts) self.old worker result self.new }
+    {
+        match held {
+            HeldLocks::One(a) => {
+                let held = HeldLocks::One(*a);
+                self.take(worker, *a, Phase::Event(e, Progress::Locked(held)))
+            }
+            HeldLocks::Two(a, b) => {
+                self.take(worker, *a, Phase::Event(e, Progress::Half(*a, *b)))
+            }
         }
-        let fixed = self.parts.fixed(&e);
-        let a = fixed[0];
-        if fixed.len() == 1 {
-            return self.take(
-                worker,
-                a,
-                Phase::Event(e, Progress::Locked(HeldLocks::One(a))),
-            );
-        }
-        let b = fixed[1];
-        self.take(worker, a, Phase::Event(e, Progress::Half(a, b)))
+    }
+
+    /// The first step of a seeking event.
+    fn seek(&mut self, worker: u8, e: P::Event) -> Turn
+        requires at { StandsAt self.old.state worker (phase.Event e progress.Open) }
+        requires seeks { None ≡ fixed_by ((P.means self.old.parts).needs e) }
+        ensures { IsTurned (P.means self.old.parts) self.old worker result self.new }
+    {
+        let Some(t) = self.parts.sought(&e) else {
+            unreachable!()
+        };
+        self.first_read(worker, e, t)
     }
 
     /// A seeker's first read of the thread's word.

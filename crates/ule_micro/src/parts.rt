@@ -1,7 +1,7 @@
 //! What the step model is generic in: the parts of a scheduler.
+use crate::entry::HeldLocks;
 use crate::todo::Todo;
 use crate::word::WordChange;
-use arrayvec::ArrayVec;
 use std::alloc::Global;
 use ule_io::Memory;
 use ule_prio::{LockId, ThreadId};
@@ -110,9 +110,9 @@ pub trait Parts {
     fn sought(&self, e: &Self::Event) -> Option<ThreadId>
         ensures { result ≡ sought_by ((means self.now).needs e.now) };
 
-    /// The rising locks of an event that doesn't seek; empty for one that does.
-    fn fixed(&self, e: &Self::Event) -> ArrayVec<LockId, 2>
-        ensures { result.items ≡ fixed_by ((means self.now).needs e.now) };
+    /// The rising locks of an event that doesn't seek; none exactly for one that does.
+    fn fixed(&self, e: &Self::Event) -> Option<HeldLocks>
+        ensures { result ≡ fixed_by ((means self.now).needs e.now) };
 
     /// Performs an event under one lock, on the value there and the worker's hand, at a time in hz
     /// ticks.
