@@ -35,10 +35,10 @@ use Rattle.ule_micro.proofs.Seats.{course_at}
 use Rattle.ule_micro.proofs.Numbers.{play_small, items_small, advanced_set, advanced_at}
 use Rattle.ule_micro.proofs.Goings.{can_go_on, quiet_advance, asking_advance, asking_leave}
 use Rattle.ule_micro.proofs.Commits.{guards, apart_for, may, few_entries, few_items, has_room}
-use Rattle.ule_micro.specs.Theorem.{WordTellsPlace, IsNotStuck, LockAgreement}
+use Rattle.ule_micro.specs.Theorem.{WordTellsPlace, IsLegal, IsNoStep, IsNotStuck, LockAgreement}
 use Rattle.ule_micro.proofs.Turning.{turn_kept, tells_place}
 use Rattle.ule_micro.proofs.Unstuck.{not_stuck}
-use Rattle.ule_micro.proofs.Workers.{same_workers}
+use Rattle.ule_micro.proofs.Workers.{same_workers, unmoved}
 
 module _ {O E R : Type 0} where
   -- the worker that the code reads is the one that stands there
@@ -284,6 +284,9 @@ module _ {P H O G E R C : Type 0} (means : P → Means H O G E R C) (parts : P) 
     pub not_stuck_there : MovesLittle (means parts) → KeepsPrograms (means parts) → IsKept (means parts) s → IsNotStuck (means m.parts) m.state
     not_stuck_there law programs k = subst (λ (n : Machine P O G E R). IsNotStuck (means n.parts) n.state) view (not_stuck (means parts) law programs s k)
 
+    pub legal_there : IsKept (means parts) s → IsLegal (means m.parts) m.state
+    legal_there k = subst (λ (n : Machine P O G E R). IsLegal (means n.parts) n.state) view k.play
+
     pub agrees_there : IsKept (means parts) s → LockAgreement (means m.parts) m.state
     agrees_there k = subst (λ (n : Machine P O G E R). LockAgreement (means n.parts) n.state) view k.agreement
 
@@ -298,6 +301,9 @@ module _ {P H O G E R C : Type 0} (means : P → Means H O G E R C) where
 
   pub turned_workers : (l n : Machine P O G E R) (w : ℕ) (r : Turn) → IsTurned (means l.parts) l w r n → length n.state.seats ≡ length l.state.seats
   turned_workers l n w r turned = ap (λ (s : State O G E R). length s.seats) (sym turned.2) ∙ same_workers (means l.parts) l.state w
+
+  pub unmoved_there : (l n : Machine P O G E R) (w : ℕ) (r : Turn) → IsTurned (means l.parts) l w r n → IsNoStep r → n.state ≡ l.state
+  unmoved_there l n w r turned none = sym turned.2 ∙ unmoved (means l.parts) l.state w (subst IsNoStep (sym turned.1) none)
 
 module _ {X : Type 0} where
   -- an entry counted from the oldest, among those with the newest first

@@ -14,7 +14,7 @@ use Rattle.ule_micro.specs.declared.word.Word.TheVariants.{Lock, Blocked}
 use Rattle.ule_micro.specs.declared.word.WordChange.{WordChange}
 use Rattle.ule_micro.specs.Means.{Means, both, lock_of, stands_at}
 use Rattle.ule_micro.specs.Histories.{World, AreLocksFor, IsNoEarlier, Leads, latest_of}
-use Rattle.ule_micro.specs.Courses.{all_advanced}
+use Rattle.ule_micro.specs.Courses.{all_advanced, Play}
 use Rattle.ule_micro.specs.Laws.{start_of, IsEmpty}
 use Rattle.ule_micro.specs.Agreement.{NamesOneHolder, ThreadAgrees}
 use Rattle.ule_micro.specs.States.{State, lock_word, word_of, holds, pending, carried_at, courses, world, took}
@@ -72,7 +72,11 @@ module _ {H O G E R C : Type 0} (m : Means H O G E R C) where
     pub ticket : s.ticket ≡ length s.history
     pub history : Leads m (start_of m) s.history (world m s)
 
-  -- tells its place: where a worker holds a lock, has no change pending, and that lock stands in a thread's word, the thread stands under the lock
+  -- is legal: the play so far is a legal play of the workers' programs, in which each entry keeps the three rules of time
+  abbrev pub IsLegal : State O G E R → Type 0
+  IsLegal s = Play m s.history s.values (courses s)
+
+  -- word tells place: where a worker holds a lock, has no change pending, and that lock stands in a thread's word, the thread stands under the lock
   abbrev pub WordTellsPlace : State O G E R → Type 0
   WordTellsPlace s = (w t l : ℕ) → m.declared t ≡ true → holds s w l ≡ true → pending s w ≡ None → word_of s t ≡ Lock l → stands_at m s.values l t ≡ true
 
@@ -84,7 +88,7 @@ module _ {H O G E R C : Type 0} (m : Means H O G E R C) where
   abbrev pub IsNotStuck : State O G E R → Type 0
   IsNotStuck s = (w : ℕ) (p : Seat O E R) → slice_get s.seats w ≡ Some p → p.phase ≢ phase.Finished → (v : ℕ) × (v < length s.seats) × Moves s v
 
-  -- begins: a state at the start, where all locks are free, each word names the lock of its thread's place, and each worker has the first item of its program
+  -- is start: a state at the start, where all locks are free, each word names the lock of its thread's place, and each worker has the first item of its program
   pub record IsStart (s : State O G E R) : Type 0 where
     pub locks : (l : ℕ) → lock_word s l ≡ None
     pub words : (t : ℕ) → t < 256 → word_of s t ≡ Lock (m.word t)
@@ -95,7 +99,7 @@ module _ {H O G E R C : Type 0} (m : Means H O G E R C) where
     pub workers : length s.seats ≡ length m.owns
     pub seats : (w : ℕ) (o : O) → slice_get m.owns w ≡ Some o → slice_get s.seats w ≡ Some (seated m (next_command m o 0 (m.orders w)) 0 0)
 
--- has ended: a turn that was no step
+-- is no step: a turn that was no step, so the lock was held, the word was blocked, or the program was at its end
 abbrev pub IsNoStep : Turn → Type 0
 IsNoStep (turn.Moved done) = ⊥
 IsNoStep (turn.Lost lock holder) = Unit {0}

@@ -2,7 +2,7 @@
 ghost use Rattle.std.specs.Prelude.{◌≡◌, ◌<◌, ◌≤◌, ℕ, length, slice_get, All, None, Some, if◌then◌else◌};
 ghost use Rattle.ule_micro.specs.Kept.{IsTurned, StandsAt, TakesNext, ReleasesNext};
 ghost use Rattle.ule_micro.specs.States.{IsEntry, lock_word, pending, word_of};
-ghost use Rattle.ule_micro.specs.Theorem.{IsNotStuck, LockAgreement, WordTellsPlace};
+ghost use Rattle.ule_micro.specs.Theorem.{IsLegal, IsNoStep, IsNotStuck, LockAgreement, WordTellsPlace};
 ghost use Rattle.ule_micro.specs.Turns.{is_named, played};
 ghost use Rattle.ule_micro.specs.declared.entry.HeldLocks.TheVariants.{One};
 ghost use Rattle.ule_micro.specs.Means.{fixed_by, lock_of};
@@ -52,7 +52,10 @@ impl<P: Parts> Micro<P> {
     pub fn advance(&mut self, worker: u8) -> Turn
         requires { worker < length self.old.state.seats }
         ensures turned { IsTurned (P.means self.old.parts) self.old worker result self.new }
+        ensures workers { length self.new.state.seats ≡ length self.old.state.seats }
+        ensures unmoved { IsNoStep result → self.new.state ≡ self.old.state }
         ensures agrees { LockAgreement (P.means self.new.parts) self.new.state }
+        ensures legal { IsLegal (P.means self.new.parts) self.new.state }
         ensures tells { WordTellsPlace (P.means self.new.parts) self.new.state }
         ensures goes_on { IsNotStuck (P.means self.new.parts) self.new.state }
     {
@@ -65,8 +68,10 @@ impl<P: Parts> Micro<P> {
     pub fn play(&mut self, turns: &[u8])
         requires { All (λ w. w < length self.old.state.seats) turns.now }
         ensures parts { self.new.parts ≡ self.old.parts }
+        ensures workers { length self.new.state.seats ≡ length self.old.state.seats }
         ensures played { self.new.state ≡ played (P.means self.old.parts) self.old.state turns.now }
         ensures agrees { LockAgreement (P.means self.new.parts) self.new.state }
+        ensures legal { IsLegal (P.means self.new.parts) self.new.state }
         ensures tells { WordTellsPlace (P.means self.new.parts) self.new.state }
         ensures goes_on { IsNotStuck (P.means self.new.parts) self.new.state }
     {

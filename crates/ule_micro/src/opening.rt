@@ -2,7 +2,7 @@
 ghost use Rattle.std.specs.Prelude.{◌≡◌, ◌<◌, ◌≤◌, ◌+◌, length, IfOk};
 ghost use Rattle.ule_micro.specs.Means.{budgets};
 ghost use Rattle.ule_micro.specs.Opening.{AreFirstSeats, AreFirstValues, AreFirstWords, AreFree, IsFirstSeat};
-ghost use Rattle.ule_micro.specs.Theorem.{IsNotStuck, IsStart, LockAgreement, WordTellsPlace};
+ghost use Rattle.ule_micro.specs.Theorem.{IsLegal, IsNotStuck, IsStart, LockAgreement, WordTellsPlace};
 
 use crate::going::{next_item, phase_of};
 use crate::micro::Micro;
@@ -28,6 +28,7 @@ impl<P: Parts> Micro<P> {
         ensures parts { IfOk result (λ m. m.parts ≡ parts) }
         ensures start { IfOk result (λ m. IsStart (P.means parts) m.state) }
         ensures agrees { IfOk result (λ m. LockAgreement (P.means parts) m.state) }
+        ensures legal { IfOk result (λ m. IsLegal (P.means parts) m.state) }
         ensures tells { IfOk result (λ m. WordTellsPlace (P.means parts) m.state) }
         ensures goes_on { IfOk result (λ m. IsNotStuck (P.means parts) m.state) }
     {

@@ -4,3 +4,6 @@
 pub mod nap;
 pub mod shift;
 
+
+#[cfg(test)]
+mod tests;

@@ -1,5 +1,5 @@
 use Rattle.std.proofs.Common.{◌≡◌, ◌∙◌}
-use Rattle.ule_micro.proofs.Refines.{played_on, turned_workers, tells_there, not_stuck_there}
+use Rattle.ule_micro.proofs.Refines.{played_on, turned_workers, tells_there, legal_there, not_stuck_there}
 use Rattle.ule_micro.proofs.micro.Micro.play.Goals as goal
 
 pub loop-worker-preserved : goal.loop-worker-preserved
@@ -14,3 +14,6 @@ returns-clause-tells g c = tells_there g.P.Parts.means c.self.inside.parts _ c.l
 
 pub returns-clause-goes_on : goal.returns-clause-goes_on
 returns-clause-goes_on g c = let laws = g.met.P.Parts in not_stuck_there g.P.Parts.means c.self.inside.parts _ c.loop-worker.self c.self.view_is (laws.moves_little c.self.inside.parts) (laws.keeps_programs c.self.inside.parts) c.self.invariant.0
+
+pub returns-clause-legal : goal.returns-clause-legal
+returns-clause-legal g c = legal_there g.P.Parts.means c.self.inside.parts _ c.loop-worker.self c.self.view_is c.self.invariant.0

@@ -14,6 +14,9 @@ returns-clause-start g c = let laws = g.met.P.Parts in opening_start (g.P.Parts.
 pub returns-clause-agrees : goal.returns-clause-agrees
 returns-clause-agrees g c = let laws = g.met.P.Parts in (opening_kept (g.P.Parts.means c.args.parts) c.workers-workers.result c.in_ok-locks.locks.items c.in_ok-words.words.items c.in_ok-values.values.items c.in_ok-seats.seats.items _ (laws.starts_small c.args.parts) c.workers-workers.ensures c.in_ok-locks.ensures c.in_ok-words.ensures c.in_ok-values.ensures c.in_ok-seats.ensures (ap reverse c.in_ok-history.ensures.items) (laws.starts_settled c.args.parts) (laws.keeps_hands c.args.parts) (laws.keeps_programs c.args.parts)).agreement
 
+pub returns-clause-legal : goal.returns-clause-legal
+returns-clause-legal g c = let laws = g.met.P.Parts in (opening_kept (g.P.Parts.means c.args.parts) c.workers-workers.result c.in_ok-locks.locks.items c.in_ok-words.words.items c.in_ok-values.values.items c.in_ok-seats.seats.items _ (laws.starts_small c.args.parts) c.workers-workers.ensures c.in_ok-locks.ensures c.in_ok-words.ensures c.in_ok-values.ensures c.in_ok-seats.ensures (ap reverse c.in_ok-history.ensures.items) (laws.starts_settled c.args.parts) (laws.keeps_hands c.args.parts) (laws.keeps_programs c.args.parts)).play
+
 pub returns-clause-tells : goal.returns-clause-tells
 returns-clause-tells g c = let laws = g.met.P.Parts in tells_place (g.P.Parts.means c.args.parts) _ (opening_kept (g.P.Parts.means c.args.parts) c.workers-workers.result c.in_ok-locks.locks.items c.in_ok-words.words.items c.in_ok-values.values.items c.in_ok-seats.seats.items _ (laws.starts_small c.args.parts) c.workers-workers.ensures c.in_ok-locks.ensures c.in_ok-words.ensures c.in_ok-values.ensures c.in_ok-seats.ensures (ap reverse c.in_ok-history.ensures.items) (laws.starts_settled c.args.parts) (laws.keeps_hands c.args.parts) (laws.keeps_programs c.args.parts))
 
