@@ -1,37 +1,33 @@
 -- An event that takes effect keeps the state.
-use Rattle.std.proofs.Common.{◌≡◌, ◌≢◌, ◌⊎◌, ℕ, zero, suc, ◌+◌, ◌^◌, ◌≤◌, ◌<◌, Bool, true, false, eq-eqb, ne_eqb, List, [], ◌∷◌, map, length, set, sym, refl, ap, ◌∙◌, subst, inl, inr, ⊎_elim, arith, true≢false, length-set}
-use Rattle.std.specs.Prelude.{Option, Some, None, slice_get, slice_index_or, if◌then◌else◌}
+use Rattle.std.proofs.Common.{◌≡◌, ◌≢◌, ◌⊎◌, ℕ, zero, suc, ◌+◌, ◌≤◌, ◌<◌, true, false, eq-eqb, ne_eqb, List, [], ◌∷◌, map, length, set, sym, refl, ap, ◌∙◌, subst, inl, inr, ⊎_elim, arith, true≢false, length-set}
+use Rattle.std.specs.Prelude.{Option, Some, None, slice_get, if◌then◌else◌}
 use Rattle.std.proofs.lemmas.Option.{none-some, same_Some}
 use mathlib.Core.Logic.{dite}
 use native.Mathlib.Decide.{ℕ_discrete}
 use Rattle.ule_micro.specs.declared.entry.Entry.{Entry}
 use Rattle.ule_micro.specs.declared.entry.HeldLocks.{HeldLocks}
 use Rattle.ule_micro.specs.declared.entry.HeldLocks.TheVariants.{One, Two}
-use Rattle.ule_micro.specs.declared.seat.Phase.{Phase}
 use Rattle.ule_micro.specs.declared.seat.Phase.TheVariants as phase
 use Rattle.ule_micro.specs.declared.seat.Progress.{Progress}
 use Rattle.ule_micro.specs.declared.seat.Progress.TheVariants as progress
 use Rattle.ule_micro.specs.declared.seat.Seat.{Seat}
-use Rattle.ule_micro.specs.declared.todo.Todo.TheVariants as todo
-use Rattle.ule_micro.specs.declared.word.Word.TheVariants.{Lock, Blocked}
 use Rattle.ule_micro.specs.declared.word.WordChange.{WordChange}
-use Rattle.ule_micro.specs.declared.word.WordChange.TheVariants.{Block, Point}
-use Rattle.ule_micro.specs.Means.{Means, Needs, one, both, lock_of, thread_of, budgets, stands_at}
-use Rattle.ule_micro.specs.Histories.{World, Effect, performed, values_under, alone, with_first, is_among, stepped, paired, AreLocksFor, Follows, Shares, IsNoEarlier, latest_of, Leads}
-use Rattle.ule_micro.specs.Courses.{Course, has, all_advanced, done_by, IsInTime, Play, performs}
-use Rattle.ule_micro.specs.Laws.{start_of, StartsSmall, MovesLittle, KeepsHands, KeepsPrograms, Readies, AreRising, IsLockFor}
-use Rattle.ule_micro.specs.Agreement.{NamesOneHolder, ThreadAgrees}
-use Rattle.ule_micro.specs.States.{State, lock_word, word_of, holds, held_by, pending, pending_by, carried_at, course_of, courses, took, took_on_the_way, standing_of, hand_of, world}
+use Rattle.ule_micro.specs.Means.{Means, Needs, one, both, lock_of, budgets, stands_at}
+use Rattle.ule_micro.specs.Histories.{Effect, performed, values_under, alone, with_first, is_among, stepped, paired, AreLocksFor, Follows, Shares, IsNoEarlier, latest_of}
+use Rattle.ule_micro.specs.Courses.{all_advanced, Play, performs}
+use Rattle.ule_micro.specs.Laws.{StartsSmall, MovesLittle, KeepsHands, KeepsPrograms, Readies, AreRising, IsLockFor}
+use Rattle.ule_micro.specs.Agreement.{NamesOneHolder}
+use Rattle.ule_micro.specs.States.{State, lock_word, word_of, holds, held_by, pending, carried_at, course_of, courses, took, standing_of, hand_of, world}
 use Rattle.ule_micro.specs.Turns.{leaving, entry_of}
-use Rattle.ule_micro.specs.Theorem.{ThreadAgreesIn, HasWhatItNeeds, IsTimely, HoldsItsLocks, IsAtRest, LockAgreement}
+use Rattle.ule_micro.specs.Theorem.{ThreadAgreesIn, HasWhatItNeeds, IsTimely}
 use Rattle.ule_micro.specs.Performing.{AreApart}
 use Rattle.ule_micro.specs.Kept.{IsKept}
 use Rattle.ule_micro.proofs.Lists.{get_else, get_map, there, something, one_there}
-use Rattle.ule_micro.proofs.Seats.{seat_here, each_seat, held_here, held_before, held_same, pending_here, pending_before, pending_else, courses_set, course_at, carried_here, carried_before, carried_else, hand_at, hands_set, held_low, finished_free}
+use Rattle.ule_micro.proofs.Seats.{seat_here, each_seat, held_before, held_same, pending_here, pending_before, pending_else, courses_set, course_at, carried_here, carried_before, carried_else, hand_at, hands_set}
 use Rattle.ule_micro.proofs.Effects.{performed_one, performed_two, under_one, under_two}
 use Rattle.ule_micro.proofs.Threads.{thread_kept, under_calm, hand_calm, thread_left, thread_came, under_injective, under_no_hand, hand_injective}
 use Rattle.ule_micro.proofs.Words.{names_kept, one_holder}
-use Rattle.ule_micro.proofs.Moves.{in_value, bool_case, Moved, stays, left, came, moved_one, moved_two, stands_value, among_one, among_two, not_among_one, not_among_two, among_this, among_first, among_second}
+use Rattle.ule_micro.proofs.Moves.{in_value, bool_case, Moved, stays, left, came, moved_one, moved_two, stands_value, among_this, among_first, among_second}
 use Rattle.ule_micro.proofs.Numbers.{play_small, items_small, advanced_set}
 
 module _ {H O G E R C : Type 0} (m : Means H O G E R C) where
@@ -259,11 +255,14 @@ module _ {H O G E R C : Type 0} (m : Means H O G E R C) (small : StartsSmall m) 
     sought_stays : (v : ℕ) (q : Seat O E R) (mine : HeldLocks) (n : Needs) → v ≢ w → slice_get s.seats v ≡ Some q → ((l : ℕ) → is_among mine l ≡ true → took q.phase l ≡ true) → AreLocksFor m s.values mine n → AreLocksFor m after.values mine n
     sought_stays v q mine (one a) far is had needs = needs
     sought_stays v q mine (both a b) far is had needs = needs
-    sought_stays v q mine (lock_of t) far is had (l, one_lock, st) = (l, one_lock,
+    sought_stays v q mine (lock_of t) far is had (l, one_lock, st) = (
+      l,
+      one_lock,
       ⊎_elim
-      (λ a. absurd (far_locks v q l far is (had l (ap (λ i. is_among i l) one_lock ∙ among_this l)) a))
-      (λ out. ap (λ o. in_value m o t) (values_else m w e now (m.hand p.own) s.values guards.0 after held guards.1 effect l out) ∙ st)
-      (bool_case (is_among held l)))
+          (λ a. absurd (far_locks v q l far is (had l (ap (λ i. is_among i l) one_lock ∙ among_this l)) a))
+          (λ out. ap (λ o. in_value m o t) (values_else m w e now (m.hand p.own) s.values guards.0 after held guards.1 effect l out) ∙ st)
+          (bool_case (is_among held l)),
+    )
 
     way_stays : (v : ℕ) (q : Seat O E R) (f : E) (way : Progress) → v ≢ w → slice_get s.seats v ≡ Some q → q.phase ≡ phase.Event f way → HasWhatItNeeds m s f way → HasWhatItNeeds m s' f way
     way_stays v q f progress.Open far is there had = had

@@ -1,11 +1,11 @@
 -- The code that performs an event has the effect of the event.
-use Rattle.std.proofs.Common.{◌≡◌, ℕ, ◌<◌, List, [], ◌∷◌, length, set, take, drop, refl, sym, ap, ◌∙◌, subst, arith}
+use Rattle.std.proofs.Common.{◌≡◌, ℕ, ◌<◌, List, [], ◌∷◌, set, take, drop, refl, sym, ap, ◌∙◌}
 use Rattle.std.specs.Prelude.{Option, Some, None, slice_get, slice_index_or}
 use Rattle.std.proofs.lemmas.Option.{none-some, same_Some}
 use Rattle.ule_micro.specs.declared.entry.HeldLocks.TheVariants.{One, Two}
 use Rattle.ule_micro.specs.Means.{Means}
-use Rattle.ule_micro.specs.Histories.{Effect, performed, effect_of, values_under, alone, with_first, with_second, stepped, paired}
-use Rattle.ule_micro.specs.Performing.{CanPerform, Performs}
+use Rattle.ule_micro.specs.Histories.{performed, effect_of, values_under, alone, with_first, stepped, paired}
+use Rattle.ule_micro.specs.Performing.{Performs}
 use Rattle.ule_micro.proofs.Lists.{take_get, drop_get, index_get}
 
 module _ {G : Type 0} where

@@ -1,16 +1,15 @@
 -- A legal play goes on to a worker's next item, and its numbers stay small.
-use Rattle.std.proofs.Common.{◌≡◌, ◌≢◌, ℕ, zero, suc, ◌+◌, ◌*◌, ◌<◌, ◌≤◌, List, [], ◌∷◌, map, length, set, drop, sym, refl, ap, ◌∙◌, subst, arith, length-set}
+use Rattle.std.proofs.Common.{◌≡◌, ℕ, zero, suc, ◌+◌, ◌<◌, ◌≤◌, List, [], ◌∷◌, length, set, drop, sym, refl, ap, ◌∙◌, subst, arith}
 use Rattle.std.specs.Prelude.{Option, Some, None, slice_get}
-use Rattle.std.proofs.lemmas.Option.{none-some, same_Some}
+use Rattle.std.proofs.lemmas.Option.{none-some}
 use Rattle.ule_micro.specs.declared.entry.Entry.{Entry}
 use Rattle.ule_micro.specs.declared.todo.Todo.{Todo}
-use Rattle.ule_micro.specs.declared.todo.Todo.TheVariants.{Event, Advance}
-use Rattle.ule_micro.specs.Means.{Means, budgets}
-use Rattle.ule_micro.specs.Courses.{Course, Standing, asks, has, rests, standing_with, all_advanced, unbegun, answered, ordered, Play, opens, answers, begins, advances, performs}
+use Rattle.ule_micro.specs.Means.{Means}
+use Rattle.ule_micro.specs.Courses.{Course, Standing, asks, rests, standing_with, answered, Play, answers, begins}
 use Rattle.ule_micro.specs.Laws.{KeepsHands, KeepsPrograms}
 use Rattle.ule_micro.specs.Programs.{CanBegin, CanGoOn}
 use Rattle.ule_micro.specs.Turns.{Fetched, next_command, fetch}
-use Rattle.ule_micro.proofs.Lists.{get_here, get_else, get_set, set_set, there, drop_get, length_map, map_get}
+use Rattle.ule_micro.proofs.Lists.{get_here, set_set, there}
 use Rattle.ule_micro.proofs.Programs.{behind, fetched}
 
 module _ {X : Type 0} where

@@ -1,5 +1,5 @@
 -- A worker that was given its next item has done nothing of it.
-use Rattle.std.proofs.Common.{◌≡◌, ℕ, Bool, true, false, sym, refl, ap, ◌∙◌, subst}
+use Rattle.std.proofs.Common.{◌≡◌, ℕ, false, refl, ap}
 use Rattle.std.specs.Prelude.{Option, Some, None}
 use Rattle.ule_micro.specs.declared.entry.HeldLocks.{HeldLocks}
 use Rattle.ule_micro.specs.declared.seat.Phase.{Phase}
@@ -8,7 +8,7 @@ use Rattle.ule_micro.specs.declared.seat.Progress.{Progress}
 use Rattle.ule_micro.specs.declared.seat.Progress.TheVariants as progress
 use Rattle.ule_micro.specs.declared.todo.Todo.{Todo}
 use Rattle.ule_micro.specs.declared.todo.Todo.TheVariants as todo
-use Rattle.ule_micro.specs.Courses.{Standing, standing_with}
+use Rattle.ule_micro.specs.Courses.{standing_with}
 use Rattle.ule_micro.specs.States.{took, standing_of}
 use Rattle.ule_micro.specs.Turns.{phase_with}
 

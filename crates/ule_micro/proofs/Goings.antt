@@ -1,30 +1,26 @@
 -- A worker that comes to its next item keeps the state: behind an advance, and behind its last release.
-use Rattle.std.proofs.Common.{◌≡◌, ◌≢◌, ◌⊎◌, ℕ, ◌+◌, ◌≤◌, ◌<◌, Bool, true, false, List, [], ◌∷◌, map, length, set, drop, sym, refl, ap, ◌∙◌, subst, inl, inr, ⊎_elim, arith, true≢false, length-set}
+use Rattle.std.proofs.Common.{◌≡◌, ◌≢◌, ℕ, ◌+◌, ◌≤◌, ◌<◌, true, false, List, length, set, drop, sym, refl, ap, ◌∙◌, subst, ⊎_elim, arith, length-set}
 use Rattle.std.specs.Prelude.{Option, Some, None, slice_get, slice_index_or}
-use Rattle.std.proofs.lemmas.Option.{none-some, same_Some}
+use Rattle.std.proofs.lemmas.Option.{none-some}
 use mathlib.Core.Logic.{dite}
 use native.Mathlib.Decide.{ℕ_discrete}
-use Rattle.ule_micro.specs.declared.entry.HeldLocks.{HeldLocks}
-use Rattle.ule_micro.specs.declared.entry.HeldLocks.TheVariants.{One, Two}
-use Rattle.ule_micro.specs.declared.seat.Phase.{Phase}
+use Rattle.ule_micro.specs.declared.entry.HeldLocks.TheVariants.{One}
 use Rattle.ule_micro.specs.declared.seat.Phase.TheVariants as phase
-use Rattle.ule_micro.specs.declared.seat.Progress.{Progress}
 use Rattle.ule_micro.specs.declared.seat.Progress.TheVariants as progress
 use Rattle.ule_micro.specs.declared.seat.Seat.{Seat}
-use Rattle.ule_micro.specs.declared.todo.Todo.TheVariants as todo
 use Rattle.ule_micro.specs.declared.word.WordChange.{WordChange}
-use Rattle.ule_micro.specs.Means.{Means, thread_of, stands_at}
-use Rattle.ule_micro.specs.Histories.{World, Leads}
-use Rattle.ule_micro.specs.Courses.{Course, Standing, asks, has, rests, standing_with, all_advanced, advanced_by, Play, advances}
+use Rattle.ule_micro.specs.Means.{Means, stands_at}
+use Rattle.ule_micro.specs.Histories.{Leads}
+use Rattle.ule_micro.specs.Courses.{asks, standing_with, all_advanced, Play, advances}
 use Rattle.ule_micro.specs.Laws.{start_of, IsEmpty, KeepsHands, KeepsPrograms}
-use Rattle.ule_micro.specs.Agreement.{NamesOneHolder, ThreadAgrees}
+use Rattle.ule_micro.specs.Agreement.{NamesOneHolder}
 use Rattle.ule_micro.specs.Programs.{CanGoOn}
-use Rattle.ule_micro.specs.States.{State, lock_word, word_of, holds, held_by, pending, pending_by, carried_at, course_of, hand_of, courses, took, standing_of, world}
-use Rattle.ule_micro.specs.Turns.{Fetched, fetch, seated, going_on, phase_with}
-use Rattle.ule_micro.specs.Theorem.{ThreadAgreesIn, HasWhatItNeeds, IsTimely, HoldsItsLocks, IsAtRest, LockAgreement}
+use Rattle.ule_micro.specs.States.{State, lock_word, word_of, holds, held_by, pending, carried_at, course_of, courses, took, standing_of}
+use Rattle.ule_micro.specs.Turns.{Fetched, fetch, going_on}
+use Rattle.ule_micro.specs.Theorem.{ThreadAgreesIn, HasWhatItNeeds}
 use Rattle.ule_micro.specs.Kept.{IsKept}
 use Rattle.ule_micro.proofs.Lists.{get_here, set_same, there, length_map, index_here, index_else}
-use Rattle.ule_micro.proofs.Seats.{seat_here, seat_else, each_seat, held_here, held_before, held_else, held_same, pending_same, pending_before, courses_set, course_at, carried_same, hands_same, held_low, finished_free}
+use Rattle.ule_micro.proofs.Seats.{each_seat, held_here, held_before, held_else, held_same, pending_same, pending_before, courses_set, course_at, carried_same, hands_same, held_low, finished_free}
 use Rattle.ule_micro.proofs.Threads.{thread_kept}
 use Rattle.ule_micro.proofs.Words.{names_kept, names_freed}
 use Rattle.ule_micro.proofs.Moves.{not_among_one, among_this}

@@ -1,5 +1,5 @@
 -- What an event does to the places of threads, under one lock and under two.
-use Rattle.std.proofs.Common.{◌≡◌, ◌≢◌, ◌⊎◌, ℕ, ◌+◌, ◌<◌, Bool, true, false, eqb, eq-eqb, ne_eqb, List, [], ◌∷◌, length, set, sym, refl, ap, ◌∙◌, subst, inl, inr, ⊎_elim, arith, true≢false}
+use Rattle.std.proofs.Common.{◌≡◌, ◌≢◌, ◌⊎◌, ℕ, ◌<◌, Bool, true, false, eq-eqb, ne_eqb, List, length, set, sym, refl, ap, ◌∙◌, subst, inl, inr, ⊎_elim, arith, true≢false}
 use Rattle.std.specs.Prelude.{Option, Some, None, slice_get, ◌||◌, ◌==◌}
 use Rattle.std.proofs.lemmas.Option.{none-some, same_Some}
 use mathlib.Core.Logic.{dite}
@@ -8,11 +8,10 @@ use Rattle.ule_micro.specs.declared.entry.HeldLocks.{HeldLocks}
 use Rattle.ule_micro.specs.declared.entry.HeldLocks.TheVariants.{One, Two}
 use Rattle.ule_micro.specs.declared.word.WordChange.{WordChange}
 use Rattle.ule_micro.specs.declared.word.WordChange.TheVariants.{Block, Point}
-use Rattle.ule_micro.specs.Means.{Means, Needs, one, both, lock_of, thread_of, stands_at}
-use Rattle.ule_micro.specs.Histories.{Effect, performed, values_under, is_among, stepped, paired, AreLocksFor}
-use Rattle.ule_micro.specs.Laws.{MovesLittle, StepMoves, PairMoves, Leaves, IsLockFor, AreRising}
-use Rattle.ule_micro.proofs.Lists.{get_here, get_else, there, something}
-use Rattle.ule_micro.proofs.Effects.{performed_one, performed_two, under_one, under_two}
+use Rattle.ule_micro.specs.Means.{Means, thread_of, stands_at}
+use Rattle.ule_micro.specs.Histories.{is_among}
+use Rattle.ule_micro.specs.Laws.{StepMoves, PairMoves, Leaves}
+use Rattle.ule_micro.proofs.Lists.{get_here, get_else, there}
 
 -- one of two locks
 pub among_one : (a l : ℕ) → is_among (One a) l ≡ true → l ≡ a

@@ -1,14 +1,12 @@
 -- The numbers of a legal play are small: its entries and advances are at most the budgets.
-use Rattle.std.proofs.Common.{◌≡◌, ◌≢◌, ℕ, zero, suc, ◌+◌, ◌*◌, ◌^◌, ◌<◌, ◌≤◌, List, [], ◌∷◌, map, length, set, sym, refl, ap, ◌∙◌, subst, arith, length-set}
-use Rattle.std.specs.Prelude.{Option, Some, None, slice_get}
+use Rattle.std.proofs.Common.{◌≡◌, ℕ, zero, suc, ◌+◌, ◌*◌, ◌^◌, ◌<◌, ◌≤◌, List, [], ◌∷◌, map, length, set, sym, refl, ap, ◌∙◌, subst, arith, length-set}
+use Rattle.std.specs.Prelude.{Some, slice_get}
 use Rattle.std.proofs.lemmas.Option.{none-some, same_Some}
 use mathlib.Core.Logic.{dite}
 use native.Mathlib.Decide.{ℕ_discrete}
 use Rattle.ule_micro.specs.declared.entry.Entry.{Entry}
-use Rattle.ule_micro.specs.declared.todo.Todo.TheVariants.{Event, Advance}
 use Rattle.ule_micro.specs.Means.{Means, budgets}
-use Rattle.ule_micro.specs.Histories.{Effect}
-use Rattle.ule_micro.specs.Courses.{Course, has, all_advanced, unbegun, answered, ordered, advanced_by, done_by, Play, opens, answers, begins, advances, performs}
+use Rattle.ule_micro.specs.Courses.{Course, all_advanced, unbegun, answered, ordered, advanced_by, done_by, Play, opens, answers, begins, advances, performs}
 use Rattle.ule_micro.specs.Laws.{KeepsPrograms, StartsSmall}
 use Rattle.ule_micro.proofs.Lists.{length_map, there}
 

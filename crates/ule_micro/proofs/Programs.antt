@@ -1,12 +1,11 @@
 -- How a worker goes through its commands, up to its next item.
-use Rattle.std.proofs.Common.{◌≡◌, ◌≢◌, ℕ, suc, zero, ◌+◌, ◌<◌, ◌≤◌, List, [], ◌∷◌, length, drop, refl, sym, ap, ◌∙◌, subst, arith}
-use Rattle.std.specs.Prelude.{Option, Some, None, is_some, Bool, true, false, slice_get}
-use Rattle.std.proofs.lemmas.Option.{none-some, same_Some}
+use Rattle.std.proofs.Common.{◌≡◌, ℕ, ◌+◌, List, ◌∷◌, drop, refl, sym, ap, ◌∙◌, subst}
+use Rattle.std.specs.Prelude.{Option, Some, None, is_some, true, false, slice_get}
 use Rattle.ule_micro.specs.declared.todo.Todo.{Todo}
 use Rattle.ule_micro.specs.Means.{Means}
-use Rattle.ule_micro.specs.Programs.{CanBegin, CanGoOn}
+use Rattle.ule_micro.specs.Programs.{CanBegin}
 use Rattle.ule_micro.specs.Turns.{Fetched, next_command, fetch}
-use Rattle.ule_micro.proofs.Lists.{drop_get, drop_none, there}
+use Rattle.ule_micro.proofs.Lists.{drop_get, drop_none}
 
 module _ {H O G E R C : Type 0} (m : Means H O G E R C) where
   -- behind: what the first command leads to, where this came of asking for its first item

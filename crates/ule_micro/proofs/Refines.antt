@@ -1,7 +1,7 @@
 -- The code makes the turns of the definitions.
-use Rattle.std.proofs.Common.{◌≡◌, ◌≢◌, ◌⊎◌, ℕ, ◌+◌, ◌-◌, ◌≤◌, ◌<◌, ◌^◌, Bool, true, false, List, [], ◌∷◌, ◌++◌, reverse, length, set, drop, sym, refl, ap, ◌∙◌, subst, arith}
+use Rattle.std.proofs.Common.{◌≡◌, ℕ, ◌+◌, ◌-◌, ◌≤◌, ◌<◌, ◌^◌, List, [], ◌∷◌, ◌++◌, reverse, length, set, drop, sym, refl, ap, ◌∙◌, subst, arith}
 use Rattle.std.specs.Prelude.{Option, Some, None, slice_get, slice_index_or, if◌then◌else◌}
-use Rattle.std.proofs.lemmas.Option.{none-some, same_Some, slice_get_read, slice_get-get_or}
+use Rattle.std.proofs.lemmas.Option.{same_Some, slice_get_read, slice_get-get_or}
 use Rattle.std.proofs.lemmas.List.{reverse-append, length-reverse, get_or-reverse}
 use Rattle.ule_micro.specs.declared.seat.Phase.{Phase}
 use Rattle.ule_micro.specs.declared.seat.Seat.{Seat}
@@ -24,11 +24,11 @@ use Rattle.ule_micro.specs.declared.word.Word.TheVariants.{Lock, Blocked}
 use Rattle.ule_micro.specs.declared.word.WordChange.{WordChange}
 use Rattle.ule_micro.specs.declared.word.WordChange.TheVariants.{Block, Point}
 use Rattle.ule_micro.specs.Means.{budgets, Needs, lock_of, one, both, sought_by, fixed_by}
-use Rattle.ule_micro.specs.Histories.{Effect, performed}
+use Rattle.ule_micro.specs.Histories.{performed}
 use Rattle.ule_micro.specs.Performing.{CanPerform, Acts}
 use Rattle.ule_micro.specs.Programs.{CanGoOn}
-use Rattle.ule_micro.specs.States.{word_of, pending, pending_by, courses, course_of}
-use Rattle.ule_micro.specs.Turns.{with_seat, with_lock, with_word, first_read, second_read, store, leave, commit, calm, is_named, going_on, open_event, leaving, entry_of, played}
+use Rattle.ule_micro.specs.States.{pending, pending_by, courses, course_of}
+use Rattle.ule_micro.specs.Turns.{with_seat, with_lock, with_word, first_read, second_read, store, leave, commit, calm, is_named, going_on, open_event, entry_of, played}
 use Rattle.ule_micro.specs.Courses.{Course, asks}
 use Rattle.ule_micro.proofs.Lists.{index_get, any_default, there, get_here, drop_get}
 use Rattle.ule_micro.proofs.Seats.{course_at}
@@ -159,8 +159,18 @@ module _ {P H O G E R C : Type 0} (means : P → Means H O G E R C) (parts : P) 
     committed_turned k e held now q' values' reply history' (p, at, here) (after, effect, is_q, is_values, is_reply) is_history = let seat = seat_now s.seats w p q at is in
         turn_at w (phase.Event e (progress.Timed held now)) q (p, at, here) is
         ∙ (ap (commit (means parts) s w q e held now) (ap (λ i. performed (means parts) i e now ((means parts).hand q.own) held s.values) (sym (k.numbers w q seat)) ∙ effect)
-        ∙ (λ j. (turn.Moved (done.Commit (s.ticket + 1)), record { locks = s.locks; words = s.words; ticket = s.ticket + 1; now = s.now; values = sym is_values j; seats = set s.seats w (sym is_q j);
-          history = (ap (λ r. entry_of (means parts) w e held now r ∷ s.history) (sym is_reply) ∙ sym is_history) j })))
+        ∙ (λ j. (
+          turn.Moved (done.Commit (s.ticket + 1)),
+          record {
+            locks = s.locks;
+            words = s.words;
+            ticket = s.ticket + 1;
+            now = s.now;
+            values = sym is_values j;
+            seats = set s.seats w (sym is_q j);
+            history = (ap (λ r. entry_of (means parts) w e held now r ∷ s.history) (sym is_reply) ∙ sym is_history) j;
+          },
+        )))
 
     -- a worker at its end did nothing
     pub finished_turned : StandsAt s w phase.Finished → turn_of (means parts) s w ≡ (turn.Finished, s)
@@ -241,9 +251,11 @@ module _ {P H O G E R C : Type 0} (means : P → Means H O G E R C) (parts : P) 
 
           pub commit_small : StandsAt s w (phase.Event e (progress.Timed held now)) → (q.items < 65536) × (s.ticket < 65536) × (length s.history < budgets (means parts).budget (length (means parts).owns))
           commit_small (p, at, here) = let seat = seat_now s.seats w p q at is in let here' = phase_now (phase.Event e (progress.Timed held now)) (p, at, here) in
-              let few = few_entries (means parts) (small parts) (law parts) (hands parts) (programs parts) (ready parts) s k w q seat e held now here' in
-              (few_items (means parts) (small parts) (law parts) (hands parts) (programs parts) (ready parts) s k w q seat e held now here', (let t = k.agreement.ticket in omega arith),
-              has_room (means parts) (small parts) (law parts) (hands parts) (programs parts) (ready parts) s k w q seat e held now here')
+              let few = few_entries (means parts) (small parts) (law parts) (hands parts) (programs parts) (ready parts) s k w q seat e held now here' in (
+                few_items (means parts) (small parts) (law parts) (hands parts) (programs parts) (ready parts) s k w q seat e held now here',
+                (let t = k.agreement.ticket in omega arith),
+                has_room (means parts) (small parts) (law parts) (hands parts) (programs parts) (ready parts) s k w q seat e held now here',
+              )
 
       -- the time after an advance stays small
       pub now_small : (n : ℕ) → StandsAt s w (phase.Advance n) → s.now + n < 2 ^ 64

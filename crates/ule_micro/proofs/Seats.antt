@@ -1,19 +1,14 @@
 -- What is read of a state after one worker changed.
-use Rattle.std.proofs.Common.{◌≡◌, ◌≢◌, ◌⊎◌, ℕ, ◌+◌, ◌≤◌, ◌<◌, Bool, true, false, List, [], ◌∷◌, map, length, set, sym, refl, ap, ◌∙◌, subst, inl, inr, ⊎_elim, arith, true≢false, length-set}
-use Rattle.std.specs.Prelude.{Option, Some, None, slice_get, slice_index_or}
-use Rattle.std.proofs.lemmas.Option.{none-some, same_Some}
+use Rattle.std.proofs.Common.{◌≡◌, ◌≢◌, ◌⊎◌, ℕ, ◌<◌, true, List, map, length, set, sym, ap, ◌∙◌, arith, true≢false}
+use Rattle.std.specs.Prelude.{Some, None, slice_get}
+use Rattle.std.proofs.lemmas.Option.{none-some}
 use mathlib.Core.Logic.{dite}
-use native.Mathlib.Decide.{ℕ_discrete, dec_lt}
-use Rattle.ule_micro.specs.declared.seat.Phase.{Phase}
+use native.Mathlib.Decide.{dec_lt}
 use Rattle.ule_micro.specs.declared.seat.Phase.TheVariants as phase
 use Rattle.ule_micro.specs.declared.seat.Seat.{Seat}
-use Rattle.ule_micro.specs.declared.word.WordChange.{WordChange}
 use Rattle.ule_micro.specs.Means.{Means}
-use Rattle.ule_micro.specs.Courses.{Course}
 use Rattle.ule_micro.specs.Agreement.{NamesOneHolder}
-use Rattle.ule_micro.specs.Laws.{IsEmpty}
-use Rattle.ule_micro.specs.States.{State, lock_word, holds, held_by, pending, pending_by, carried_at, course_of, hand_of, courses, took}
-use Rattle.ule_micro.specs.Theorem.{IsAtRest}
+use Rattle.ule_micro.specs.States.{State, lock_word, holds, held_by, pending_by, carried_at, course_of, hand_of, took}
 use Rattle.ule_micro.proofs.Lists.{get_here, get_else, get_set, set_same, get_map, map_set, there, same_at, index_past}
 
 module _ {O E R : Type 0} (seats : List (Seat O E R)) (w : ℕ) (p p' : Seat O E R) (at : slice_get seats w ≡ Some p) where

@@ -1,29 +1,26 @@
 -- The state at the start is kept.
-use Rattle.std.proofs.Common.{◌≡◌, ◌≢◌, ◌⊎◌, ℕ, zero, suc, ◌+◌, ◌≤◌, ◌<◌, Bool, true, false, List, [], ◌∷◌, ◌++◌, map, length, set, take, drop, sym, refl, ap, ◌∙◌, subst, inl, inr, ⊎_elim, arith, true≢false, length-set, length-append}
+use Rattle.std.proofs.Common.{◌≡◌, ℕ, zero, suc, ◌+◌, ◌≤◌, ◌<◌, Bool, true, false, List, [], ◌∷◌, ◌++◌, map, length, set, sym, refl, ap, ◌∙◌, subst, inl, arith, true≢false, length-append}
 use Rattle.std.specs.Prelude.{Option, Some, None, Result, Ok, Err, is_ok, is_err, if◌then◌else◌, slice_get, slice_index_or}
 use Rattle.std.proofs.lemmas.Option.{none-some, same_Some}
 use mathlib.Core.Logic.{dite}
 use native.Mathlib.Decide.{ℕ_discrete}
-use Rattle.ule_micro.specs.declared.seat.Phase.TheVariants as phase
-use Rattle.ule_micro.specs.declared.seat.Progress.{Progress}
 use Rattle.ule_micro.specs.declared.seat.Progress.TheVariants as progress
 use Rattle.ule_micro.specs.declared.seat.Seat.{Seat}
-use Rattle.ule_micro.specs.declared.word.Word.TheVariants.{Lock, Blocked}
-use Rattle.ule_micro.specs.declared.word.WordChange.{WordChange}
+use Rattle.ule_micro.specs.declared.word.Word.TheVariants.{Lock}
 use Rattle.ule_micro.specs.Means.{Means, stands_at}
 use Rattle.ule_micro.specs.Histories.{Leads}
-use Rattle.ule_micro.specs.Courses.{Course, asks, has, rests, standing_with, all_advanced, unbegun, Play, opens}
-use Rattle.ule_micro.specs.Laws.{StartsSmall, StartsSettled, KeepsHands, KeepsPrograms, start_of, IsEmpty}
-use Rattle.ule_micro.specs.Agreement.{ThreadAgrees, under}
+use Rattle.ule_micro.specs.Courses.{Course, standing_with, all_advanced, unbegun, Play, opens}
+use Rattle.ule_micro.specs.Laws.{StartsSmall, StartsSettled, KeepsHands, KeepsPrograms, start_of}
+use Rattle.ule_micro.specs.Agreement.{under}
 use Rattle.ule_micro.specs.Programs.{CanBegin}
-use Rattle.ule_micro.specs.States.{State, lock_word, word_of, holds, held_by, pending, pending_by, carried_at, course_of, hand_of, courses, world}
+use Rattle.ule_micro.specs.States.{State, holds, held_by, pending, pending_by, carried_at, course_of, hand_of, courses, world}
 use Rattle.ule_micro.specs.Turns.{Fetched, next_command, seated, phase_with}
 use Rattle.ule_micro.specs.Theorem.{IsStart, HasWhatItNeeds, ThreadAgreesIn}
 use Rattle.ule_micro.specs.Kept.{IsKept}
 use Rattle.ule_micro.specs.declared.entry.Entry.{Entry}
 use Rattle.ule_micro.specs.declared.word.Word.{Word}
 use Rattle.ule_micro.specs.Opening.{AreFree, AreFirstWords, AreFirstValues, AreFirstSeats, IsFirstSeat}
-use Rattle.ule_micro.proofs.Lists.{get_here, set_same, there, something, get_map, map_get, length_map, index_get}
+use Rattle.ule_micro.proofs.Lists.{set_same, there, something, get_map, length_map, index_get}
 use Rattle.ule_micro.proofs.Fetches.{IsFetchedWell, commands_well}
 use Rattle.ule_micro.proofs.Fresh.{took_nothing, standing_given, given_none, given_open, given_not_leaving, open_not_timed}
 

@@ -1,7 +1,7 @@
 -- A step that leaves a worker in its item keeps the state: a read, a take, a release, and the reading of now.
-use Rattle.std.proofs.Common.{◌≡◌, ◌≢◌, ◌⊎◌, ℕ, ◌+◌, ◌≤◌, ◌<◌, Bool, true, false, List, [], ◌∷◌, map, length, set, sym, refl, ap, ◌∙◌, subst, inl, inr, ⊎_elim, arith, true≢false, length-set}
+use Rattle.std.proofs.Common.{◌≡◌, ◌≢◌, ℕ, ◌+◌, ◌≤◌, true, List, length, set, sym, refl, ap, ◌∙◌, subst, ⊎_elim, length-set}
 use Rattle.std.specs.Prelude.{Option, Some, None, slice_get, slice_index_or}
-use Rattle.std.proofs.lemmas.Option.{none-some, same_Some}
+use Rattle.std.proofs.lemmas.Option.{none-some}
 use mathlib.Core.Logic.{dite}
 use native.Mathlib.Decide.{ℕ_discrete}
 use Rattle.ule_micro.specs.declared.entry.HeldLocks.{HeldLocks}
@@ -10,18 +10,17 @@ use Rattle.ule_micro.specs.declared.seat.Phase.TheVariants as phase
 use Rattle.ule_micro.specs.declared.seat.Progress.{Progress}
 use Rattle.ule_micro.specs.declared.seat.Progress.TheVariants as progress
 use Rattle.ule_micro.specs.declared.seat.Seat.{Seat}
-use Rattle.ule_micro.specs.declared.word.WordChange.{WordChange}
-use Rattle.ule_micro.specs.Means.{Means, thread_of, stands_at}
-use Rattle.ule_micro.specs.Histories.{World, Leads}
-use Rattle.ule_micro.specs.Courses.{Course, all_advanced, Play}
+use Rattle.ule_micro.specs.Means.{Means, stands_at}
+use Rattle.ule_micro.specs.Histories.{Leads}
+use Rattle.ule_micro.specs.Courses.{all_advanced, Play}
 use Rattle.ule_micro.specs.Laws.{start_of}
-use Rattle.ule_micro.specs.Agreement.{NamesOneHolder, ThreadAgrees}
-use Rattle.ule_micro.specs.States.{State, lock_word, word_of, holds, held_by, pending, pending_by, carried_at, course_of, hand_of, courses, took, standing_of, world}
+use Rattle.ule_micro.specs.Agreement.{NamesOneHolder}
+use Rattle.ule_micro.specs.States.{State, word_of, holds, held_by, pending, carried_at, course_of, courses, standing_of}
 use Rattle.ule_micro.specs.Turns.{at as placed}
-use Rattle.ule_micro.specs.Theorem.{ThreadAgreesIn, HasWhatItNeeds, IsTimely, HoldsItsLocks, IsAtRest, LockAgreement}
+use Rattle.ule_micro.specs.Theorem.{ThreadAgreesIn, HasWhatItNeeds, IsTimely}
 use Rattle.ule_micro.specs.Performing.{AreApart}
 use Rattle.ule_micro.specs.Kept.{IsKept}
-use Rattle.ule_micro.proofs.Seats.{seat_else, each_seat, held_else, pending_same, pending_before, courses_same, carried_same, hands_same, finished_free}
+use Rattle.ule_micro.proofs.Seats.{each_seat, held_else, pending_same, pending_before, courses_same, carried_same, hands_same, finished_free}
 use Rattle.ule_micro.proofs.Threads.{thread_kept}
 
 module _ {H O G E R C : Type 0} (m : Means H O G E R C) (s : State O G E R) (k : IsKept m s) (w : ℕ) (p : Seat O E R) (at : slice_get s.seats w ≡ Some p) (there : Phase E R) (locks' : List (Option ℕ)) where

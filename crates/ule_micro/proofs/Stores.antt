@@ -1,13 +1,9 @@
 -- A worker that stores its pending change in the thread's word keeps the state.
-use Rattle.std.proofs.Common.{◌≡◌, ◌≢◌, ◌⊎◌, ℕ, ◌+◌, ◌≤◌, ◌<◌, Bool, true, false, List, [], ◌∷◌, map, length, set, sym, refl, ap, ◌∙◌, subst, inl, inr, ⊎_elim, arith, true≢false, length-set}
-use Rattle.std.specs.Prelude.{Option, Some, None, slice_get, slice_index_or}
+use Rattle.std.proofs.Common.{◌≡◌, ◌≢◌, ℕ, ◌+◌, ◌≤◌, true, List, length, set, sym, refl, ap, ◌∙◌, subst, ⊎_elim, arith, length-set}
+use Rattle.std.specs.Prelude.{Some, None, slice_get, slice_index_or}
 use Rattle.std.proofs.lemmas.Option.{none-some, same_Some}
 use mathlib.Core.Logic.{dite}
 use native.Mathlib.Decide.{ℕ_discrete}
-use Rattle.ule_micro.specs.declared.entry.HeldLocks.{HeldLocks}
-use Rattle.ule_micro.specs.declared.seat.Phase.{Phase}
-use Rattle.ule_micro.specs.declared.seat.Phase.TheVariants as phase
-use Rattle.ule_micro.specs.declared.seat.Progress.TheVariants as progress
 use Rattle.ule_micro.specs.declared.seat.Seat.{Seat}
 use Rattle.ule_micro.specs.declared.word.Word.{Word}
 use Rattle.ule_micro.specs.declared.word.Word.TheVariants.{Lock, Blocked}
@@ -18,12 +14,12 @@ use Rattle.ule_micro.specs.Histories.{Leads}
 use Rattle.ule_micro.specs.Courses.{all_advanced, Play}
 use Rattle.ule_micro.specs.Laws.{start_of, StartsSettled}
 use Rattle.ule_micro.specs.Agreement.{NamesOneHolder, ThreadAgrees}
-use Rattle.ule_micro.specs.States.{State, lock_word, word_of, holds, held_by, pending, pending_by, carried_at, course_of, courses, took}
+use Rattle.ule_micro.specs.States.{State, lock_word, word_of, holds, pending, carried_at, courses}
 use Rattle.ule_micro.specs.Turns.{calm}
-use Rattle.ule_micro.specs.Theorem.{ThreadAgreesIn, HasWhatItNeeds, IsTimely, HoldsItsLocks, IsAtRest, LockAgreement}
+use Rattle.ule_micro.specs.Theorem.{ThreadAgreesIn, IsTimely}
 use Rattle.ule_micro.specs.Kept.{IsKept}
 use Rattle.ule_micro.proofs.Lists.{index_here, index_else}
-use Rattle.ule_micro.proofs.Seats.{each_seat, held_same, pending_here, pending_before, pending_else, courses_same, carried_same, hands_same, finished_free}
+use Rattle.ule_micro.proofs.Seats.{each_seat, held_same, pending_here, pending_before, pending_else, courses_same, carried_same, hands_same}
 use Rattle.ule_micro.proofs.Threads.{thread_kept, thread_blocked, thread_pointed}
 use Rattle.ule_micro.proofs.Words.{names_kept, one_holder}
 

@@ -1,5 +1,5 @@
 -- A thread's word and its place agree after each kind of step, over plain words, places, holders and pending changes.
-use Rattle.std.proofs.Common.{◌≡◌, ◌≢◌, ◌⊎◌, ℕ, zero, suc, ◌+◌, Bool, true, false, sym, refl, ap, ◌∙◌, subst, inl, inr, ⊎_elim, arith, true≢false}
+use Rattle.std.proofs.Common.{◌≡◌, ◌≢◌, ◌⊎◌, ℕ, suc, Bool, true, false, sym, refl, ap, ◌∙◌, subst, inl, inr, ⊎_elim, arith, true≢false}
 use Rattle.std.specs.Prelude.{Option, Some, None}
 use Rattle.std.proofs.lemmas.Option.{none-some, same_Some}
 use mathlib.Core.Logic.{dite}
@@ -9,7 +9,7 @@ use Rattle.ule_micro.specs.declared.word.Word.TheVariants.{Lock, Blocked}
 use Rattle.ule_micro.specs.declared.word.WordChange.{WordChange}
 use Rattle.ule_micro.specs.declared.word.WordChange.TheVariants.{Block, Point}
 use Rattle.ule_micro.specs.Means.{thread_of}
-use Rattle.ule_micro.specs.Agreement.{Place, under, in_hand, IsSettled, NamesHeld, AgreesInHand, IsPointing, AgreesUnder, WordAgrees, ChangeAgrees, IsThere, ThreadAgrees}
+use Rattle.ule_micro.specs.Agreement.{Place, under, in_hand, IsSettled, NamesHeld, AgreesInHand, AgreesUnder, WordAgrees, ChangeAgrees, IsThere, ThreadAgrees}
 
 -- place number: the lock or the worker of a place
 place_number : Place → ℕ
@@ -173,7 +173,10 @@ module _ (holds : ℕ → ℕ → Bool) (pending pending' : ℕ → Option WordC
     -- the word is blocked now
     pub thread_blocked : pending n ≡ Some (Block t) → ThreadAgrees holds pending' stands carries t Blocked
     thread_blocked is = let at = r.change_agrees n (Block t) is refl in record {
-      place = r.place; there = r.there; only_under = r.only_under; only_hand = r.only_hand;
+      place = r.place;
+      there = r.there;
+      only_under = r.only_under;
+      only_hand = r.only_hand;
       word_agrees = subst (WordAgrees holds pending' t Blocked) (sym at) (inl (refl, settled_now (Block t) is refl Blocked));
       change_agrees = change_still;
     }
@@ -181,7 +184,10 @@ module _ (holds : ℕ → ℕ → Bool) (pending pending' : ℕ → Option WordC
     -- the word names the lock now
     pub thread_pointed : (l : ℕ) → pending n ≡ Some (Point t l) → ThreadAgrees holds pending' stands carries t (Lock l)
     thread_pointed l is = let at = r.change_agrees n (Point t l) is refl in record {
-      place = r.place; there = r.there; only_under = r.only_under; only_hand = r.only_hand;
+      place = r.place;
+      there = r.there;
+      only_under = r.only_under;
+      only_hand = r.only_hand;
       word_agrees = subst (WordAgrees holds pending' t (Lock l)) (sym at.0) (inl (refl, settled_now (Point t l) is refl (Lock l)));
       change_agrees = change_still;
     }

@@ -1,7 +1,6 @@
 -- Each turn keeps the state.
-use Rattle.std.proofs.Common.{◌≡◌, ◌≢◌, ◌⊎◌, ℕ, ◌+◌, ◌≤◌, ◌<◌, Bool, true, false, cond, List, [], ◌∷◌, map, length, set, sym, refl, ap, ◌∙◌, subst, subst₂, inl, inr, ⊎_elim, arith, true≢false, length-set, ne_eqb}
+use Rattle.std.proofs.Common.{◌≡◌, ◌≢◌, ℕ, ◌<◌, Bool, true, false, List, [], ◌∷◌, set, sym, refl, ap, ◌∙◌, subst, subst₂, inl, inr, arith, true≢false, length-set, ne_eqb}
 use Rattle.std.specs.Prelude.{Option, Some, None, slice_get, slice_index_or, if◌then◌else◌}
-use Rattle.std.proofs.lemmas.Option.{none-some, same_Some}
 use mathlib.Core.Logic.{dite}
 use native.Mathlib.Decide.{ℕ_discrete}
 use Rattle.ule_micro.specs.declared.entry.HeldLocks.{HeldLocks}
@@ -11,23 +10,21 @@ use Rattle.ule_micro.specs.declared.seat.Phase.TheVariants as phase
 use Rattle.ule_micro.specs.declared.seat.Progress.{Progress}
 use Rattle.ule_micro.specs.declared.seat.Progress.TheVariants as progress
 use Rattle.ule_micro.specs.declared.seat.Seat.{Seat}
-use Rattle.ule_micro.specs.declared.todo.Todo.TheVariants as todo
 use Rattle.ule_micro.specs.declared.word.Word.{Word}
 use Rattle.ule_micro.specs.declared.word.Word.TheVariants.{Lock, Blocked}
 use Rattle.ule_micro.specs.declared.word.WordChange.{WordChange}
 use Rattle.ule_micro.specs.declared.word.WordChange.TheVariants.{Block, Point}
 use Rattle.ule_micro.specs.Means.{Means, Needs, one, both, lock_of, stands_at}
 use Rattle.ule_micro.specs.Histories.{Effect, performed, is_among, AreLocksFor}
-use Rattle.ule_micro.specs.Courses.{has, all_advanced}
 use Rattle.ule_micro.specs.Laws.{StartsSmall, StartsSettled, MovesLittle, KeepsHands, KeepsPrograms, Readies, AreRising}
-use Rattle.ule_micro.specs.Agreement.{NamesOneHolder, Place, IsThere, WordAgrees, under, in_hand, ThreadAgrees}
+use Rattle.ule_micro.specs.Agreement.{Place, IsThere, WordAgrees, under, in_hand}
 use Rattle.ule_micro.specs.Performing.{AreApart}
 use Rattle.ule_micro.specs.States.{State, lock_word, word_of, holds, held_by, pending, carried_at, course_of, courses, took, standing_of}
-use Rattle.ule_micro.specs.Turns.{at as placed, is_named, take, release, first_read, second_read, read_now, store, commit, advance, leave, open_event, approach, step_of, turn_by, turn_of, played, going_on}
-use Rattle.ule_micro.specs.Theorem.{HasWhatItNeeds, IsTimely, LockAgreement, WordTellsPlace}
+use Rattle.ule_micro.specs.Turns.{at as placed, is_named, take, first_read, commit, leave, open_event, approach, step_of, turn_by, turn_of, played}
+use Rattle.ule_micro.specs.Theorem.{HasWhatItNeeds, IsTimely, WordTellsPlace}
 use Rattle.ule_micro.specs.Kept.{IsKept}
 use Rattle.ule_micro.proofs.Lists.{there, index_here, index_else}
-use Rattle.ule_micro.proofs.Seats.{seat_here, held_here, held_before, held_else, held_same, pending_before, course_at, held_low}
+use Rattle.ule_micro.proofs.Seats.{held_here, held_before, held_else, held_same, pending_before, course_at, held_low}
 use Rattle.ule_micro.proofs.Threads.{word_tells, lock_injective, lock_not_blocked}
 use Rattle.ule_micro.proofs.Words.{names_kept, names_taken, names_freed, one_holder}
 use Rattle.ule_micro.proofs.Moves.{stands_value, among_this, among_first, among_second, not_among_one, not_among_two}

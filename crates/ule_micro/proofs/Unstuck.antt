@@ -1,7 +1,7 @@
 -- No state is stuck: where some worker is unfinished, the next turn of some worker is a step.
-use Rattle.std.proofs.Common.{◌≡◌, ◌≢◌, ◌⊎◌, ℕ, zero, suc, ◌+◌, ◌≤◌, ◌<◌, Bool, true, false, List, [], ◌∷◌, map, length, set, sym, refl, ap, ◌∙◌, subst, inl, inr, ⊎_elim, arith, true≢false}
-use Rattle.std.specs.Prelude.{Option, Some, None, slice_get, slice_index_or, if◌then◌else◌}
-use Rattle.std.proofs.lemmas.Option.{none-some, same_Some}
+use Rattle.std.proofs.Common.{◌≡◌, ◌≢◌, ◌⊎◌, ℕ, zero, suc, ◌+◌, ◌≤◌, ◌<◌, true, List, length, sym, refl, ap, ◌∙◌, subst, inl, inr, ⊎_elim, arith, true≢false}
+use Rattle.std.specs.Prelude.{Option, Some, None, slice_get}
+use Rattle.std.proofs.lemmas.Option.{none-some}
 use mathlib.Core.Logic.{dite}
 use native.Mathlib.Decide.{ℕ_discrete}
 use Rattle.ule_micro.specs.declared.entry.HeldLocks.{HeldLocks}
@@ -20,12 +20,11 @@ use Rattle.ule_micro.specs.declared.word.Word.TheVariants.{Lock, Blocked}
 use Rattle.ule_micro.specs.declared.word.WordChange.{WordChange}
 use Rattle.ule_micro.specs.declared.word.WordChange.TheVariants.{Block, Point}
 use Rattle.ule_micro.specs.Means.{Means, Needs, one, both, lock_of, stands_at}
-use Rattle.ule_micro.specs.Histories.{Effect, performed, values_under, is_among}
-use Rattle.ule_micro.specs.Courses.{has}
+use Rattle.ule_micro.specs.Histories.{performed, values_under}
 use Rattle.ule_micro.specs.Laws.{MovesLittle, KeepsPrograms, AreRising}
-use Rattle.ule_micro.specs.Agreement.{Place, IsThere, NamesOneHolder, WordAgrees, under, in_hand, ThreadAgrees}
+use Rattle.ule_micro.specs.Agreement.{Place, IsThere, WordAgrees, under, in_hand}
 use Rattle.ule_micro.specs.States.{State, lock_word, word_of, holds, held_by, pending, pending_by, carried_at, course_of, courses, took, standing_of}
-use Rattle.ule_micro.specs.Turns.{take, commit, leave, open_event, approach, step_of, turn_by, turn_of, first_read}
+use Rattle.ule_micro.specs.Turns.{take, commit, leave, open_event, approach, step_of, turn_by, first_read}
 use Rattle.ule_micro.specs.Theorem.{Moves, IsNotStuck}
 use Rattle.ule_micro.specs.Kept.{IsKept}
 use Rattle.ule_micro.proofs.Lists.{there}
@@ -58,9 +57,9 @@ module _ {H O G E R C : Type 0} (m : Means H O G E R C) (law : MovesLittle m) (p
     pub pending_moves : (c : WordChange) → p.pending ≡ Some c → Moves m s w
     pending_moves c is = let z = k.agreement.changes w p at c is in
         moves_by w p at (subst (λ f. IsMoved (step_of m s w p f).0) (sym z.2) (subst (λ o. IsMoved (leave m s w p z.0.reply z.0.now z.0.locks o).0) (sym is) (stores c))) where
-      stores : (d : WordChange) → IsMoved (leave m s w p (k.agreement.changes w p at c is).0.reply (k.agreement.changes w p at c is).0.now (k.agreement.changes w p at c is).0.locks (Some d)).0
-      stores (Block t) = (done.Block t, refl)
-      stores (Point t l) = (done.Point t l, refl)
+          stores : (d : WordChange) → IsMoved (leave m s w p (k.agreement.changes w p at c is).0.reply (k.agreement.changes w p at c is).0.now (k.agreement.changes w p at c is).0.locks (Some d)).0
+          stores (Block t) = (done.Block t, refl)
+          stores (Point t l) = (done.Point t l, refl)
 
     -- a worker behind its commit moves
     leave_moves : (reply : R) (now : ℕ) (held : HeldLocks) (o : Option WordChange) → IsMoved (leave m s w p reply now held o).0
@@ -174,9 +173,13 @@ module _ {H O G E R C : Type 0} (m : Means H O G E R C) (law : MovesLittle m) (p
 
   -- a worker with a thread in hand moves where no lock is held
   carrier_moves : (free : (b : ℕ) → lock_word s b ≡ None) (w t : ℕ) → m.declared t ≡ true → carried_at m (slice_get s.seats w) t ≡ true → SomeMoves
-  carrier_moves free w t dec ca = let z = carrier_there w t ca in (w, there s.seats w z.0 z.1, free_moves w z.0 z.1 free
-      (λ fin. true≢false (sym z.2 ∙ (k.agreement.finished w z.0 z.1 fin).empty t dec))
-      (λ e u here needs _. true≢false (sym z.2 ∙ (programs.seeks s.history s.values (courses s) w (course_of z.0) e u k.play (course_at s.seats w z.0 z.0 z.1) (ap standing_of here) needs).1 t dec)))
+  carrier_moves free w t dec ca = let z = carrier_there w t ca in (
+    w,
+    there s.seats w z.0 z.1,
+    free_moves w z.0 z.1 free
+        (λ fin. true≢false (sym z.2 ∙ (k.agreement.finished w z.0 z.1 fin).empty t dec))
+        (λ e u here needs _. true≢false (sym z.2 ∙ (programs.seeks s.history s.values (courses s) w (course_of z.0) e u k.play (course_at s.seats w z.0 z.0 z.1) (ap standing_of here) needs).1 t dec)),
+  )
 
   -- behind a blocked word stands a worker that moves, where no lock is held
   blocked_moves : (free : (b : ℕ) → lock_word s b ≡ None) (t : ℕ) → m.declared t ≡ true → word_of s t ≡ Blocked → SomeMoves

@@ -1,5 +1,5 @@
 -- No turn makes a worker come or go, and a turn that is no step changes nothing.
-use Rattle.std.proofs.Common.{◌≡◌, ℕ, List, length, refl, length-set}
+use Rattle.std.proofs.Common.{◌≡◌, ℕ, length, refl, length-set}
 use Rattle.ule_micro.specs.Theorem.{IsNoStep}
 use Rattle.std.specs.Prelude.{Option, Some, None, slice_get}
 use Rattle.ule_micro.specs.declared.entry.HeldLocks.{HeldLocks}
@@ -16,7 +16,7 @@ use Rattle.ule_micro.specs.declared.word.WordChange.TheVariants.{Block, Point}
 use Rattle.ule_micro.specs.Means.{Means, Needs, one, both, lock_of}
 use Rattle.ule_micro.specs.Histories.{Effect, performed}
 use Rattle.ule_micro.specs.States.{State, lock_word, word_of}
-use Rattle.ule_micro.specs.Turns.{take, first_read, store, commit, leave, open_event, approach, step_of, turn_by, turn_of}
+use Rattle.ule_micro.specs.Turns.{take, first_read, commit, leave, open_event, approach, step_of, turn_by, turn_of}
 
 module _ {H O G E R C : Type 0} (m : Means H O G E R C) (s : State O G E R) (w : ℕ) (p : Seat O E R) where
   take_many : (l : ℕ) (there : Phase E R) (o : Option ℕ) → length (take s w p l there o).1.seats ≡ length s.seats

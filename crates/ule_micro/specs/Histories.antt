@@ -1,5 +1,5 @@
 -- A history of events, newest entry first, each with the locks that it was performed under: how an entry follows from the values under its locks, and when its time is in order.
-use Rattle.std.specs.Prelude.{◌≡◌, ℕ, ◌+◌, ◌<◌, ◌≤◌, ◌⊎◌, ◌||◌, ◌==◌, Bool, true, List, [], ◌∷◌, Option, Some, None, slice_get, slice_set, if◌then◌else◌}
+use Rattle.std.specs.Prelude.{◌≡◌, ℕ, ◌≤◌, ◌⊎◌, ◌||◌, ◌==◌, Bool, true, List, [], ◌∷◌, Option, Some, None, slice_get, slice_set, if◌then◌else◌}
 use Rattle.ule_micro.specs.declared.entry.Entry.{Entry}
 use Rattle.ule_micro.specs.declared.entry.HeldLocks.{HeldLocks}
 use Rattle.ule_micro.specs.declared.entry.HeldLocks.TheVariants.{One, Two}

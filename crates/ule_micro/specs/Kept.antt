@@ -1,5 +1,5 @@
 -- What the step model keeps, and how its code is said to make one turn.
-use Rattle.std.specs.Prelude.{◌≡◌, ℕ, ◌<◌, ◌≤◌, List, map, reverse, length, Option, Some, None, slice_get}
+use Rattle.std.specs.Prelude.{◌≡◌, ℕ, ◌≤◌, List, reverse, length, Option, Some, None, slice_get}
 use Rattle.ule_micro.specs.declared.entry.Entry.{Entry}
 use Rattle.ule_micro.specs.declared.entry.HeldLocks.{HeldLocks}
 use Rattle.ule_micro.specs.declared.seat.Phase.{Phase}
@@ -7,8 +7,7 @@ use Rattle.ule_micro.specs.declared.seat.Phase.TheVariants as phase
 use Rattle.ule_micro.specs.declared.seat.Seat.{Seat}
 use Rattle.ule_micro.specs.declared.turn.Turn.{Turn}
 use Rattle.ule_micro.specs.declared.word.Word.{Word}
-use Rattle.ule_micro.specs.declared.word.WordChange.{WordChange}
-use Rattle.ule_micro.specs.Means.{Means, Needs}
+use Rattle.ule_micro.specs.Means.{Means}
 use Rattle.ule_micro.specs.Courses.{Play}
 use Rattle.ule_micro.specs.Performing.{AreApart}
 use Rattle.ule_micro.specs.States.{State, Machine, lock_word, courses}

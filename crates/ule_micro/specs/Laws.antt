@@ -2,13 +2,12 @@
 use Rattle.std.specs.Prelude.{◌≡◌, ◌≢◌, ℕ, ◌+◌, ◌^◌, ◌<◌, ◌≤◌, ◌⊎◌, true, false, List, [], ◌∷◌, length, map, Option, Some, None, slice_get}
 use Rattle.ule_micro.specs.declared.entry.Entry.{Entry}
 use Rattle.ule_micro.specs.declared.entry.HeldLocks.{HeldLocks}
-use Rattle.ule_micro.specs.declared.todo.Todo.{Todo}
 use Rattle.ule_micro.specs.declared.todo.Todo.TheVariants.{Event, Advance}
 use Rattle.ule_micro.specs.declared.word.WordChange.{WordChange}
 use Rattle.ule_micro.specs.declared.word.WordChange.TheVariants.{Block, Point}
 use Rattle.ule_micro.specs.Means.{Means, Needs, one, both, lock_of, thread_of, budgets, stands_at}
 use Rattle.ule_micro.specs.Histories.{World, AreLocksFor, values_under, IsNoEarlier, Leads}
-use Rattle.ule_micro.specs.Courses.{Course, Standing, asks, has, rests, Play}
+use Rattle.ule_micro.specs.Courses.{Course, asks, has, rests, Play}
 
 module _ {H O G E R C : Type 0} (m : Means H O G E R C) where
   -- the workers and their budgets are few
@@ -57,8 +56,8 @@ module _ {H O G E R C : Type 0} (m : Means H O G E R C) where
         → ((m.stands_in v t ≡ true) ⊎ (m.stands_in u t ≡ true)) × (m.stands_in v' t ≡ false) × (m.stands_in u' t ≡ false) × (m.carried_in h' t ≡ true)
     pub points : (t k : ℕ) → m.declared t ≡ true → change ≡ Some (Point t k)
         → ((m.carried_in h t ≡ true) ⊎ ((m.stands_in v t ≡ true) ⊎ (m.stands_in u t ≡ true)))
-          × (((k ≡ a) × (m.stands_in v' t ≡ true) × (m.stands_in u' t ≡ false)) ⊎ ((k ≡ b) × (m.stands_in v' t ≡ false) × (m.stands_in u' t ≡ true)))
-          × (m.carried_in h' t ≡ false)
+        × (((k ≡ a) × (m.stands_in v' t ≡ true) × (m.stands_in u' t ≡ false)) ⊎ ((k ≡ b) × (m.stands_in v' t ≡ false) × (m.stands_in u' t ≡ true)))
+        × (m.carried_in h' t ≡ false)
 
   -- moves little: each event that may be performed moves at most the thread of its word change
   pub record MovesLittle : Type 0 where

@@ -1,5 +1,5 @@
 -- What the parts of a scheduler mean: the values under its locks, its workers' own parts, its events and its programs.
-use Rattle.std.specs.Prelude.{◌≡◌, ℕ, zero, suc, ◌+◌, Bool, false, List, [], ◌∷◌, Option, Some, None, slice_get}
+use Rattle.std.specs.Prelude.{ℕ, zero, suc, ◌+◌, Bool, false, List, Option, Some, None, slice_get}
 use Rattle.ule_micro.specs.declared.entry.HeldLocks.{HeldLocks}
 use Rattle.ule_micro.specs.declared.entry.HeldLocks.TheVariants.{One, Two}
 use Rattle.ule_micro.specs.declared.todo.Todo.{Todo}

@@ -1,7 +1,6 @@
 -- The state of the step model: the lock words, the threads' words, the ticket, now, the values under the locks, the workers and the history.
-use Rattle.std.specs.Prelude.{◌≡◌, ℕ, ◌+◌, ◌-◌, ◌==◌, Bool, true, false, List, [], ◌∷◌, map, Option, Some, None, slice_get, slice_index_or}
+use Rattle.std.specs.Prelude.{◌≡◌, ℕ, ◌-◌, ◌==◌, Bool, false, List, map, Option, Some, None, slice_get, slice_index_or}
 use Rattle.ule_micro.specs.declared.entry.Entry.{Entry}
-use Rattle.ule_micro.specs.declared.entry.HeldLocks.{HeldLocks}
 use Rattle.ule_micro.specs.declared.seat.Phase.{Phase}
 use Rattle.ule_micro.specs.declared.seat.Phase.TheVariants as phase
 use Rattle.ule_micro.specs.declared.seat.Progress.{Progress}
@@ -9,12 +8,11 @@ use Rattle.ule_micro.specs.declared.seat.Progress.TheVariants as progress
 use Rattle.ule_micro.specs.declared.seat.Seat.{Seat}
 use Rattle.ule_micro.specs.declared.todo.Todo.TheVariants as todo
 use Rattle.ule_micro.specs.declared.word.Word.{Word}
-use Rattle.ule_micro.specs.declared.word.Word.TheVariants.{Lock, Blocked}
+use Rattle.ule_micro.specs.declared.word.Word.TheVariants.{Lock}
 use Rattle.ule_micro.specs.declared.word.WordChange.{WordChange}
-use Rattle.ule_micro.specs.Means.{Means, stands_at, carried_by}
+use Rattle.ule_micro.specs.Means.{Means}
 use Rattle.ule_micro.specs.Histories.{World, is_among}
 use Rattle.ule_micro.specs.Courses.{Course, Standing, asks, has, rests}
-use Rattle.ule_micro.specs.Agreement.{NamesOneHolder, ThreadAgrees}
 
 -- state: a step state, with the newest entry of its history first
 pub record State (O G E R : Type 0) : Type 0 where

@@ -1,8 +1,7 @@
 -- Lock agreement of a step state, and that no state is stuck.
-use Rattle.std.specs.Prelude.{◌≡◌, ◌≢◌, ℕ, ◌+◌, ◌<◌, ◌≤◌, ◌⊎◌, Bool, true, false, List, [], ◌∷◌, length, Option, Some, None, slice_get}
+use Rattle.std.specs.Prelude.{◌≡◌, ◌≢◌, ℕ, ◌+◌, ◌<◌, ◌≤◌, true, [], length, Some, None, slice_get}
 use Rattle.ule_micro.specs.declared.entry.Entry.{Entry}
 use Rattle.ule_micro.specs.declared.entry.HeldLocks.{HeldLocks}
-use Rattle.ule_micro.specs.declared.seat.Phase.{Phase}
 use Rattle.ule_micro.specs.declared.seat.Phase.TheVariants as phase
 use Rattle.ule_micro.specs.declared.seat.Progress.{Progress}
 use Rattle.ule_micro.specs.declared.seat.Progress.TheVariants as progress
@@ -10,14 +9,14 @@ use Rattle.ule_micro.specs.declared.seat.Seat.{Seat}
 use Rattle.ule_micro.specs.declared.turn.StepDone.{StepDone}
 use Rattle.ule_micro.specs.declared.turn.Turn.{Turn}
 use Rattle.ule_micro.specs.declared.turn.Turn.TheVariants as turn
-use Rattle.ule_micro.specs.declared.word.Word.TheVariants.{Lock, Blocked}
+use Rattle.ule_micro.specs.declared.word.Word.TheVariants.{Lock}
 use Rattle.ule_micro.specs.declared.word.WordChange.{WordChange}
 use Rattle.ule_micro.specs.Means.{Means, both, lock_of, stands_at}
-use Rattle.ule_micro.specs.Histories.{World, AreLocksFor, IsNoEarlier, Leads, latest_of}
+use Rattle.ule_micro.specs.Histories.{AreLocksFor, IsNoEarlier, Leads, latest_of}
 use Rattle.ule_micro.specs.Courses.{all_advanced, Play}
 use Rattle.ule_micro.specs.Laws.{start_of, IsEmpty}
 use Rattle.ule_micro.specs.Agreement.{NamesOneHolder, ThreadAgrees}
-use Rattle.ule_micro.specs.States.{State, lock_word, word_of, holds, pending, carried_at, courses, world, took}
+use Rattle.ule_micro.specs.States.{State, lock_word, word_of, holds, pending, carried_at, courses, world}
 use Rattle.ule_micro.specs.Turns.{turn_of, seated, next_command}
 
 module _ {H O G E R C : Type 0} (m : Means H O G E R C) where

@@ -1,5 +1,5 @@
 -- One turn of the step model, as a function of the state: each kind of step, and which one a worker makes next.
-use Rattle.std.specs.Prelude.{◌≡◌, ℕ, ◌+◌, ◌==◌, Bool, true, false, List, [], ◌∷◌, drop, Option, Some, None, slice_get, slice_set, if◌then◌else◌}
+use Rattle.std.specs.Prelude.{ℕ, ◌+◌, ◌==◌, Bool, false, List, [], ◌∷◌, drop, Option, Some, None, slice_get, slice_set, if◌then◌else◌}
 use Rattle.ule_micro.specs.declared.entry.Entry.{Entry}
 use Rattle.ule_micro.specs.declared.entry.HeldLocks.{HeldLocks}
 use Rattle.ule_micro.specs.declared.entry.HeldLocks.TheVariants.{One, Two}
@@ -96,14 +96,14 @@ module _ {H O G E R C : Type 0} (m : Means H O G E R C) where
   abbrev pub next_command : O → ℕ → List C → Fetched O E
   next_command own k [] = record { item = None; own = own; begun = k }
   next_command own k (c ∷ cs) = elim (m.next (m.begin own c) None).0 as (λ _. Fetched O E) [
-    None ↦ next_command (m.next (m.begin own c) None).1 (k + 1) cs
+    | None ↦ next_command (m.next (m.begin own c) None).1 (k + 1) cs
     | Some x ↦ record { item = Some x; own = (m.next (m.begin own c) None).1; begun = k + 1 }
   ]
 
   -- fetch: the next item of a worker that tells what its last event answered, with these commands yet to begin
   abbrev pub fetch : O → ℕ → Option (R × ℕ) → List C → Fetched O E
   fetch own k told orders = elim (m.next own told).0 as (λ _. Fetched O E) [
-    None ↦ next_command (m.next own told).1 k orders
+    | None ↦ next_command (m.next own told).1 k orders
     | Some x ↦ record { item = Some x; own = (m.next own told).1; begun = k }
   ]
 
@@ -120,7 +120,12 @@ module _ {H O G E R C : Type 0} (m : Means H O G E R C) where
   advance s w p k = (
     turn.Moved (done.Advance k),
     record {
-      locks = s.locks; words = s.words; ticket = s.ticket; now = s.now + k; values = s.values; history = s.history;
+      locks = s.locks;
+      words = s.words;
+      ticket = s.ticket;
+      now = s.now + k;
+      values = s.values;
+      history = s.history;
       seats = slice_set s.seats w (going_on w p.own p.begun None (p.items + 1) (p.advanced + k));
     },
   )
@@ -132,8 +137,12 @@ module _ {H O G E R C : Type 0} (m : Means H O G E R C) where
   -- leaving: a worker whose event had this effect
   abbrev pub leaving : Seat O E R → E → HeldLocks → ℕ → Effect H G R → Seat O E R
   leaving p e held now after = record {
-    own = m.with_hand p.own after.hand; begun = p.begun; items = p.items + 1; advanced = p.advanced;
-    pending = m.change e after.reply; phase = phase.Leaving after.reply now held;
+    own = m.with_hand p.own after.hand;
+    begun = p.begun;
+    items = p.items + 1;
+    advanced = p.advanced;
+    pending = m.change e after.reply;
+    phase = phase.Leaving after.reply now held;
   }
 
   -- commit: an event of a worker takes effect; without an effect nothing changes
@@ -142,7 +151,11 @@ module _ {H O G E R C : Type 0} (m : Means H O G E R C) where
   commit s w p e held now (Some after) = (
     turn.Moved (done.Commit (s.ticket + 1)),
     record {
-      locks = s.locks; words = s.words; ticket = s.ticket + 1; now = s.now; values = after.values;
+      locks = s.locks;
+      words = s.words;
+      ticket = s.ticket + 1;
+      now = s.now;
+      values = after.values;
       seats = slice_set s.seats w (leaving p e held now after);
       history = entry_of w e held now after.reply ∷ s.history;
     },

@@ -51,12 +51,13 @@ pub trait Parts {
 
     /// A worker's own part.
     type Own: OwnPart<
-            Hand = Self::Hand,
-            Value = Self::Value,
-            Event = Self::Event,
-            Reply = Self::Reply,
-            Order = Self::Order,
-        > + Drop;
+        Hand = Self::Hand,
+        Value = Self::Value,
+        Event = Self::Event,
+        Reply = Self::Reply,
+        Order = Self::Order,
+    >
+        + Drop;
 
     /// What all of it means.
     ghost means: { Self → Means Self.Hand Self.Own Self.Value Self.Event Self.Reply Self.Order };

@@ -3,7 +3,5 @@
 
 pub mod nap;
 pub mod shift;
-
-
 #[cfg(test)]
 mod tests;

@@ -92,9 +92,13 @@ pub struct Nap;
 
 impl OwnPart for Napper {
     type Hand = bool;
+
     type Value = Spot;
+
     type Event = Act;
+
     type Reply = Answer;
+
     type Order = Wish;
 
     ghost hand = { λ own. own.hand };
@@ -102,10 +106,15 @@ impl OwnPart for Napper {
 
 impl Parts for Nap {
     type Hand = bool;
+
     type Value = Spot;
+
     type Event = Act;
+
     type Reply = Answer;
+
     type Order = Wish;
+
     type Own = Napper;
 
     ghost use Rattle.ule_micro_rows.specs.Nap.{means};

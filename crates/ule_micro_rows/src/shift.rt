@@ -57,9 +57,13 @@ pub struct Shifts;
 
 impl OwnPart for Mover {
     type Hand = bool;
+
     type Value = bool;
+
     type Event = Move;
+
     type Reply = Place;
+
     type Order = Move;
 
     ghost hand = { λ own. own.hand };
@@ -67,10 +71,15 @@ impl OwnPart for Mover {
 
 impl Parts for Shifts {
     type Hand = bool;
+
     type Value = bool;
+
     type Event = Move;
+
     type Reply = Place;
+
     type Order = Move;
+
     type Own = Mover;
 
     ghost use Rattle.ule_micro_rows.specs.Shift.{means};

@@ -11,7 +11,11 @@ fn turn<P: Parts>(m: &mut Micro<P>, worker: u8) -> Turn
     requires { length m.old.state.seats ≡ 2 }
     ensures { length m.new.state.seats ≡ 2 }
 {
-    if worker == 0 { m.advance(0) } else { m.advance(1) }
+    if worker == 0 {
+        m.advance(0)
+    } else {
+        m.advance(1)
+    }
 }
 
 /// A step that read the thread's word, which names this lock.
@@ -30,7 +34,13 @@ fn thread_goes_to_the_chain_and_back(rt: HostRuntime) -> Result<(), Fail> {
     let turns = [
         (1, read(0)),
         (0, Turn::Moved(StepDone::Take(queue))),
-        (1, Turn::Lost { lock: queue, holder: 0 }),
+        (
+            1,
+            Turn::Lost {
+                lock: queue,
+                holder: 0,
+            },
+        ),
         (0, Turn::Moved(StepDone::Now(20_000))),
         (0, Turn::Moved(StepDone::Commit(1))),
         (0, Turn::Moved(StepDone::Block(t))),
@@ -45,7 +55,13 @@ fn thread_goes_to_the_chain_and_back(rt: HostRuntime) -> Result<(), Fail> {
         (1, Turn::Blocked { thread: t }),
         (0, Turn::Moved(StepDone::Point(t, chain))),
         (1, read(16)),
-        (1, Turn::Lost { lock: chain, holder: 0 }),
+        (
+            1,
+            Turn::Lost {
+                lock: chain,
+                holder: 0,
+            },
+        ),
         (0, Turn::Moved(StepDone::Release(chain))),
         (1, Turn::Moved(StepDone::Take(chain))),
         (0, Turn::Moved(StepDone::Advance(5))),
@@ -81,13 +97,25 @@ fn thread_is_moved_under_two_locks(rt: HostRuntime) -> Result<(), Fail> {
     let turns = [
         (0, Turn::Moved(StepDone::Take(first))),
         (1, read(0)),
-        (1, Turn::Lost { lock: first, holder: 0 }),
+        (
+            1,
+            Turn::Lost {
+                lock: first,
+                holder: 0,
+            },
+        ),
         (0, Turn::Moved(StepDone::Take(second))),
         (0, Turn::Moved(StepDone::Now(20_000))),
         (0, Turn::Moved(StepDone::Commit(1))),
         (0, Turn::Moved(StepDone::Point(t, second))),
         (0, Turn::Moved(StepDone::Release(second))),
-        (1, Turn::Lost { lock: first, holder: 0 }),
+        (
+            1,
+            Turn::Lost {
+                lock: first,
+                holder: 0,
+            },
+        ),
         (0, Turn::Moved(StepDone::Release(first))),
         (1, Turn::Moved(StepDone::Take(first))),
         (1, read(1)),
@@ -95,12 +123,24 @@ fn thread_is_moved_under_two_locks(rt: HostRuntime) -> Result<(), Fail> {
         (1, read(1)),
         (1, Turn::Moved(StepDone::Take(second))),
         (0, Turn::Moved(StepDone::Take(first))),
-        (0, Turn::Lost { lock: second, holder: 1 }),
+        (
+            0,
+            Turn::Lost {
+                lock: second,
+                holder: 1,
+            },
+        ),
         (1, read(1)),
         (1, Turn::Moved(StepDone::Now(20_000))),
         (1, Turn::Moved(StepDone::Commit(2))),
         (1, Turn::Moved(StepDone::Release(second))),
-        (1, Turn::Lost { lock: first, holder: 0 }),
+        (
+            1,
+            Turn::Lost {
+                lock: first,
+                holder: 0,
+            },
+        ),
         (0, Turn::Moved(StepDone::Take(second))),
         (0, Turn::Moved(StepDone::Now(20_000))),
         (0, Turn::Moved(StepDone::Commit(3))),

@@ -1,5 +1,5 @@
-use Rattle.std.proofs.Common.{◌≡◌, ℕ, ◌+◌, ◌-◌, ◌<◌, ◌≤◌, List, length, drop, sym, subst, ◌∙◌, ap, arith}
-use Rattle.std.specs.Prelude.{Option, Some, None, slice_get, is_some, true, false}
+use Rattle.std.proofs.Common.{◌≡◌, ℕ, ◌+◌, ◌-◌, ◌<◌, List, length, sym, subst, ◌∙◌, ap, arith}
+use Rattle.std.specs.Prelude.{Option, None, slice_get}
 use Rattle.ule_micro.proofs.Lists.{there}
 use Rattle.ule_micro.proofs.Programs.{all_begun, may_begin, has_item, goes_by, can_go_by}
 use Rattle.ule_micro.proofs.going.next_item.Goals as goal

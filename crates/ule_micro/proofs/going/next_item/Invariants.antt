@@ -8,7 +8,7 @@ abbrev pub invariant-loop-order : goal.invariant-loop-order
 invariant-loop-order g l = record {
   same : next_command (g.P.Parts.means l.parts) l.own l.begun (drop l.begun ((g.P.Parts.means l.parts).orders l.worker)) ≡ next_command (g.P.Parts.means l.parts) l.fn.own l.fn.begun (drop l.fn.begun ((g.P.Parts.means l.parts).orders l.worker));
   low : l.begun ≤ length ((g.P.Parts.means l.parts).orders l.worker);
-  can : CanBegin (g.P.Parts.means l.parts) l.own (drop l.begun ((g.P.Parts.means l.parts).orders l.worker))
+  can : CanBegin (g.P.Parts.means l.parts) l.own (drop l.begun ((g.P.Parts.means l.parts).orders l.worker));
 }
 
 abbrev pub decreases-loop-order : goal.decreases-loop-order

@@ -1,5 +1,4 @@
-use Rattle.std.proofs.Common.{◌≡◌, ◌≤◌, ◌+◌, length, arith, sym, subst}
-use Rattle.ule_micro.specs.Means.{budgets}
+use Rattle.std.proofs.Common.{◌+◌, length, arith}
 use Rattle.ule_micro.proofs.Numbers.{budgets_front, budgets_next}
 use Rattle.ule_micro.proofs.opening.all_budgets.Goals as goal
 

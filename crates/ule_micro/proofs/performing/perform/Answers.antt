@@ -1,4 +1,4 @@
-use Rattle.std.proofs.Common.{◌≡◌, sym, subst}
+use Rattle.std.proofs.Common.{sym, subst}
 use Rattle.ule_micro.specs.Performing.{Performs}
 use Rattle.ule_micro.proofs.performing.perform.Goals as goal
 

@@ -1,5 +1,5 @@
-use Rattle.std.proofs.Common.{◌≡◌, ◌<◌, length, take, drop, sym, subst, subst₂, ◌∙◌, ap, ◌++◌}
-use Rattle.std.specs.Prelude.{Some, slice_get, slice_index_or, slice_set}
+use Rattle.std.proofs.Common.{◌≡◌, length, take, drop, sym, ◌∙◌, ap, ◌++◌}
+use Rattle.std.specs.Prelude.{Some, slice_index_or, slice_set}
 use Rattle.ule_micro.proofs.Lists.{cut_writes, there}
 use Rattle.ule_micro.proofs.Effects.{performs_two, under_two, two_read}
 use Rattle.ule_micro.proofs.performing.perform_two.Goals as goal

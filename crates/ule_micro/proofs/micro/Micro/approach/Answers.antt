@@ -1,4 +1,3 @@
-use Rattle.std.proofs.Common.{◌≡◌, sym, ap, ◌∙◌, subst}
 use Rattle.ule_micro.proofs.Refines.{takes_named, takes_second, frees_stale, at_way}
 use Rattle.ule_micro.proofs.micro.Micro.approach.Goals as goal
 

@@ -1,13 +1,14 @@
-use Rattle.std.proofs.Common.{◌≡◌, ◌≢◌, ◌<◌, ◌≤◌, ◌+◌, sym, ap, ◌∙◌, subst, refl, arith}
-use Rattle.std.specs.Prelude.{Option, Some, None}
+use Rattle.std.proofs.Common.{arith}
 use Rattle.std.proofs.lemmas.List.{length-reverse}
 use Rattle.ule_micro.proofs.Refines.{keeps_by, turned_by, stands_here, committed_turned, can_perform, commit_small, newest}
 use Rattle.ule_micro.proofs.micro.Micro.commit.Goals as goal
 
 pub invariant_of-self : goal.invariant_of-self
-invariant_of-self g c = let laws = g.met.P.Parts in
-    (keeps_by g.P.Parts.means c.self.inside.parts _ laws.starts_small laws.starts_settled laws.moves_little laws.keeps_hands laws.keeps_programs laws.readies c.args.worker _ c.self.invariant.0
-    (committed_turned g.P.Parts.means c.self.inside.parts _ c.args.worker c.index_mut-seat.result.now c.index_mut-seat.ensures.value c.self.invariant.0 c.args.e c.args.held c.args.now c.act-reply.new.seat c.act-reply.new.values.items c.act-reply.result _ (stands_here g.P.Parts.means c.self.inside.parts _ c.args.self.now c.self.view_is c.args.worker _ c.requires) c.act-reply.ensures (newest _ _ _ c.push_reserved.ensures.items)), (let room = c.self.invariant.1 in let same = c.push_reserved.ensures.capacity in omega arith))
+invariant_of-self g c = let laws = g.met.P.Parts in (
+  keeps_by g.P.Parts.means c.self.inside.parts _ laws.starts_small laws.starts_settled laws.moves_little laws.keeps_hands laws.keeps_programs laws.readies c.args.worker _ c.self.invariant.0
+      (committed_turned g.P.Parts.means c.self.inside.parts _ c.args.worker c.index_mut-seat.result.now c.index_mut-seat.ensures.value c.self.invariant.0 c.args.e c.args.held c.args.now c.act-reply.new.seat c.act-reply.new.values.items c.act-reply.result _ (stands_here g.P.Parts.means c.self.inside.parts _ c.args.self.now c.self.view_is c.args.worker _ c.requires) c.act-reply.ensures (newest _ _ _ c.push_reserved.ensures.items)),
+  (let room = c.self.invariant.1 in let same = c.push_reserved.ensures.capacity in omega arith),
+)
 
 pub returns : goal.returns
 returns g c = turned_by g.P.Parts.means c.self.inside.parts _ c.args.self.now c.self.view_is c.args.worker _

@@ -1,4 +1,4 @@
-use Rattle.std.proofs.Common.{◌≡◌, ◌≤◌, length, reverse, refl, ap, sym, subst, ◌∙◌}
+use Rattle.std.proofs.Common.{◌≡◌, ◌≤◌, length, refl, ap, sym, subst, ◌∙◌}
 use Rattle.std.specs.Prelude.{Some, slice_get, ◌-◌}
 use Rattle.std.proofs.lemmas.List.{length-reverse}
 use Rattle.ule_micro.proofs.Refines.{reverse_get}

@@ -1,4 +1,4 @@
-use Rattle.std.proofs.Common.{◌≡◌, sym, ap, ◌∙◌, subst, refl}
+use Rattle.std.proofs.Common.{ap, refl}
 use Rattle.ule_micro.specs.declared.seat.Phase.TheVariants.{Leaving}
 use Rattle.ule_micro.proofs.Refines.{read_there, at_phase, leaves_stored, leaves_calm, leaves_second}
 use Rattle.ule_micro.proofs.micro.Micro.leave.Goals as goal

@@ -1,4 +1,4 @@
-use Rattle.std.proofs.Common.{◌≡◌, ◌∙◌}
+use Rattle.std.proofs.Common.{◌∙◌}
 use Rattle.ule_micro.proofs.Refines.{played_on, turned_workers, tells_there, legal_there, not_stuck_there}
 use Rattle.ule_micro.proofs.micro.Micro.play.Goals as goal
 

@@ -1,13 +1,14 @@
-use Rattle.std.proofs.Common.{◌≡◌, ◌≢◌, ◌<◌, ◌≤◌, ◌+◌, sym, ap, ◌∙◌, subst, refl, arith}
-use Rattle.std.specs.Prelude.{Option, Some, None}
+use Rattle.std.proofs.Common.{◌<◌, sym, subst, arith}
 use Rattle.ule_micro.proofs.Refines.{keeps_by, turned_by, stands_here, raised_turned, in_range, begun_low, raise_goes, raise_calm, raise_small, now_small}
 use Rattle.ule_micro.proofs.Lists.{there}
 use Rattle.ule_micro.proofs.micro.Micro.raise.Goals as goal
 
 pub invariant_of-self : goal.invariant_of-self
-invariant_of-self g c = let laws = g.met.P.Parts in
-    (keeps_by g.P.Parts.means c.self.inside.parts _ laws.starts_small laws.starts_settled laws.moves_little laws.keeps_hands laws.keeps_programs laws.readies c.args.worker _ c.self.invariant.0
-    (raised_turned g.P.Parts.means c.self.inside.parts _ c.args.worker c.index_mut-seat.result.now c.index_mut-seat.ensures.value c.args.k c.go_on.new.seat (stands_here g.P.Parts.means c.self.inside.parts _ c.args.self.now c.self.view_is c.args.worker _ c.requires) c.go_on.ensures), c.self.invariant.1)
+invariant_of-self g c = let laws = g.met.P.Parts in (
+  keeps_by g.P.Parts.means c.self.inside.parts _ laws.starts_small laws.starts_settled laws.moves_little laws.keeps_hands laws.keeps_programs laws.readies c.args.worker _ c.self.invariant.0
+      (raised_turned g.P.Parts.means c.self.inside.parts _ c.args.worker c.index_mut-seat.result.now c.index_mut-seat.ensures.value c.args.k c.go_on.new.seat (stands_here g.P.Parts.means c.self.inside.parts _ c.args.self.now c.self.view_is c.args.worker _ c.requires) c.go_on.ensures),
+  c.self.invariant.1,
+)
 
 pub returns : goal.returns
 returns g c = turned_by g.P.Parts.means c.self.inside.parts _ c.args.self.now c.self.view_is c.args.worker _

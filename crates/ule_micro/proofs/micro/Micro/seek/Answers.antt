@@ -1,4 +1,4 @@
-use Rattle.std.proofs.Common.{◌≡◌, sym, ap, ◌∙◌}
+use Rattle.std.proofs.Common.{sym, ap, ◌∙◌}
 use Rattle.ule_micro.specs.Means.{fixed_by}
 use Rattle.ule_micro.proofs.Refines.{needs_lock, seeks_some}
 use Rattle.ule_micro.proofs.micro.Micro.seek.Goals as goal

@@ -1,4 +1,4 @@
-use Rattle.std.proofs.Common.{◌≡◌, ◌≤◌, ◌∙◌, reverse, ap, sym, subst, arith}
+use Rattle.std.proofs.Common.{◌∙◌, reverse, ap, arith}
 use Rattle.ule_micro.specs.Means.{budgets}
 use Rattle.ule_micro.proofs.Turning.{tells_place}
 use Rattle.ule_micro.proofs.Unstuck.{not_stuck}

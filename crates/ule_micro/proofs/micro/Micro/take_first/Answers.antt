@@ -1,4 +1,4 @@
-use Rattle.std.proofs.Common.{◌≡◌, sym, ap, ◌∙◌}
+use Rattle.std.proofs.Common.{sym, ap, ◌∙◌}
 use Rattle.std.specs.Prelude.{Some}
 use Rattle.ule_micro.proofs.Refines.{opens_one, opens_both, needs_one, needs_both}
 use Rattle.ule_micro.proofs.micro.Micro.take_first.Goals as goal

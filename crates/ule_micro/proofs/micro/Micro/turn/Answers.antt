@@ -1,4 +1,4 @@
-use Rattle.std.proofs.Common.{◌≡◌, sym, ap, ◌∙◌, subst, refl}
+use Rattle.std.proofs.Common.{ap, refl}
 use Rattle.ule_micro.proofs.Refines.{read_there, stands_by, finished_turned}
 use Rattle.ule_micro.proofs.micro.Micro.turn.Goals as goal
 
