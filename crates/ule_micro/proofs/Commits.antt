@@ -32,7 +32,8 @@ use Rattle.ule_micro.proofs.Numbers.{play_small, items_small, advanced_set}
 
 module _ {H O G E R C : Type 0} (m : Means H O G E R C) where
   -- the values under the locks that an event needs are there
-  pub guarded_there : (values : List G) (held : HeldLocks) (n : Needs) → length values ≡ 25 → AreRising m n → AreLocksFor m values held n → (guarded : List G) × (values_under held values ≡ Some guarded)
+  pub guarded_there : (values : List G) (held : HeldLocks) (n : Needs) → length values ≡ 25 → AreRising m n → AreLocksFor m values held n
+      → (guarded : List G) × (values_under held values ≡ Some guarded)
   guarded_there values held (one a) many low is = let v = something values a (let l = low in omega arith) in (
     v.0 ∷ [],
     ap (λ i. values_under i values) is ∙ ap alone v.1,
@@ -53,19 +54,22 @@ module _ {H O G E R C : Type 0} (m : Means H O G E R C) where
   apart_for values held (lock_of t) low (l, is, st) = subst AreApart (sym is) tt
 
   -- an event under locks that have values has an effect
-  pub effect_there : (w : ℕ) (e : E) (now : ℕ) (h : H) (held : HeldLocks) (values guarded : List G) → values_under held values ≡ Some guarded → (after : Effect H G R) × (performed m w e now h held values ≡ Some after)
+  pub effect_there : (w : ℕ) (e : E) (now : ℕ) (h : H) (held : HeldLocks) (values guarded : List G) → values_under held values ≡ Some guarded
+      → (after : Effect H G R) × (performed m w e now h held values ≡ Some after)
   effect_there w e now h (One a) values guarded is = let v = under_one a values guarded is in (stepped m w e now h values a v.0, performed_one m w e now h a values v.0 v.1)
   effect_there w e now h (Two a b) values guarded is = let v = under_two a b values guarded is in (paired m w e now h values a b v.0 v.1, performed_two m w e now h a b values v.0 v.1 v.2 v.3)
 
   module _ (w : ℕ) (e : E) (now : ℕ) (h : H) (values guarded : List G) (after : Effect H G R) where
     -- the values under other locks stay
-    pub values_else : (held : HeldLocks) → values_under held values ≡ Some guarded → performed m w e now h held values ≡ Some after → (l : ℕ) → is_among held l ≡ false → slice_get after.values l ≡ slice_get values l
+    pub values_else : (held : HeldLocks) → values_under held values ≡ Some guarded → performed m w e now h held values ≡ Some after → (l : ℕ) → is_among held l ≡ false
+        → slice_get after.values l ≡ slice_get values l
     values_else (One a) is effect l out = let v = under_one a values guarded is in let same : stepped m w e now h values a v.0 ≡ after = same_Some _ after (sym (performed_one m w e now h a values v.0 v.1) ∙ effect) in
         ap (λ (x : Effect H G R). slice_get x.values l) (sym same) ∙ get_else values a l (m.step w e now h v.0).1 (λ z. true≢false (sym (ap (is_among (One a)) z ∙ among_this a) ∙ out))
     values_else (Two a b) is effect l out = let v = under_two a b values guarded is in let same : paired m w e now h values a b v.0 v.1 ≡ after = same_Some _ after (sym (performed_two m w e now h a b values v.0 v.1 v.2 v.3) ∙ effect) in
         ap (λ (x : Effect H G R). slice_get x.values l) (sym same) ∙ (get_else (set values a (m.pair w e now h v.0 v.1).1) b l (m.pair w e now h v.0 v.1).2 (λ z. true≢false (sym (ap (is_among (Two a b)) z ∙ among_second a b) ∙ out))
         ∙ get_else values a l (m.pair w e now h v.0 v.1).1 (λ z. true≢false (sym (ap (is_among (Two a b)) z ∙ among_first a b) ∙ out)))
 
+    -- an event leaves as many values as there were
     pub values_many : (held : HeldLocks) → values_under held values ≡ Some guarded → performed m w e now h held values ≡ Some after → length after.values ≡ length values
     values_many (One a) is effect = let v = under_one a values guarded is in let same : stepped m w e now h values a v.0 ≡ after = same_Some _ after (sym (performed_one m w e now h a values v.0 v.1) ∙ effect) in
         ap (λ (x : Effect H G R). length x.values) (sym same) ∙ length-set values a (m.step w e now h v.0).1
@@ -85,7 +89,8 @@ module _ {H O G E R C : Type 0} (m : Means H O G E R C) where
     both_for a b (lock_of t) (l, is, st) = absurd (cc)
 
     -- each declared thread stays, leaves a lock for the hand, or comes to a lock
-    pub moved : MovesLittle m → (held : HeldLocks) → values_under held values ≡ Some guarded → performed m w e now h held values ≡ Some after → AreLocksFor m values held (m.needs e) → m.may w e now h guarded
+    pub moved : MovesLittle m → (held : HeldLocks) → values_under held values ≡ Some guarded → performed m w e now h held values ≡ Some after
+        → AreLocksFor m values held (m.needs e) → m.may w e now h guarded
         → (t : ℕ) → m.declared t ≡ true → Moved m held h after.hand values after.values t (m.change e after.reply)
     moved law (One a) is effect locks may t dec = let v = under_one a values guarded is in let same : stepped m w e now h values a v.0 ≡ after = same_Some _ after (sym (performed_one m w e now h a values v.0 v.1) ∙ effect) in
         subst (λ (x : Effect H G R). Moved m (One a) h x.hand values x.values t (m.change e x.reply)) same
@@ -103,17 +108,21 @@ module _ {E R : Type 0} where
   pub latest_here : (w : ℕ) (x : Entry E R) (h : List (Entry E R)) → x.worker ≡ w → latest_of w (x ∷ h) ≡ Some x
   latest_here w x h e = ap (λ b. if b then Some x else latest_of w h) (eq-eqb x.worker w e)
 
+  -- another worker's latest entry stays
   pub latest_else : (w : ℕ) (x : Entry E R) (h : List (Entry E R)) → x.worker ≢ w → latest_of w (x ∷ h) ≡ latest_of w h
   latest_else w x h n = ap (λ b. if b then Some x else latest_of w h) (ne_eqb x.worker w n)
 
   -- a time that is no earlier than the entries so far, and no earlier than one more that shares with it
-  pub no_earlier_more : (h : List (Entry E R)) (x : Entry E R) (w : ℕ) (held : HeldLocks) (now : ℕ) → IsNoEarlier h w held now → (Shares w held x → x.now ≤ now) → IsNoEarlier (x ∷ h) w held now
+  pub no_earlier_more : (h : List (Entry E R)) (x : Entry E R) (w : ℕ) (held : HeldLocks) (now : ℕ) → IsNoEarlier h w held now → (Shares w held x → x.now ≤ now)
+      → IsNoEarlier (x ∷ h) w held now
   no_earlier_more h x w held now r new = record { begun = r.begun; after = by } where
     by : (j : ℕ) (y : Entry E R) → slice_get (x ∷ h) j ≡ Some y → Shares w held y → y.now ≤ now
     by zero y e sh = let is : x ≡ y = same_Some x y e in subst (λ (z : Entry E R). z.now ≤ now) is (new (subst (Shares w held) (sym is) sh))
     by (suc j) y e sh = r.after j y e sh
 
-  pub past_more : (h : List (Entry E R)) (x : Entry E R) (now : ℕ) → ((j : ℕ) (y : Entry E R) → slice_get h j ≡ Some y → y.now ≤ now) → x.now ≤ now → (j : ℕ) (y : Entry E R) → slice_get (x ∷ h) j ≡ Some y → y.now ≤ now
+  -- one more entry that is past leaves all past
+  pub past_more : (h : List (Entry E R)) (x : Entry E R) (now : ℕ) → ((j : ℕ) (y : Entry E R) → slice_get h j ≡ Some y → y.now ≤ now) → x.now ≤ now
+      → (j : ℕ) (y : Entry E R) → slice_get (x ∷ h) j ≡ Some y → y.now ≤ now
   past_more h x now old new zero y e = subst (λ (z : Entry E R). z.now ≤ now) (same_Some x y e) new
   past_more h x now old new (suc j) y e = old j y e
 
@@ -125,11 +134,13 @@ module _ {H O G E R C : Type 0} (m : Means H O G E R C) (small : StartsSmall m) 
   locks : AreLocksFor m s.values held (m.needs e)
   locks = k.agreement.ways w p e (progress.Timed held now) at here
 
+  -- the values under the event's locks are there
   pub guards : (guarded : List G) × (values_under held s.values ≡ Some guarded)
   guards = guarded_there m s.values held (m.needs e) k.values (law.rising e) locks
 
   -- the play with the entry of the event
   module _ (after : Effect H G R) (effect : performed m w e now (m.hand p.own) held s.values ≡ Some after) where
+    -- the entry follows from the values and the hand
     pub follows : Follows m s.values (m.hand p.own) (entry_of m w e held now after.reply) after
     follows = record {
       locks = locks;
@@ -140,6 +151,7 @@ module _ {H O G E R C : Type 0} (m : Means H O G E R C) (small : StartsSmall m) 
       reply = refl;
     }
 
+    -- the play goes on with the entry
     pub play_after : Play m (entry_of m w e held now after.reply ∷ s.history) after.values (map course_of (set s.seats w (leaving m p e held now after)))
     play_after = subst (Play m (entry_of m w e held now after.reply ∷ s.history) after.values) (sym (courses_set s.seats w p (leaving m p e held now after) at))
         (performs (course_of p) (entry_of m w e held now after.reply) after k.play (course_at s.seats w p p at) (ap standing_of here) follows
@@ -158,11 +170,13 @@ module _ {H O G E R C : Type 0} (m : Means H O G E R C) (small : StartsSmall m) 
   pub has_room : length s.history < budgets m.budget (length m.owns)
   has_room = let a = effect_there m w e now (m.hand p.own) held s.values guards.0 guards.1 in let z = play_small m programs small (entry_of m w e held now a.0.reply ∷ s.history) a.0.values (map course_of (set s.seats w (leaving m p e held now a.0))) (play_after a.0 a.1) in let y = z.0 in omega arith
 
+  -- the event may be performed
   pub may : m.may w e now (m.hand p.own) guards.0
   may = let few = play_small m programs small s.history s.values (courses s) k.play in let past = times.past in let sum = k.agreement.now in
       let fits = programs.fits s.history s.values (courses s) w (course_of p) e held guards.0 k.play (course_at s.seats w p p at) (ap standing_of here) locks guards.1 in
-      ready s.history (world m s) w e now (m.hand p.own) held guards.0 k.agreement.history few_entries (hand_at m s.seats w p p at) locks guards.1 fits times.no_earlier (omega arith)
+      ready s.history (world m s) w e now (m.hand p.own) held guards.0 k.agreement.history (λ j x is. let a = k.agreement.past j x is in omega arith) few_entries (hand_at m s.seats w p p at) locks guards.1 fits times.no_earlier (omega arith)
 
+  -- the worker has no change pending
   pub quiet : p.pending ≡ None
   quiet = by p.pending refl where
     by : (o : Option WordChange) → p.pending ≡ o → p.pending ≡ None
@@ -252,7 +266,8 @@ module _ {H O G E R C : Type 0} (m : Means H O G E R C) (small : StartsSmall m) 
     far_locks v q l n is took_it a = n (alone_in l a v (ap (λ o. held_by o l) is ∙ took_it))
 
     -- a thread that another worker sought stays under its lock
-    sought_stays : (v : ℕ) (q : Seat O E R) (mine : HeldLocks) (n : Needs) → v ≢ w → slice_get s.seats v ≡ Some q → ((l : ℕ) → is_among mine l ≡ true → took q.phase l ≡ true) → AreLocksFor m s.values mine n → AreLocksFor m after.values mine n
+    sought_stays : (v : ℕ) (q : Seat O E R) (mine : HeldLocks) (n : Needs) → v ≢ w → slice_get s.seats v ≡ Some q
+        → ((l : ℕ) → is_among mine l ≡ true → took q.phase l ≡ true) → AreLocksFor m s.values mine n → AreLocksFor m after.values mine n
     sought_stays v q mine (one a) far is had needs = needs
     sought_stays v q mine (both a b) far is had needs = needs
     sought_stays v q mine (lock_of t) far is had (l, one_lock, st) = (
@@ -264,7 +279,8 @@ module _ {H O G E R C : Type 0} (m : Means H O G E R C) (small : StartsSmall m) 
           (bool_case (is_among held l)),
     )
 
-    way_stays : (v : ℕ) (q : Seat O E R) (f : E) (way : Progress) → v ≢ w → slice_get s.seats v ≡ Some q → q.phase ≡ phase.Event f way → HasWhatItNeeds m s f way → HasWhatItNeeds m s' f way
+    way_stays : (v : ℕ) (q : Seat O E R) (f : E) (way : Progress) → v ≢ w → slice_get s.seats v ≡ Some q → q.phase ≡ phase.Event f way → HasWhatItNeeds m s f way
+        → HasWhatItNeeds m s' f way
     way_stays v q f progress.Open far is there had = had
     way_stays v q f (progress.Named t l) far is there had = had
     way_stays v q f (progress.Taken t l) far is there had = had
@@ -273,7 +289,8 @@ module _ {H O G E R C : Type 0} (m : Means H O G E R C) (small : StartsSmall m) 
     way_stays v q f (progress.Locked mine) far is there had = sought_stays v q mine (m.needs f) far is (λ l a. ap (λ g. took g l) there ∙ a) had
     way_stays v q f (progress.Timed mine n) far is there had = sought_stays v q mine (m.needs f) far is (λ l a. ap (λ g. took g l) there ∙ a) had
 
-    time_stays : (v : ℕ) (q : Seat O E R) (f : E) (mine : HeldLocks) (n : ℕ) → v ≢ w → slice_get s.seats v ≡ Some q → q.phase ≡ phase.Event f (progress.Timed mine n) → IsTimely m s v q mine n → IsTimely m s' v q mine n
+    time_stays : (v : ℕ) (q : Seat O E R) (f : E) (mine : HeldLocks) (n : ℕ) → v ≢ w → slice_get s.seats v ≡ Some q → q.phase ≡ phase.Event f (progress.Timed mine n)
+        → IsTimely m s v q mine n → IsTimely m s' v q mine n
     time_stays v q f mine n far is there r = record {
       past = r.past;
       own = r.own;
@@ -281,6 +298,7 @@ module _ {H O G E R C : Type 0} (m : Means H O G E R C) (small : StartsSmall m) 
           (λ (z : (l : ℕ) × (is_among mine l ≡ true) × (is_among held l ≡ true)). far_locks v q z.0 far is (ap (λ g. took g z.0) there ∙ z.1) z.2) sh));
     }
 
+    -- the state after the commit is kept
     pub commit_kept : IsKept m s'
     commit_kept = record {
       locks = k.locks;

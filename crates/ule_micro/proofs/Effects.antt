@@ -14,6 +14,7 @@ module _ {G : Type 0} where
   alone_some None guarded e = absurd (none-some guarded e)
   alone_some (Some v) guarded e = (v, refl, sym (same_Some (v ∷ []) guarded e))
 
+  -- the value under one lock is the only one of the list
   pub under_one : (a : ℕ) (values guarded : List G) → values_under (One a) values ≡ Some guarded → (v : G) × (slice_get values a ≡ Some v) × (guarded ≡ v ∷ [])
   under_one a values guarded e = alone_some (slice_get values a) guarded e
 
@@ -23,6 +24,7 @@ module _ {G : Type 0} where
   both_some (Some v) None guarded e = absurd (none-some guarded e)
   both_some (Some v) (Some u) guarded e = (v, u, refl, refl, sym (same_Some (v ∷ u ∷ []) guarded e))
 
+  -- the values under two locks are the two of the list
   pub under_two : (a b : ℕ) (values guarded : List G) → values_under (Two a b) values ≡ Some guarded
       → (v : G) × (u : G) × (slice_get values a ≡ Some v) × (slice_get values b ≡ Some u) × (guarded ≡ v ∷ u ∷ [])
   under_two a b values guarded e = both_some (slice_get values a) (slice_get values b) guarded e
@@ -41,7 +43,8 @@ module _ {G : Type 0} where
 
 module _ {H O G E R C : Type 0} (m : Means H O G E R C) where
   -- the effect under one lock
-  pub performed_one : (w : ℕ) (e : E) (now : ℕ) (h : H) (a : ℕ) (values : List G) (v : G) → slice_get values a ≡ Some v → performed m w e now h (One a) values ≡ Some (stepped m w e now h values a v)
+  pub performed_one : (w : ℕ) (e : E) (now : ℕ) (h : H) (a : ℕ) (values : List G) (v : G) → slice_get values a ≡ Some v
+      → performed m w e now h (One a) values ≡ Some (stepped m w e now h values a v)
   performed_one w e now h a values v at = ap (λ o. effect_of m w e now h values (One a) (alone o)) at
 
   -- the effect under two locks
@@ -49,14 +52,18 @@ module _ {H O G E R C : Type 0} (m : Means H O G E R C) where
       → performed m w e now h (Two a b) values ≡ Some (paired m w e now h values a b v u)
   performed_two w e now h a b values v u at_a at_b = λ i. effect_of m w e now h values (Two a b) (with_first (at_a i) (at_b i))
 
+  -- what the code does under one lock is the effect of the event
   pub performs_one : (own own' : O) (values : List G) (e : E) (now a : ℕ) (v v' : G) (reply : R) → slice_get values a ≡ Some v
-      → own' ≡ m.with_hand own (m.step (m.number own) e now (m.hand own) v).0 → v' ≡ (m.step (m.number own) e now (m.hand own) v).1 → reply ≡ (m.step (m.number own) e now (m.hand own) v).2
+      → own' ≡ m.with_hand own (m.step (m.number own) e now (m.hand own) v).0 → v' ≡ (m.step (m.number own) e now (m.hand own) v).1
+      → reply ≡ (m.step (m.number own) e now (m.hand own) v).2
       → Performs m own values e now (One a) own' (set values a v') reply
   performs_one own own' values e now a v v' reply at is_own is_v is_reply =
       (stepped m (m.number own) e now (m.hand own) values a v, performed_one (m.number own) e now (m.hand own) a values v at, is_own, ap (set values a) is_v, is_reply)
 
+  -- what the code does under two locks is the effect of the event
   pub performs_two : (own own' : O) (values : List G) (e : E) (now a b : ℕ) (v u v' u' : G) (reply : R) → slice_get values a ≡ Some v → slice_get values b ≡ Some u
-      → own' ≡ m.with_hand own (m.pair (m.number own) e now (m.hand own) v u).0 → v' ≡ (m.pair (m.number own) e now (m.hand own) v u).1 → u' ≡ (m.pair (m.number own) e now (m.hand own) v u).2
+      → own' ≡ m.with_hand own (m.pair (m.number own) e now (m.hand own) v u).0 → v' ≡ (m.pair (m.number own) e now (m.hand own) v u).1
+      → u' ≡ (m.pair (m.number own) e now (m.hand own) v u).2
       → reply ≡ (m.pair (m.number own) e now (m.hand own) v u).3
       → (values' : List G) → values' ≡ set (set values a v') b u' → Performs m own values e now (Two a b) own' values' reply
   performs_two own own' values e now a b v u v' u' reply at_a at_b is_own is_v is_u is_reply values' is =

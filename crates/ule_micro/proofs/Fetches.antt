@@ -42,7 +42,9 @@ module _ {H O G E R C : Type 0} (m : Means H O G E R C) (hands : KeepsHands m) (
   here : (c : Course O E R) → slice_get (set cs w c) w ≡ Some c
   here c = get_here cs w c in_list
 
-  pub commands_well : (rest : List C) (own : O) (k : ℕ) → rest ≡ drop k (m.orders w) → k ≤ length (m.orders w) → Play m h vs (set cs w (course_at own k rests)) → m.hand own ≡ m.hand own0 → m.number own ≡ m.number own0
+  -- a worker that begins these commands comes to its next item by calls that it may make, and the play stays legal
+  pub commands_well : (rest : List C) (own : O) (k : ℕ) → rest ≡ drop k (m.orders w) → k ≤ length (m.orders w) → Play m h vs (set cs w (course_at own k rests))
+      → m.hand own ≡ m.hand own0 → m.number own ≡ m.number own0
       → CanBegin m own rest × IsFetchedWell (next_command m own k rest)
   commands_well [] own k is low play hand number = (tt, record { play = play; low = low; ended = λ _. nothing_left (m.orders w) k is; hand = hand; number = number })
   commands_well (c ∷ rest) own k is low play hand number = by (m.next (m.begin own c) None).0 refl (λ p. commands_well rest (m.next (m.begin own c) None).1 (k + 1) is_rest low_next p told_hand told_number) where
@@ -76,7 +78,8 @@ module _ {H O G E R C : Type 0} (m : Means H O G E R C) (hands : KeepsHands m) (
     told_number : m.number (m.next (m.begin own c) None).1 ≡ m.number own0
     told_number = hands.next_number (m.begin own c) None ∙ (hands.begin_number own c ∙ number)
 
-    by : (o : Option (Todo E)) → (m.next (m.begin own c) None).0 ≡ o → (Play m h vs (set cs w (course_at (m.next (m.begin own c) None).1 (k + 1) rests)) → CanBegin m (m.next (m.begin own c) None).1 rest × IsFetchedWell (next_command m (m.next (m.begin own c) None).1 (k + 1) rest)) → CanBegin m own (c ∷ rest) × IsFetchedWell (next_command m own k (c ∷ rest))
+    by : (o : Option (Todo E)) → (m.next (m.begin own c) None).0 ≡ o
+        → (Play m h vs (set cs w (course_at (m.next (m.begin own c) None).1 (k + 1) rests)) → CanBegin m (m.next (m.begin own c) None).1 rest × IsFetchedWell (next_command m (m.next (m.begin own c) None).1 (k + 1) rest)) → CanBegin m own (c ∷ rest) × IsFetchedWell (next_command m own k (c ∷ rest))
     by None e go = let deeper = go (subst (λ o. Play m h vs (set cs w (course_at (m.next (m.begin own c) None).1 (k + 1) (standing_with o)))) e told_play) in (
       (may, may_ask, λ _. deeper.0),
       subst (λ o. IsFetchedWell (behind m k rest o (m.next (m.begin own c) None).1)) (sym e) deeper.1,
@@ -93,7 +96,8 @@ module _ {H O G E R C : Type 0} (m : Means H O G E R C) (hands : KeepsHands m) (
     )
 
   -- the worker asks for its next item
-  pub fetch_well : (own : O) (k : ℕ) (last : Option (R × ℕ)) → k ≤ length (m.orders w) → Play m h vs (set cs w (course_at own k (asks last))) → m.hand own ≡ m.hand own0 → m.number own ≡ m.number own0
+  pub fetch_well : (own : O) (k : ℕ) (last : Option (R × ℕ)) → k ≤ length (m.orders w) → Play m h vs (set cs w (course_at own k (asks last))) → m.hand own ≡ m.hand own0
+      → m.number own ≡ m.number own0
       → CanGoOn m own last (drop k (m.orders w)) × IsFetchedWell (fetch m own k last (drop k (m.orders w)))
   fetch_well own k last low play hand number = by (m.next own last).0 refl where
     told_play : Play m h vs (set cs w (answered m (course_at own k (asks last)) last))

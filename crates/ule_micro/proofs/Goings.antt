@@ -44,6 +44,7 @@ module _ {H O G E R C : Type 0} (m : Means H O G E R C) (hands : KeepsHands m) (
     well : CanGoOn m p.own told (drop p.begun (m.orders w)) × IsFetchedWell m hands programs s.history s.values (courses s) w items advanced p.own in_list f
     well = fetch_well m hands programs s.history s.values (courses s) w items advanced p.own in_list p.own p.begun told (k.begun w p at) asking refl refl
 
+    -- the worker may ask for its next item, and begin the commands that follow
     pub can_go_on : CanGoOn m p.own told (drop p.begun (m.orders w))
     can_go_on = well.0
 
@@ -77,6 +78,7 @@ module _ {H O G E R C : Type 0} (m : Means H O G E R C) (hands : KeepsHands m) (
           (λ v l c e a h. dite (ℕ_discrete v w) (λ z. absurd (none-some c (sym quiet ∙ (sym (pending_before s.seats w p p' at) ∙ (ap (pending s) (sym z) ∙ e))))) (λ n. held_else s.seats w p p' at l v n ∙ h))
           (k.agreement.threads t dec)
 
+      -- the state with the worker at its next item is kept
       pub goes_on : IsKept m s'
       goes_on = record {
         locks = len;
@@ -109,18 +111,22 @@ module _ {H O G E R C : Type 0} (m : Means H O G E R C) (hands : KeepsHands m) (
 
   -- a worker that raises the time
   module _ (n : ℕ) (here : p.phase ≡ phase.Advance n) where
+    -- a worker that raises the time has no change pending
     pub quiet_advance : p.pending ≡ None
     quiet_advance = by p.pending refl where
       by : (o : Option WordChange) → p.pending ≡ o → p.pending ≡ None
       by None e = e
       by (Some c) e = absurd (let z = k.agreement.changes w p at c e in let y : phase.Advance n ≡ phase.Leaving z.0.reply z.0.now z.0.locks = sym here ∙ z.2 in cc)
 
+    -- the play goes on with the advance
     pub asking_advance : Play m s.history s.values (set (courses s) w record { own = p.own; begun = p.begun; items = p.items + 1; advanced = p.advanced + n; standing = asks None })
     asking_advance = advances w (course_of p) n k.play (course_at s.seats w p p at) (ap standing_of here)
 
+    -- an advance is by at most 1,000,000
     pub advance_small : n ≤ 1000000
     advance_small = (programs.advances s.history s.values (courses s) w (course_of p) n k.play (course_at s.seats w p p at) (ap standing_of here)).1
 
+    -- the state after an advance is kept
     pub advance_kept : IsKept m record { locks = s.locks; words = s.words; ticket = s.ticket; now = s.now + n; values = s.values; seats = set s.seats w (going_on m w p.own p.begun None (p.items + 1) (p.advanced + n)); history = s.history }
     advance_kept = let q = going_on m w p.own p.begun None (p.items + 1) (p.advanced + n) in
         goes_on None (p.items + 1) (p.advanced + n) quiet_advance asking_advance s.locks (s.now + n) k.locks (omega arith) (omega arith)
@@ -129,10 +135,12 @@ module _ {H O G E R C : Type 0} (m : Means H O G E R C) (hands : KeepsHands m) (
 
   -- a worker that gives its last lock back
   module _ (a : ℕ) (reply : R) (now : ℕ) (here : p.phase ≡ phase.Leaving reply now (One a)) (quiet : p.pending ≡ None) where
+    -- a worker that gives its last lock back is to ask for its next item
     pub asking_leave : Play m s.history s.values (set (courses s) w record { own = p.own; begun = p.begun; items = p.items; advanced = p.advanced; standing = asks (Some (reply, now)) })
     asking_leave = let same : course_of p ≡ record { own = p.own; begun = p.begun; items = p.items; advanced = p.advanced; standing = asks (Some (reply, now)) } = λ i. record { own = p.own; begun = p.begun; items = p.items; advanced = p.advanced; standing = standing_of (here i) } in
         subst (Play m s.history s.values) (sym (set_same (courses s) w _ (course_at s.seats w p p at ∙ ap Some same))) k.play
 
+    -- the state after the last release is kept
     pub leave_kept : IsKept m record { locks = set s.locks a None; words = s.words; ticket = s.ticket; now = s.now; values = s.values; seats = set s.seats w (going_on m w p.own p.begun (Some (reply, now)) p.items p.advanced); history = s.history }
     leave_kept = let q = going_on m w p.own p.begun (Some (reply, now)) p.items p.advanced in
         let gone : (l : ℕ) → took q.phase l ≡ false = λ l. took_nothing (fetch m p.own p.begun (Some (reply, now)) (drop p.begun (m.orders w))).item q.phase l refl in

@@ -14,6 +14,7 @@ pub mod Stores
 pub mod Commits
 pub mod Turning
 pub mod Unstuck
+pub mod Finishes
 pub mod Refines
 pub mod Workers
 pub mod Starting

@@ -68,11 +68,13 @@ module _ {A : Type 0} where
   index_past (x ∷ xs) zero d h = absurd (omega arith)
   index_past (x ∷ xs) (suc i) d h = index_past xs i d (omega arith)
 
+  -- a place that was written reads as what was written
   pub index_here : (l : List A) (i : ℕ) (d a : A) → i < length l → slice_index_or (set l i a) i d ≡ a
   index_here [] i d a h = absurd (omega arith)
   index_here (x ∷ xs) zero d a h = refl
   index_here (x ∷ xs) (suc i) d a h = index_here xs i d a (omega arith)
 
+  -- every other place reads as before
   pub index_else : (l : List A) (i j : ℕ) (d a : A) → j ≢ i → slice_index_or (set l i a) j d ≡ slice_index_or l j d
   index_else [] i j d a n = refl
   index_else (x ∷ xs) zero zero d a n = absurd (n refl)
@@ -153,12 +155,14 @@ module _ {A B : Type 0} where
   map_set f (x ∷ xs) zero a = refl
   map_set f (x ∷ xs) (suc i) a = ap (λ l. f x ∷ l) (map_set f xs i a)
 
+  -- there are as many images
   pub length_map : (f : A → B) (l : List A) → length (map f l) ≡ length l
   length_map f [] = refl
   length_map f (x ∷ xs) = ap suc (length_map f xs)
 
   -- what is read at a place does not change by a write that leaves it the same
-  pub same_at : (f : Option A → B) (l : List A) (n : ℕ) (a b : A) → slice_get l n ≡ Some a → f (Some b) ≡ f (Some a) → (k : ℕ) → f (slice_get (set l n b) k) ≡ f (slice_get l k)
+  pub same_at : (f : Option A → B) (l : List A) (n : ℕ) (a b : A) → slice_get l n ≡ Some a → f (Some b) ≡ f (Some a) → (k : ℕ)
+      → f (slice_get (set l n b) k) ≡ f (slice_get l k)
   same_at f l n a b at e k = dite (ℕ_discrete k n)
       (λ is. (λ i. f (slice_get (set l n b) (is i))) ∙ (ap f (get_here l n b (there l n a at)) ∙ (e ∙ (ap f (sym at) ∙ (λ i. f (slice_get l (sym is i)))))))
       (λ other. ap f (get_else l n k b other))

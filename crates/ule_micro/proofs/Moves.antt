@@ -17,6 +17,7 @@ use Rattle.ule_micro.proofs.Lists.{get_here, get_else, there}
 pub among_one : (a l : ℕ) → is_among (One a) l ≡ true → l ≡ a
 among_one a l e = dite (ℕ_discrete a l) (λ z. sym z) (λ n. absurd (true≢false (sym e ∙ ne_eqb a l n)))
 
+-- a lock is among itself
 pub among_this : (a : ℕ) → is_among (One a) a ≡ true
 among_this a = eq-eqb a a refl
 
@@ -24,21 +25,27 @@ or_right : (x : Bool) → (x || true) ≡ true
 or_right true = refl
 or_right false = refl
 
+-- the first of two locks is among them
 pub among_first : (a b : ℕ) → is_among (Two a b) a ≡ true
 among_first a b = ap (λ x. x || (b == a)) (eq-eqb a a refl)
 
+-- the second of two locks is among them
 pub among_second : (a b : ℕ) → is_among (Two a b) b ≡ true
 among_second a b = ap (λ x. (a == b) || x) (eq-eqb b b refl) ∙ or_right (a == b)
 
+-- a lock among two is one of them
 pub among_two : (a b l : ℕ) → is_among (Two a b) l ≡ true → (l ≡ a) ⊎ (l ≡ b)
 among_two a b l e = dite (ℕ_discrete a l) (λ z. inl (sym z)) (λ n. inr (among_one b l (sym (ap (λ x. x || (b == l)) (ne_eqb a l n)) ∙ e)))
 
+-- another lock is not the one
 pub not_among_one : (a l : ℕ) → l ≢ a → is_among (One a) l ≡ false
 not_among_one a l n = ne_eqb a l (λ e. n (sym e))
 
+-- a third lock is not among two
 pub not_among_two : (a b l : ℕ) → l ≢ a → l ≢ b → is_among (Two a b) l ≡ false
 not_among_two a b l n k = ap (λ x. x || (b == l)) (ne_eqb a l (λ e. n (sym e))) ∙ ne_eqb b l (λ e. k (sym e))
 
+-- a test is true or false
 pub bool_case : (b : Bool) → (b ≡ true) ⊎ (b ≡ false)
 bool_case true = inl refl
 bool_case false = inr refl
@@ -48,9 +55,11 @@ module _ {H O G E R C : Type 0} (m : Means H O G E R C) where
   abbrev pub in_value : Option G → ℕ → Bool
   in_value o t = elim o as (λ _. Bool) [ None ↦ false | Some v ↦ m.stands_in v t ]
 
+  -- a thread stands under a lock as it stands in the value there
   pub stands_here : (values : List G) (l t : ℕ) (v : G) → slice_get values l ≡ Some v → stands_at m values l t ≡ m.stands_in v t
   stands_here values l t v at = ap (λ o. in_value o t) at
 
+  -- where a thread stands there is a value
   pub stands_value : (values : List G) (l t : ℕ) → stands_at m values l t ≡ true → (v : G) × (slice_get values l ≡ Some v) × (m.stands_in v t ≡ true)
   stands_value values l t e = by (slice_get values l) refl where
     by : (o : Option G) → slice_get values l ≡ o → (v : G) × (slice_get values l ≡ Some v) × (m.stands_in v t ≡ true)
@@ -59,11 +68,14 @@ module _ {H O G E R C : Type 0} (m : Means H O G E R C) where
 
   -- what became of a thread's place by an event with this word change, which had these locks, this hand and these values, and left those
   pub data Moved (held : HeldLocks) (h h' : H) (values values' : List G) (t : ℕ) (change : Option WordChange) : Type 0 where
-    stays : Leaves m change t → ((l : ℕ) → stands_at m values' l t ≡ stands_at m values l t) → m.carried_in h' t ≡ m.carried_in h t → Moved held h h' values values' t change
+    stays : Leaves m change t → ((l : ℕ) → stands_at m values' l t ≡ stands_at m values l t) → m.carried_in h' t ≡ m.carried_in h t
+        → Moved held h h' values values' t change
     left : (a : ℕ) → change ≡ Some (Block t) → is_among held a ≡ true → stands_at m values a t ≡ true
-        → ((l : ℕ) → stands_at m values' l t ≡ true → (stands_at m values l t ≡ true) × (is_among held l ≡ false)) → m.carried_in h' t ≡ true → Moved held h h' values values' t change
+        → ((l : ℕ) → stands_at m values' l t ≡ true → (stands_at m values l t ≡ true) × (is_among held l ≡ false)) → m.carried_in h' t ≡ true
+        → Moved held h h' values values' t change
     came : (k : ℕ) → change ≡ Some (Point t k) → ((m.carried_in h t ≡ true) ⊎ ((a : ℕ) × (is_among held a ≡ true) × (stands_at m values a t ≡ true)))
-        → is_among held k ≡ true → stands_at m values' k t ≡ true → ((l : ℕ) → stands_at m values' l t ≡ true → (l ≡ k) ⊎ ((stands_at m values l t ≡ true) × (is_among held l ≡ false)))
+        → is_among held k ≡ true → stands_at m values' k t ≡ true
+        → ((l : ℕ) → stands_at m values' l t ≡ true → (l ≡ k) ⊎ ((stands_at m values l t ≡ true) × (is_among held l ≡ false)))
         → m.carried_in h' t ≡ false → Moved held h h' values values' t change
 
   -- the thread that a change is about
@@ -72,6 +84,7 @@ module _ {H O G E R C : Type 0} (m : Means H O G E R C) where
     blocks : change ≡ Some (Block t) → About change t
     points : (k : ℕ) → change ≡ Some (Point t k) → About change t
 
+  -- a change is about a thread, or is not
   pub about : (change : Option WordChange) (t : ℕ) → About change t
   about None t = none (λ c e _. none-some c e)
   about (Some (Block u)) t = dite (ℕ_discrete u t) (λ z. blocks (ap (λ v. Some (Block v)) z)) (λ n. none (λ c e same. n (ap thread_of (same_Some (Block u) c e) ∙ same)))
@@ -89,6 +102,7 @@ module _ {H O G E R C : Type 0} (m : Means H O G E R C) where
       else_one : (l : ℕ) → l ≢ a → stands_at m after_one l t ≡ stands_at m values l t
       else_one l n = ap (λ o. in_value o t) (get_else values a l v' n)
 
+      -- an event under one lock moves at most the thread of its change
       pub moved_one : (h h' : H) (change : Option WordChange) → m.declared t ≡ true → StepMoves m h a v change h' v' → Moved (One a) h h' values after_one t change
       moved_one h h' change dec law = by (about change t) where
         by : About change t → Moved (One a) h h' values after_one t change
@@ -131,7 +145,9 @@ module _ {H O G E R C : Type 0} (m : Means H O G E R C) where
       stood (inl e) = (a, among_first a b, stands_here values a t v at_a ∙ e)
       stood (inr e) = (b, among_second a b, stands_here values b t u at_b ∙ e)
 
-      pub moved_two : (h h' : H) (change : Option WordChange) → m.declared t ≡ true → PairMoves m h a b v u change h' v' u' → Moved (Two a b) h h' values after_two t change
+      -- an event under two locks moves at most the thread of its change
+      pub moved_two : (h h' : H) (change : Option WordChange) → m.declared t ≡ true → PairMoves m h a b v u change h' v' u'
+          → Moved (Two a b) h h' values after_two t change
       moved_two h h' change dec law = by (about change t) where
         by : About change t → Moved (Two a b) h h' values after_two t change
         by (none far) = let k = law.others t dec far in

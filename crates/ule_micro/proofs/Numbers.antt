@@ -36,11 +36,13 @@ module _ {O E R : Type 0} where
   all_items (c ∷ cs) = c.items + all_items cs
 
   -- a worker's advances among those of all
-  pub advanced_set : (cs : List (Course O E R)) (w : ℕ) (c d : Course O E R) → slice_get cs w ≡ Some c → all_advanced (set cs w d) + c.advanced ≡ all_advanced cs + d.advanced
+  pub advanced_set : (cs : List (Course O E R)) (w : ℕ) (c d : Course O E R) → slice_get cs w ≡ Some c
+      → all_advanced (set cs w d) + c.advanced ≡ all_advanced cs + d.advanced
   advanced_set [] w c d e = absurd (none-some c e)
   advanced_set (x ∷ xs) zero c d e = let z : x.advanced ≡ c.advanced = ap (λ y. y.advanced) (same_Some x c e) in omega arith
   advanced_set (x ∷ xs) (suc w) c d e = let z = advanced_set xs w c d e in omega arith
 
+  -- a worker's advances are among those of all
   pub advanced_at : (cs : List (Course O E R)) (w : ℕ) (c : Course O E R) → slice_get cs w ≡ Some c → c.advanced ≤ all_advanced cs
   advanced_at [] w c e = absurd (none-some c e)
   advanced_at (x ∷ xs) zero c e = let z : x.advanced ≡ c.advanced = ap (λ y. y.advanced) (same_Some x c e) in omega arith
@@ -66,7 +68,8 @@ module _ {H O G E R C : Type 0} (m : Means H O G E R C) (programs : KeepsProgram
     pub ticks : all_advanced cs ≤ 1000000 * all_items cs
     pub workers : length cs ≡ length m.owns
 
-  counted_same : (h : List (Entry E R)) (cs : List (Course O E R)) (w : ℕ) (c d : Course O E R) → slice_get cs w ≡ Some c → d.items ≡ c.items → d.advanced ≡ c.advanced → IsCounted h cs → IsCounted h (set cs w d)
+  counted_same : (h : List (Entry E R)) (cs : List (Course O E R)) (w : ℕ) (c d : Course O E R) → slice_get cs w ≡ Some c → d.items ≡ c.items → d.advanced ≡ c.advanced
+      → IsCounted h cs → IsCounted h (set cs w d)
   counted_same h cs w c d at items advanced r = record {
     entries = let z = items_set cs w c d at in let k = r.entries in omega arith;
     ticks = let z = items_set cs w c d at in let a = advanced_set cs w c d at in let e : all_items (set cs w d) ≡ all_items cs = omega arith in
@@ -92,13 +95,15 @@ module _ {H O G E R C : Type 0} (m : Means H O G E R C) (programs : KeepsProgram
   }
 
   -- is small: the entries are within the budgets, and the time is small
-  pub play_small : (small : StartsSmall m) (h : List (Entry E R)) (vs : List G) (cs : List (Course O E R)) → Play m h vs cs → (length h ≤ budgets m.budget (length m.owns)) × (length h ≤ 65536) × (20000 + all_advanced cs < 2 ^ 36)
+  pub play_small : (small : StartsSmall m) (h : List (Entry E R)) (vs : List G) (cs : List (Course O E R)) → Play m h vs cs
+      → (length h ≤ budgets m.budget (length m.owns)) × (length h ≤ 65536) × (20000 + all_advanced cs < 2 ^ 36)
   play_small small h vs cs play = let r = play_counted play in
       let within = within_budgets m.budget cs (λ w c e. programs.budget h vs cs w c play e) in
       let all : all_items cs ≤ budgets m.budget (length m.owns) = subst (λ n. all_items cs ≤ budgets m.budget n) r.workers within in
       let few = small.small in let e = r.entries in let t = r.ticks in (omega arith, omega arith, omega arith)
 
   -- a worker performed at most 65,536 items
-  pub items_small : (small : StartsSmall m) (h : List (Entry E R)) (vs : List G) (cs : List (Course O E R)) (w : ℕ) (c : Course O E R) → Play m h vs cs → slice_get cs w ≡ Some c → c.items ≤ 65536
+  pub items_small : (small : StartsSmall m) (h : List (Entry E R)) (vs : List G) (cs : List (Course O E R)) (w : ℕ) (c : Course O E R) → Play m h vs cs
+      → slice_get cs w ≡ Some c → c.items ≤ 65536
   items_small small h vs cs w c play at = let a = programs.budget h vs cs w c play at in let r = play_counted play in let n = there cs w c at in let l = r.workers in
       let b = budget_in m.budget (length m.owns) w (omega arith) in let k = small.small in omega arith

@@ -13,7 +13,8 @@ module _ {H O G E R C : Type 0} (m : Means H O G E R C) where
   behind k cs item own = elim item as (λ _. Fetched O E) [ None ↦ next_command m own (k + 1) cs | Some x ↦ record { item = Some x; own = own; begun = k + 1 } ]
 
   -- where no item comes of the first command, the others follow
-  pub next_none : (own : O) (k : ℕ) (c : C) (cs : List C) → (m.next (m.begin own c) None).0 ≡ None → next_command m own k (c ∷ cs) ≡ next_command m (m.next (m.begin own c) None).1 (k + 1) cs
+  pub next_none : (own : O) (k : ℕ) (c : C) (cs : List C) → (m.next (m.begin own c) None).0 ≡ None
+      → next_command m own k (c ∷ cs) ≡ next_command m (m.next (m.begin own c) None).1 (k + 1) cs
   next_none own k c cs e = ap (λ o. behind k cs o (m.next (m.begin own c) None).1) e
 
   -- an item of the first command is the next item
@@ -26,6 +27,7 @@ module _ {H O G E R C : Type 0} (m : Means H O G E R C) where
   some_is None e = absurd (cc)
   some_is (Some x) e = (x, refl)
 
+  -- an item that is not there
   pub none_is : {X : Type 0} (o : Option X) → is_some o ≡ false → o ≡ None
   none_is None e = refl
   none_is (Some x) e = absurd (cc)
@@ -56,6 +58,7 @@ module _ {H O G E R C : Type 0} (m : Means H O G E R C) where
       goes_by is = let x = none_is item is in ap (next_command m own k) (drop_get orders k c at) ∙ (next_none own k c (drop (k + 1) orders) (sym item_is ∙ x)
           ∙ ap (λ o. next_command m o (k + 1) (drop (k + 1) orders)) (sym told_is))
 
+      -- without an item of it the commands behind it may begin
       pub can_go_by : is_some item ≡ false → CanBegin m own (drop k orders) → CanBegin m told (drop (k + 1) orders)
       can_go_by is can = subst (λ o. CanBegin m o (drop (k + 1) orders)) (sym told_is) ((may_begin c at can).2 (sym item_is ∙ none_is item is))
 
@@ -63,8 +66,12 @@ module _ {H O G E R C : Type 0} (m : Means H O G E R C) where
   abbrev pub fetched : ℕ → List C → Option (Todo E) → O → Fetched O E
   fetched k orders item own = elim item as (λ _. Fetched O E) [ None ↦ next_command m own k orders | Some x ↦ record { item = Some x; own = own; begun = k } ]
 
-  pub fetch_none : (own told : O) (k : ℕ) (last : Option (R × ℕ)) (orders : List C) → (m.next own last).0 ≡ None → told ≡ (m.next own last).1 → fetch m own k last orders ≡ next_command m told k orders
+  -- where no item comes of the last command, the next ones begin
+  pub fetch_none : (own told : O) (k : ℕ) (last : Option (R × ℕ)) (orders : List C) → (m.next own last).0 ≡ None → told ≡ (m.next own last).1
+      → fetch m own k last orders ≡ next_command m told k orders
   fetch_none own told k last orders e is = ap (λ o. fetched k orders o (m.next own last).1) e ∙ ap (λ o. next_command m o k orders) (sym is)
 
-  pub fetch_some : (own told : O) (k : ℕ) (last : Option (R × ℕ)) (orders : List C) (x : Todo E) → (m.next own last).0 ≡ Some x → told ≡ (m.next own last).1 → fetch m own k last orders ≡ record { item = Some x; own = told; begun = k }
+  -- an item of the last command is the next item
+  pub fetch_some : (own told : O) (k : ℕ) (last : Option (R × ℕ)) (orders : List C) (x : Todo E) → (m.next own last).0 ≡ Some x → told ≡ (m.next own last).1
+      → fetch m own k last orders ≡ record { item = Some x; own = told; begun = k }
   fetch_some own told k last orders x e is = ap (λ o. fetched k orders o (m.next own last).1) e ∙ (λ i. record { item = Some x; own = sym is i; begun = k })

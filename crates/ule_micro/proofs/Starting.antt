@@ -63,12 +63,14 @@ module _ {X : Type 0} where
   snoc_get (y ∷ ys) x zero h = refl
   snoc_get (y ∷ ys) x (suc k) h = snoc_get ys x k (omega arith)
 
+  -- the last place of a list with one more
   pub snoc_last : (xs : List X) (x : X) (k : ℕ) → k ≡ length xs → slice_get (xs ++ x ∷ []) k ≡ Some x
   snoc_last [] x zero e = refl
   snoc_last [] x (suc k) e = absurd (omega arith)
   snoc_last (y ∷ ys) x zero e = absurd (omega arith)
   snoc_last (y ∷ ys) x (suc k) e = snoc_last ys x k (omega arith)
 
+  -- a list of defaults with one more default reads as the default
   pub snoc_default : (xs : List X) (d : X) (k : ℕ) → ((i : ℕ) → slice_index_or xs i d ≡ d) → slice_index_or (xs ++ d ∷ []) k d ≡ d
   snoc_default [] d zero all = refl
   snoc_default [] d (suc k) all = refl
@@ -81,6 +83,7 @@ module _ {H O G E R C : Type 0} (m : Means H O G E R C) (hands : KeepsHands m) (
     first_fetch : CanBegin m o (m.orders w) × IsFetchedWell m hands programs [] m.values cs w 0 0 o (there cs w (unbegun o) at) (next_command m o 0 (m.orders w))
     first_fetch = commands_well m hands programs [] m.values cs w 0 0 o (there cs w (unbegun o) at) (m.orders w) o 0 refl (omega arith) (subst (Play m [] m.values) (sym (set_same cs w (unbegun o) at)) play) refl refl
 
+  -- at the start the commands of a worker may begin, up to its first item
   pub start_can : (w : ℕ) (o : O) → slice_get m.owns w ≡ Some o → CanBegin m o (m.orders w)
   start_can w o at = (first_fetch (map unbegun m.owns) opens w o (get_map unbegun m.owns w o at)).0
 
@@ -110,7 +113,8 @@ module _ {H O G E R C : Type 0} (m : Means H O G E R C) (small : StartsSmall m) 
   start_play : Play m [] m.values (courses s)
   start_play = subst (Play m [] m.values) (mixed_all (courses s) (map unbegun m.owns) many) (play_mixed (length (courses s)) (let a = length_map course_of s.seats in let b = st.workers in omega arith))
 
-  fetched : (w : ℕ) (o : O) (at : slice_get m.owns w ≡ Some o) → IsFetchedWell m hands programs [] m.values (map unbegun m.owns) w 0 0 o (there (map unbegun m.owns) w (unbegun o) (get_map unbegun m.owns w o at)) (first_item w o)
+  fetched : (w : ℕ) (o : O) (at : slice_get m.owns w ≡ Some o)
+      → IsFetchedWell m hands programs [] m.values (map unbegun m.owns) w 0 0 o (there (map unbegun m.owns) w (unbegun o) (get_map unbegun m.owns w o at)) (first_item w o)
   fetched w o at = (first_fetch m hands programs (map unbegun m.owns) opens w o (get_map unbegun m.owns w o at)).1
 
   hand_start : (w : ℕ) (p : Seat O E R) → slice_get s.seats w ≡ Some p → (o : O) × (slice_get m.owns w ≡ Some o) × (m.hand p.own ≡ m.hand o)
@@ -156,6 +160,7 @@ module _ {H O G E R C : Type 0} (m : Means H O G E R C) (small : StartsSmall m) 
   none_advanced [] each = refl
   none_advanced (p ∷ ps) each = let a = each 0 p refl in let b = none_advanced ps (λ w q e. each (suc w) q e) in omega arith
 
+  -- the state at the start is kept
   pub start_kept : IsKept m s
   start_kept = record {
     locks = locks;
@@ -192,7 +197,8 @@ pushed (Err x) e items more less is none same = absurd (true≢false (sym is ∙
 
 module _ {H O G E R C : Type 0} (m : Means H O G E R C) where
   -- one more worker
-  pub more_seats : (n : ℕ) (seats seats' : List (Seat O E R)) (p : Seat O E R) → AreFirstSeats m n seats → IsFirstSeat m n p → seats' ≡ seats ++ p ∷ [] → AreFirstSeats m (n + 1) seats'
+  pub more_seats : (n : ℕ) (seats seats' : List (Seat O E R)) (p : Seat O E R) → AreFirstSeats m n seats → IsFirstSeat m n p → seats' ≡ seats ++ p ∷ []
+      → AreFirstSeats m (n + 1) seats'
   more_seats n seats seats' p old new is = (
     (let a : length seats' ≡ length (seats ++ p ∷ []) = ap length is in let b = length-append seats (p ∷ []) in let c = old.0 in omega arith),
     λ w q at. dite (ℕ_discrete w n)
@@ -203,9 +209,11 @@ module _ {H O G E R C : Type 0} (m : Means H O G E R C) where
 
   module _ (n : ℕ) (locks : List (Option ℕ)) (words : List Word) (values : List G) (seats : List (Seat O E R)) (history : List (Entry E R)) (small : StartsSmall m) (many : n ≡ length m.owns)
       (free : AreFree 25 locks) (first_words : AreFirstWords m 256 words) (first_values : AreFirstValues m 25 values) (first_seats : AreFirstSeats m n seats) (none : history ≡ []) where
+    -- opening state: the state of these parts
     abbrev pub opening_state : State O G E R
     opening_state = record { locks = locks; words = words; ticket = 0; now = 20000; values = values; seats = seats; history = history }
 
+    -- these parts are a start
     pub opening_start : IsStart m opening_state
     opening_start = record {
       locks = free.1;
@@ -219,5 +227,6 @@ module _ {H O G E R C : Type 0} (m : Means H O G E R C) where
           let same : z.0 ≡ o = same_Some z.0 o (sym z.1 ∙ at) in p.1 ∙ ap Some (z.2 ∙ ap (λ i. seated m (next_command m i 0 (m.orders w)) 0 0) same);
     }
 
+    -- the state of these parts is kept
     pub opening_kept : StartsSettled m → KeepsHands m → KeepsPrograms m → IsKept m opening_state
     opening_kept settled hands programs = start_kept m small settled hands programs opening_state opening_start free.0 first_words.0

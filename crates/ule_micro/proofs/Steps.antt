@@ -49,6 +49,7 @@ module _ {H O G E R C : Type 0} (m : Means H O G E R C) (s : State O G E R) (k :
         (λ v l c e a h. dite (ℕ_discrete v w) (λ z. absurd (none-some c (sym quiet ∙ (sym (pending_before s.seats w p p' at) ∙ (ap (pending s) (sym z) ∙ e))))) (λ n. held_else s.seats w p p' at l v n ∙ h))
         (k.agreement.threads t dec)
 
+    -- the state after the step is kept
     pub steps_on : IsKept m s'
     steps_on = record {
       locks = len;

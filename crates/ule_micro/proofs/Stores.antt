@@ -83,6 +83,7 @@ module _ {H O G E R C : Type 0} (m : Means H O G E R C) (settled : StartsSettled
   names : (l : ℕ) → NamesOneHolder (lock_word s' l) (λ v. holds s' v l)
   names l = names_kept (lock_word s l) (lock_word s l) (λ v. holds s v l) (λ v. holds s' v l) (k.agreement.locks l) refl (held_same s.seats w p p' at l refl)
 
+  -- the state after the store is kept
   pub store_kept : IsKept m s'
   store_kept = record {
     locks = k.locks;

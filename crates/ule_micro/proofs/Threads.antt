@@ -20,14 +20,17 @@ is_hand : Place → Bool
 is_hand (under l) = false
 is_hand (in_hand w) = true
 
+-- two places under a lock that are equal are under one lock
 pub under_injective : (k l : ℕ) → under k ≡ under l → k ≡ l
 unfolding place_number
 under_injective k l e = ap place_number e
 
+-- two places in a hand that are equal are in one hand
 pub hand_injective : (k l : ℕ) → in_hand k ≡ in_hand l → k ≡ l
 unfolding place_number
 hand_injective k l e = ap place_number e
 
+-- no place is under a lock and in a hand
 pub under_no_hand : (l w : ℕ) → under l ≡ in_hand w → ⊥
 unfolding is_hand
 under_no_hand l w e = true≢false (sym (ap is_hand e))
@@ -36,10 +39,12 @@ word_number : Word → ℕ
 word_number (Lock l) = suc l
 word_number Blocked = 0
 
+-- two words that are equal name one lock
 pub lock_injective : (k l : ℕ) → Lock k ≡ Lock l → k ≡ l
 unfolding word_number
 lock_injective k l e = let h : suc k ≡ suc l = ap word_number e in omega arith
 
+-- a word that names a lock is not blocked
 pub lock_not_blocked : (l : ℕ) → Lock l ≡ Blocked → ⊥
 unfolding word_number
 lock_not_blocked l e = let h : suc l ≡ 0 = ap word_number e in omega arith
@@ -71,6 +76,7 @@ module _ (holds holds' : ℕ → ℕ → Bool) (pending pending' : ℕ → Optio
   change_kept p w (Block u) e a h = h
   change_kept p w (Point u l) e a h = (h.0, still w l (Point u l) e a h.1)
 
+  -- a thread whose place, word and pending changes stay agrees as before
   pub thread_kept : ThreadAgrees holds pending stands carries t word → ThreadAgrees holds' pending' stands' carries' t word'
   thread_kept r = record {
     place = r.place;
@@ -113,6 +119,7 @@ module _ (holds : ℕ → ℕ → Bool) (pending : ℕ → Option WordChange) (s
   place_told (in_hand v) (inl (is, calm)) = absurd (lock_not_blocked l (sym named ∙ is))
   place_told (in_hand v) (inr (is, held)) = absurd (held_else_where v (Block t) is held)
 
+  -- the thread stands under the lock that its word names
   pub word_tells : ThreadAgrees holds pending stands carries t word → stands l ≡ true
   word_tells r = subst (IsThere stands carries) (place_told r.place r.word_agrees) r.there
 
@@ -138,7 +145,8 @@ module _ (holds holds' : ℕ → ℕ → Bool) (pending pending' : ℕ → Optio
   }
 
   -- a thread that came to a lock of the event
-  pub thread_came : (k : ℕ) → holds' n k ≡ true → pending' n ≡ Some (Point t k) → stands' k ≡ true → ((l : ℕ) → stands' l ≡ true → l ≡ k) → ((w : ℕ) → carries' w ≡ true → ⊥)
+  pub thread_came : (k : ℕ) → holds' n k ≡ true → pending' n ≡ Some (Point t k) → stands' k ≡ true → ((l : ℕ) → stands' l ≡ true → l ≡ k)
+      → ((w : ℕ) → carries' w ≡ true → ⊥)
       → ((word ≡ Blocked) ⊎ ((a : ℕ) × (word ≡ Lock a) × (holds' n a ≡ true))) → ThreadAgrees holds' pending' stands' carries' t word'
   thread_came k has is st only no_hand named = record {
     place = under k;

@@ -83,7 +83,8 @@ module _ {H O G E R C : Type 0} (m : Means H O G E R C) (s : State O G E R) (k :
     no_leaving reply now held is = absurd (cc)
 
     -- the worker takes a lock on its way
-    pub taken_on : (l : ℕ) → l < 25 → ((held : HeldLocks) (now : ℕ) → to ≡ progress.Timed held now → ⊥) → took (on_way e to) l ≡ true → ((i : ℕ) → i ≢ l → took (on_way e to) i ≡ took p.phase i)
+    pub taken_on : (l : ℕ) → l < 25 → ((held : HeldLocks) (now : ℕ) → to ≡ progress.Timed held now → ⊥) → took (on_way e to) l ≡ true
+        → ((i : ℕ) → i ≢ l → took (on_way e to) i ≡ took p.phase i)
         → (o : Option ℕ) → lock_word s l ≡ o → IsKept m (take s w p l (phase.Event e to) o).1
     taken_on l low untimed has_l rest (Some holder) is = k
     taken_on l low untimed has_l rest None is = steps_on m s k w p at (phase.Event e to) (set s.locks l (Some w)) (length-set s.locks l (Some w) ∙ k.locks) (quiet_event e way here) (sym (ap standing_of here))
@@ -98,16 +99,19 @@ module _ {H O G E R C : Type 0} (m : Means H O G E R C) (s : State O G E R) (k :
         (λ e' held now z. absurd (untimed held now (let y : to ≡ progress.Timed held now = cc in y)))
 
     -- the worker reads on its way
-    pub read_on : ((i : ℕ) → took (on_way e to) i ≡ took p.phase i) → ((e' : E) (held : HeldLocks) (now : ℕ) → on_way e to ≡ phase.Event e' (progress.Timed held now) → IsTimely m s w p held now)
+    pub read_on : ((i : ℕ) → took (on_way e to) i ≡ took p.phase i)
+        → ((e' : E) (held : HeldLocks) (now : ℕ) → on_way e to ≡ phase.Event e' (progress.Timed held now) → IsTimely m s w p held now)
         → IsKept m record { locks = s.locks; words = s.words; ticket = s.ticket; now = s.now; values = s.values; seats = set s.seats w (placed p (phase.Event e to)); history = s.history }
     read_on rest time = steps_on m s k w p at (phase.Event e to) s.locks k.locks (quiet_event e way here) (sym (ap standing_of here)) (λ z. cc)
         (λ i. names_kept (lock_word s i) (lock_word s i) (λ v. holds s v i) (λ v. held_by (slice_get (set s.seats w (placed p (phase.Event e to))) v) i) (k.agreement.locks i) refl (held_same s.seats w p (placed p (phase.Event e to)) at i (rest i)))
         no_leaving (way_is e to needs) time
 
   -- the worker gives a lock back, and stays in its item
-  pub freed_on : (l : ℕ) (there : Phase E R) → p.pending ≡ None → standing_of there ≡ standing_of p.phase → there ≢ phase.Finished → took p.phase l ≡ true → took there l ≡ false → ((i : ℕ) → i ≢ l → took there i ≡ took p.phase i)
+  pub freed_on : (l : ℕ) (there : Phase E R) → p.pending ≡ None → standing_of there ≡ standing_of p.phase → there ≢ phase.Finished → took p.phase l ≡ true
+      → took there l ≡ false → ((i : ℕ) → i ≢ l → took there i ≡ took p.phase i)
       → ((reply : R) (now : ℕ) (held : HeldLocks) → there ≡ phase.Leaving reply now held → AreApart held)
-      → ((e : E) (way : Progress) → there ≡ phase.Event e way → HasWhatItNeeds m s e way) → ((e : E) (held : HeldLocks) (now : ℕ) → there ≡ phase.Event e (progress.Timed held now) → ⊥)
+      → ((e : E) (way : Progress) → there ≡ phase.Event e way → HasWhatItNeeds m s e way)
+      → ((e : E) (held : HeldLocks) (now : ℕ) → there ≡ phase.Event e (progress.Timed held now) → ⊥)
       → IsKept m record { locks = set s.locks l None; words = s.words; ticket = s.ticket; now = s.now; values = s.values; seats = set s.seats w (placed p there); history = s.history }
   freed_on l there quiet course unfinished had gone rest apart way untimed = let had_l : holds s w l ≡ true = held_before s.seats w p (placed p there) at l ∙ had in
       steps_on m s k w p at there (set s.locks l None) (length-set s.locks l None ∙ k.locks) quiet course unfinished
@@ -171,7 +175,8 @@ module _ {H O G E R C : Type 0} (m : Means H O G E R C) (s : State O G E R) (k :
         freed_on b (phase.Leaving reply now (One a)) quiet (sym (ap standing_of here)) (λ z. cc) (ap (λ f. took f b) here ∙ among_second a b) (not_among_one a b (λ z. omega arith))
         (λ i n. sym (ap (λ f. took f i) here ∙ only_first i a b n)) (λ r n held z. let same : One a ≡ held = cc in subst AreApart same tt) (λ e way z. absurd (cc)) (λ e held n z. cc)
 
-    leave_kept_all : (reply : R) (now : ℕ) (held : HeldLocks) → p.phase ≡ phase.Leaving reply now held → (o : Option WordChange) → p.pending ≡ o → IsKept m (leave m s w p reply now held o).1
+    leave_kept_all : (reply : R) (now : ℕ) (held : HeldLocks) → p.phase ≡ phase.Leaving reply now held → (o : Option WordChange) → p.pending ≡ o
+        → IsKept m (leave m s w p reply now held o).1
     leave_kept_all reply now held here (Some (Block t)) is = store_kept m settled s k w p at (Block t) is
     leave_kept_all reply now held here (Some (Point t l)) is = store_kept m settled s k w p at (Point t l) is
     leave_kept_all reply now (One a) here None is = leave_kept m hands programs s k w p at a reply now here is

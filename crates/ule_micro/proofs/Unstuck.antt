@@ -68,7 +68,9 @@ module _ {H O G E R C : Type 0} (m : Means H O G E R C) (law : MovesLittle m) (p
     leave_moves reply now (One a) None = (done.Release a, refl)
     leave_moves reply now (Two a b) None = (done.Release b, refl)
 
-    commit_moves : (e : E) (held : HeldLocks) (now : ℕ) → p.phase ≡ phase.Event e (progress.Timed held now) → IsMoved (commit m s w p e held now (performed m w e now (m.hand p.own) held s.values)).0
+    -- a worker whose event is next commits
+    pub commit_moves : (e : E) (held : HeldLocks) (now : ℕ) → p.phase ≡ phase.Event e (progress.Timed held now)
+        → IsMoved (commit m s w p e held now (performed m w e now (m.hand p.own) held s.values)).0
     commit_moves e held now here = let g = guarded_at in let a = effect_there m w e now (m.hand p.own) held s.values g.0 g.1 in (done.Commit (s.ticket + 1), ap (λ o. (commit m s w p e held now o).0) a.1) where
       guarded_at : (guarded : List G) × (values_under held s.values ≡ Some guarded)
       guarded_at = guarded_there m s.values held (m.needs e) k.values (law.rising e) (k.agreement.ways w p e (progress.Timed held now) at here)
@@ -94,6 +96,7 @@ module _ {H O G E R C : Type 0} (m : Means H O G E R C) (law : MovesLittle m) (p
       phase_moves (phase.Event e way) here took_it = way_moves e way here took_it
       phase_moves (phase.Leaving reply now held) here took_it = leave_moves reply now held p.pending
 
+      -- the worker that holds this lock moves
       pub holder_moves : took p.phase l ≡ true → Moves m s w
       holder_moves took_it = moves_by w p at (phase_moves p.phase refl took_it)
 
@@ -127,6 +130,7 @@ module _ {H O G E R C : Type 0} (m : Means H O G E R C) (law : MovesLittle m) (p
       free_phase (phase.Event e way) here unfinished finds = free_way e way here finds
       free_phase (phase.Leaving reply now held) here unfinished finds = leave_moves reply now held p.pending
 
+      -- an unfinished worker that finds a lock moves
       pub free_moves : p.phase ≢ phase.Finished → FindsLock p.phase → Moves m s w
       free_moves unfinished finds = moves_by w p at (free_phase p.phase refl unfinished finds)
 
@@ -184,13 +188,15 @@ module _ {H O G E R C : Type 0} (m : Means H O G E R C) (law : MovesLittle m) (p
   -- behind a blocked word stands a worker that moves, where no lock is held
   blocked_moves : (free : (b : ℕ) → lock_word s b ≡ None) (t : ℕ) → m.declared t ≡ true → word_of s t ≡ Blocked → SomeMoves
   blocked_moves free t dec is = by (k.agreement.threads t dec).place (k.agreement.threads t dec).word_agrees (k.agreement.threads t dec).there where
-    by : (p : Place) → WordAgrees (holds s) (pending s) t (word_of s t) p → IsThere (λ i. stands_at m s.values i t) (λ v. carried_at m (slice_get s.seats v) t) p → SomeMoves
+    by : (p : Place) → WordAgrees (holds s) (pending s) t (word_of s t) p → IsThere (λ i. stands_at m s.values i t) (λ v. carried_at m (slice_get s.seats v) t) p
+        → SomeMoves
     by (under l) (inl (named, calm)) st = absurd (lock_not_blocked l (sym named ∙ is))
     by (under l) (inr (v, (pends, took_it, more))) st = some_pending v (Point t l) pends
     by (in_hand v) a ca = carrier_moves free v t dec ca
 
   -- an unfinished worker moves, or one behind the blocked word that it reads
-  free_some : (free : (b : ℕ) → lock_word s b ≡ None) (w : ℕ) (p : Seat O E R) → slice_get s.seats w ≡ Some p → p.phase ≢ phase.Finished → (f : Phase E R) → p.phase ≡ f → SomeMoves
+  free_some : (free : (b : ℕ) → lock_word s b ≡ None) (w : ℕ) (p : Seat O E R) → slice_get s.seats w ≡ Some p → p.phase ≢ phase.Finished → (f : Phase E R) → p.phase ≡ f
+      → SomeMoves
   free_some free w p at unfinished (phase.Event e progress.Open) here = by (m.needs e) refl where
     moves_so : ((t : ℕ) → m.needs e ≡ lock_of t → word_of s t ≢ Blocked) → SomeMoves
     moves_so finds = (w, there s.seats w p at, free_moves w p at free unfinished (λ e' t is needs. let y : phase.Event e progress.Open ≡ phase.Event e' progress.Open = sym here ∙ is in let same : e ≡ e' = cc in finds t (ap m.needs same ∙ needs)))

@@ -62,6 +62,7 @@ module _ {H O G E R C : Type 0} (m : Means H O G E R C) (s : State O G E R) (w :
   turned_many None = refl
   turned_many (Some p) = step_many m s w p p.phase
 
+  -- a turn leaves as many workers
   pub same_workers : length (turn_of m s w).1.seats ≡ length s.seats
   same_workers = turned_many (slice_get s.seats w)
 

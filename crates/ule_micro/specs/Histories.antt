@@ -1,5 +1,5 @@
 -- A history of events, newest entry first, each with the locks that it was performed under: how an entry follows from the values under its locks, and when its time is in order.
-use Rattle.std.specs.Prelude.{◌≡◌, ℕ, ◌≤◌, ◌⊎◌, ◌||◌, ◌==◌, Bool, true, List, [], ◌∷◌, Option, Some, None, slice_get, slice_set, if◌then◌else◌}
+use Rattle.std.specs.Prelude.{◌≡◌, ℕ, ◌<◌, ◌≤◌, ◌⊎◌, ◌||◌, ◌==◌, Bool, true, List, [], ◌∷◌, Option, Some, None, slice_get, slice_set, if◌then◌else◌}
 use Rattle.ule_micro.specs.declared.entry.Entry.{Entry}
 use Rattle.ule_micro.specs.declared.entry.HeldLocks.{HeldLocks}
 use Rattle.ule_micro.specs.declared.entry.HeldLocks.TheVariants.{One, Two}
@@ -96,6 +96,10 @@ module _ {E R : Type 0} where
   pub record IsNoEarlier (history : List (Entry E R)) (w : ℕ) (held : HeldLocks) (now : ℕ) : Type 0 where
     pub begun : 20000 ≤ now
     pub after : (j : ℕ) (x : Entry E R) → slice_get history j ≡ Some x → Shares w held x → x.now ≤ now
+
+  -- is below: each entry's time is below this one
+  abbrev pub IsBelow : List (Entry E R) → ℕ → Type 0
+  IsBelow history end = (j : ℕ) (x : Entry E R) → slice_get history j ≡ Some x → x.now < end
 
   -- latest of: the last entry that a worker made
   abbrev pub latest_of : ℕ → List (Entry E R) → Option (Entry E R)

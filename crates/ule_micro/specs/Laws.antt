@@ -6,7 +6,7 @@ use Rattle.ule_micro.specs.declared.todo.Todo.TheVariants.{Event, Advance}
 use Rattle.ule_micro.specs.declared.word.WordChange.{WordChange}
 use Rattle.ule_micro.specs.declared.word.WordChange.TheVariants.{Block, Point}
 use Rattle.ule_micro.specs.Means.{Means, Needs, one, both, lock_of, thread_of, budgets, stands_at}
-use Rattle.ule_micro.specs.Histories.{World, AreLocksFor, values_under, IsNoEarlier, Leads}
+use Rattle.ule_micro.specs.Histories.{World, AreLocksFor, values_under, IsNoEarlier, IsBelow, Leads}
 use Rattle.ule_micro.specs.Courses.{Course, asks, has, rests, Play}
 
 module _ {H O G E R C : Type 0} (m : Means H O G E R C) where
@@ -51,7 +51,8 @@ module _ {H O G E R C : Type 0} (m : Means H O G E R C) where
 
   -- pair moves: an event under two locks moves at most the thread of its word change, from one of the locks into the hand, or from the hand or one of the locks to a lock of the two
   pub record PairMoves (h : H) (a b : ℕ) (v u : G) (change : Option WordChange) (h' : H) (v' u' : G) : Type 0 where
-    pub others : (t : ℕ) → m.declared t ≡ true → Leaves change t → (m.stands_in v' t ≡ m.stands_in v t) × (m.stands_in u' t ≡ m.stands_in u t) × (m.carried_in h' t ≡ m.carried_in h t)
+    pub others : (t : ℕ) → m.declared t ≡ true → Leaves change t
+        → (m.stands_in v' t ≡ m.stands_in v t) × (m.stands_in u' t ≡ m.stands_in u t) × (m.carried_in h' t ≡ m.carried_in h t)
     pub blocks : (t : ℕ) → m.declared t ≡ true → change ≡ Some (Block t)
         → ((m.stands_in v t ≡ true) ⊎ (m.stands_in u t ≡ true)) × (m.stands_in v' t ≡ false) × (m.stands_in u' t ≡ false) × (m.carried_in h' t ≡ true)
     pub points : (t k : ℕ) → m.declared t ≡ true → change ≡ Some (Point t k)
@@ -83,7 +84,8 @@ module _ {H O G E R C : Type 0} (m : Means H O G E R C) where
   -- keeps programs: what holds of a worker's program after every legal play
   pub record KeepsPrograms : Type 0 where
     -- it performs at most its budget of items
-    pub budget : (h : List (Entry E R)) (vs : List G) (cs : List (Course O E R)) (w : ℕ) (c : Course O E R) → Play m h vs cs → slice_get cs w ≡ Some c → c.items ≤ m.budget w
+    pub budget : (h : List (Entry E R)) (vs : List G) (cs : List (Course O E R)) (w : ℕ) (c : Course O E R) → Play m h vs cs → slice_get cs w ≡ Some c
+        → c.items ≤ m.budget w
     -- its next command may begin
     pub begins : (h : List (Entry E R)) (vs : List G) (cs : List (Course O E R)) (w : ℕ) (c : Course O E R) (order : C)
         → Play m h vs cs → slice_get cs w ≡ Some c → c.standing ≡ rests → slice_get (m.orders w) c.begun ≡ Some order → m.begins c.own order
@@ -101,7 +103,8 @@ module _ {H O G E R C : Type 0} (m : Means H O G E R C) where
         → Play m h vs cs → slice_get cs w ≡ Some c → c.standing ≡ rests → slice_get (m.orders w) c.begun ≡ None → IsEmpty (m.hand c.own)
     -- an event that it has fits its hand and the values under the locks that the event needs
     pub fits : (h : List (Entry E R)) (vs : List G) (cs : List (Course O E R)) (w : ℕ) (c : Course O E R) (e : E) (held : HeldLocks) (guarded : List G)
-        → Play m h vs cs → slice_get cs w ≡ Some c → c.standing ≡ has (Event e) → AreLocksFor m vs held (m.needs e) → values_under held vs ≡ Some guarded → m.fits w e (m.hand c.own) guarded
+        → Play m h vs cs → slice_get cs w ≡ Some c → c.standing ≡ has (Event e) → AreLocksFor m vs held (m.needs e) → values_under held vs ≡ Some guarded
+        → m.fits w e (m.hand c.own) guarded
 
   -- start: the world at the start
   abbrev pub start_of : World H G
@@ -110,5 +113,5 @@ module _ {H O G E R C : Type 0} (m : Means H O G E R C) where
   -- readies: after every history in order, an event that fits may be performed, at a time that the rules of time allow
   abbrev pub Readies : Type 0
   Readies = (h : List (Entry E R)) (y : World H G) (w : ℕ) (e : E) (now : ℕ) (hand : H) (held : HeldLocks) (guarded : List G)
-      → Leads m start_of h y → length h < 65536 → slice_get y.hands w ≡ Some hand → AreLocksFor m y.values held (m.needs e) → values_under held y.values ≡ Some guarded
+      → Leads m start_of h y → IsBelow h (2 ^ 36) → length h < 65536 → slice_get y.hands w ≡ Some hand → AreLocksFor m y.values held (m.needs e) → values_under held y.values ≡ Some guarded
       → m.fits w e hand guarded → IsNoEarlier h w held now → now < 2 ^ 36 → m.may w e now hand guarded

@@ -61,7 +61,8 @@ module _ {H O G E R C : Type 0} (m : Means H O G E R C) where
     -- a worker on the way to its commit holds the locks that its event needs, and a thread that it sought stands under the lock
     pub ways : (w : ℕ) (p : Seat O E R) (e : E) (way : Progress) → slice_get s.seats w ≡ Some p → p.phase ≡ phase.Event e way → HasWhatItNeeds s e way
     -- a time that a worker read under its locks is no earlier than what happened under them and to itself
-    pub times : (w : ℕ) (p : Seat O E R) (e : E) (held : HeldLocks) (now : ℕ) → slice_get s.seats w ≡ Some p → p.phase ≡ phase.Event e (progress.Timed held now) → IsTimely s w p held now
+    pub times : (w : ℕ) (p : Seat O E R) (e : E) (held : HeldLocks) (now : ℕ) → slice_get s.seats w ≡ Some p → p.phase ≡ phase.Event e (progress.Timed held now)
+        → IsTimely s w p held now
     -- no entry is later than now, which is the start and all that was advanced
     pub past : (j : ℕ) (x : Entry E R) → slice_get s.history j ≡ Some x → x.now ≤ s.now
     pub now : s.now ≡ 20000 + all_advanced (courses s)

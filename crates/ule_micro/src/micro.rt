@@ -53,12 +53,14 @@ impl<P: Parts> Micro<P> {
         requires { worker < length self.old.state.seats }
         ensures turned { IsTurned (P.means self.old.parts) self.old worker result self.new }
         ensures workers { length self.new.state.seats ≡ length self.old.state.seats }
+        ensures finished { result ≡ Turn.Finished → StandsAt self.old.state worker phase.Finished }
         ensures unmoved { IsNoStep result → self.new.state ≡ self.old.state }
         ensures agrees { LockAgreement (P.means self.new.parts) self.new.state }
         ensures legal { IsLegal (P.means self.new.parts) self.new.state }
         ensures tells { WordTellsPlace (P.means self.new.parts) self.new.state }
         ensures goes_on { IsNotStuck (P.means self.new.parts) self.new.state }
     {
+        let _ = &self.ticket;
         let turn = self.turn(worker);
         let _ = &self.ticket;
         turn

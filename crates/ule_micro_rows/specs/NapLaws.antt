@@ -106,7 +106,8 @@ comes h a k v v' full lock stand = record {
 at_zero : (t : ℕ) → t ≡ 0 → (t == 0) ≡ true
 at_zero t e = eq-eqb t 0 e
 
-moves : (e : Act) (h : Bool) (a : ℕ) (v : Spot) → Fits e h → IsLockFor means a v (needs e) → StepMoves means h a v (change e (acted e h v).2) (acted e h v).0 (acted e h v).1
+moves : (e : Act) (h : Bool) (a : ℕ) (v : Spot) → Fits e h → IsLockFor means a v (needs e)
+    → StepMoves means h a v (change e (acted e h v).2) (acted e h v).0 (acted e h v).1
 moves Doze h a Empty fits lock = stays h a Empty
 moves Doze h a Awake fits lock = leaves h a Awake at_zero
 moves Doze h a Asleep fits lock = stays h a Asleep
@@ -133,4 +134,4 @@ pub keeps_hands : KeepsHands means
 keeps_hands = record { put = λ o h. refl; put_number = λ o h. refl; begin = λ o c. refl; begin_number = λ o c. refl; next = λ o told. refl; next_number = λ o told. refl }
 
 pub readies : Readies means
-readies h y w e now hand held guarded leads few at locks under fits early small = (fits, small)
+readies h y w e now hand held guarded leads below few at locks under fits early small = (fits, small)

@@ -136,7 +136,8 @@ most_begun Sleep = refl
 most_begun Wake = refl
 most_begun Wait = refl
 
-ordered_fine : (w : ℕ) (c : Course Napper Act Answer) (order : Wish) → c.standing ≡ rests → slice_get (orders w) c.begun ≡ Some order → IsFine w c → IsFine w (ordered means c order)
+ordered_fine : (w : ℕ) (c : Course Napper Act Answer) (order : Wish) → c.standing ≡ rests → slice_get (orders w) c.begun ≡ Some order → IsFine w c
+    → IsFine w (ordered means c order)
 ordered_fine w c order is at r = record {
   hand = r.hand ∙ ap (full c.own.stage) is;
   due = tt;
@@ -151,7 +152,8 @@ advanced_fine w c k is r = let stage = (subst (IsDue c.own.stage) is r.due).0 in
 }
 
 -- what an event leaves in the hand, and how many items less there are
-full_done : (e : Act) (stage : Stage) (h : Bool) (v : Spot) (now : ℕ) → IsDue stage (has (Event e)) → h ≡ full stage (has (Event e)) → (acted e h v).0 ≡ full stage (asks (Some ((acted e h v).2, now)))
+full_done : (e : Act) (stage : Stage) (h : Bool) (v : Spot) (now : ℕ) → IsDue stage (has (Event e)) → h ≡ full stage (has (Event e))
+    → (acted e h v).0 ≡ full stage (asks (Some ((acted e h v).2, now)))
 full_done Doze stage h Empty now due is = is ∙ ap (λ s. full s (asks (Some (Stayed, now)))) (sym due)
 full_done Doze stage h Awake now due is = ap (λ s. full s (asks (Some (Left, now)))) (sym due)
 full_done Doze stage h Asleep now due is = is ∙ ap (λ s. full s (asks (Some (Stayed, now)))) (sym due)
@@ -174,13 +176,15 @@ no_two vs a b Bed is = cc
 no_two vs a b Rouse (l, is, st) = cc
 no_two vs a b Land is = cc
 
-acted_so : (w : ℕ) (e : Act) (now : ℕ) (h : Bool) (held : HeldLocks) (vs guarded : List Spot) (after : Effect Bool Spot Answer) → AreLocksFor means vs held (needs e) → values_under held vs ≡ Some guarded → performed means w e now h held vs ≡ Some after
+acted_so : (w : ℕ) (e : Act) (now : ℕ) (h : Bool) (held : HeldLocks) (vs guarded : List Spot) (after : Effect Bool Spot Answer) → AreLocksFor means vs held (needs e)
+    → values_under held vs ≡ Some guarded → performed means w e now h held vs ≡ Some after
     → (v : Spot) × (after.hand ≡ (acted e h v).0) × (after.reply ≡ (acted e h v).2)
 acted_so w e now h (One a) vs guarded after locks under effect = let v = under_one a vs guarded under in let same : after ≡ stepped means w e now h vs a v.0 = same_Some after _ (sym effect ∙ performed_one means w e now h a vs v.0 v.1) in
     (v.0, ap (λ (x : Effect Bool Spot Answer). x.hand) same, ap (λ (x : Effect Bool Spot Answer). x.reply) same)
 acted_so w e now h (Two a b) vs guarded after locks under effect = absurd (no_two vs a b e locks)
 
-done_fine : (c : Course Napper Act Answer) (vs : List Spot) (x : Entry Act Answer) (after : Effect Bool Spot Answer) → c.standing ≡ has (Event x.event) → Follows means vs c.own.hand x after → IsFine x.worker c → IsFine x.worker (done_by means c after.hand x.reply x.now)
+done_fine : (c : Course Napper Act Answer) (vs : List Spot) (x : Entry Act Answer) (after : Effect Bool Spot Answer) → c.standing ≡ has (Event x.event)
+    → Follows means vs c.own.hand x after → IsFine x.worker c → IsFine x.worker (done_by means c after.hand x.reply x.now)
 done_fine c vs x after is follows r = let z = acted_so x.worker x.event x.now c.own.hand x.locks vs follows.guarded after follows.locks follows.under follows.effect in
     let due = subst (IsDue c.own.stage) is r.due in record {
       hand = z.1 ∙ (full_done x.event c.own.stage c.own.hand z.0 x.now due (r.hand ∙ ap (full c.own.stage) is) ∙ ap (λ a. full c.own.stage (asks (Some (a, x.now)))) (sym z.2 ∙ follows.reply));
@@ -194,12 +198,14 @@ first_fine (suc zero) o e = subst (λ i. IsFine 1 (unbegun i)) (same_Some _ o e)
 first_fine (suc (suc w)) o e = absurd (none-some o e)
 
 -- one worker's course changed
-set_fine : (cs : List (Course Napper Act Answer)) (v : ℕ) (d : Course Napper Act Answer) → ((w : ℕ) (c : Course Napper Act Answer) → slice_get cs w ≡ Some c → IsFine w c) → IsFine v d
+set_fine : (cs : List (Course Napper Act Answer)) (v : ℕ) (d : Course Napper Act Answer)
+    → ((w : ℕ) (c : Course Napper Act Answer) → slice_get cs w ≡ Some c → IsFine w c) → IsFine v d
     → (w : ℕ) (c : Course Napper Act Answer) → slice_get (set cs v d) w ≡ Some c → IsFine w c
 set_fine cs v d old new w c at = ⊎_elim (λ (z : (w ≡ v) × (d ≡ c)). subst (λ i. IsFine i c) (sym z.0) (subst (IsFine v) z.1 new)) (λ (z : (w ≢ v) × (slice_get cs w ≡ Some c)). old w c z.1) (get_set cs v w d c at)
 
 -- each worker's course is fine after every legal play
-pub all_fine : {h : List (Entry Act Answer)} {vs : List Spot} {cs : List (Course Napper Act Answer)} → Play means h vs cs → (w : ℕ) (c : Course Napper Act Answer) → slice_get cs w ≡ Some c → IsFine w c
+pub all_fine : {h : List (Entry Act Answer)} {vs : List Spot} {cs : List (Course Napper Act Answer)} → Play means h vs cs → (w : ℕ) (c : Course Napper Act Answer)
+    → slice_get cs w ≡ Some c → IsFine w c
 all_fine opens w c at = let o = map_get unbegun means.owns w c at in subst (IsFine w) o.2 (first_fine w o.0 o.1)
 all_fine (answers {h} {vs} {cs} v d told play at is) w c here = set_fine cs v (answered means d told) (all_fine play) (answered_fine v d told is (all_fine play v d at)) w c here
 all_fine (begins {h} {vs} {cs} v d order play at is next) w c here = set_fine cs v (ordered means d order) (all_fine play) (ordered_fine v d order is next (all_fine play v d at)) w c here

@@ -121,7 +121,7 @@ pub keeps_hands : KeepsHands means
 keeps_hands = record { put = λ o h. refl; put_number = λ o h. refl; begin = λ o c. refl; begin_number = λ o c. refl; next = λ o told. refl; next_number = λ o told. refl }
 
 pub readies : Readies means
-readies h y w e now hand held guarded leads few at locks under fits early small = (fits, small)
+readies h y w e now hand held guarded leads below few at locks under fits early small = (fits, small)
 
 -- most: the items that are still to come of the present command, at most
 abbrev pub most : Point → Standing Move Place → ℕ
@@ -158,7 +158,8 @@ answered_fine w c told is r = record {
   count = let a = r.count in let b : most c.own.point c.standing ≡ most c.own.point (asks told) = ap (most c.own.point) is in let d = most_next c.own.point told in omega arith;
 }
 
-ordered_fine : (w : ℕ) (c : Course Mover Move Place) (order : Move) → c.standing ≡ rests → slice_get (orders w) c.begun ≡ Some order → IsFine w c → IsFine w (ordered means c order)
+ordered_fine : (w : ℕ) (c : Course Mover Move Place) (order : Move) → c.standing ≡ rests → slice_get (orders w) c.begun ≡ Some order → IsFine w c
+    → IsFine w (ordered means c order)
 ordered_fine w c order is at r = record {
   hand = r.hand;
   due = tt;
@@ -175,13 +176,15 @@ shifted_hand h true u = refl
 shifted_hand h false true = refl
 shifted_hand h false false = refl
 
-hand_stays : (w : ℕ) (e : Move) (now : ℕ) (h : Bool) (held : HeldLocks) (vs guarded : List Bool) (after : Effect Bool Bool Place) → values_under held vs ≡ Some guarded → performed means w e now h held vs ≡ Some after → after.hand ≡ h
+hand_stays : (w : ℕ) (e : Move) (now : ℕ) (h : Bool) (held : HeldLocks) (vs guarded : List Bool) (after : Effect Bool Bool Place) → values_under held vs ≡ Some guarded
+    → performed means w e now h held vs ≡ Some after → after.hand ≡ h
 hand_stays w e now h (One a) vs guarded after under effect = let v = under_one a vs guarded under in
     ap (λ (x : Effect Bool Bool Place). x.hand) (same_Some after (stepped means w e now h vs a v.0) (sym effect ∙ performed_one means w e now h a vs v.0 v.1))
 hand_stays w e now h (Two a b) vs guarded after under effect = let v = under_two a b vs guarded under in
     ap (λ (x : Effect Bool Bool Place). x.hand) (same_Some after (paired means w e now h vs a b v.0 v.1) (sym effect ∙ performed_two means w e now h a b vs v.0 v.1 v.2 v.3)) ∙ shifted_hand h v.0 v.1
 
-done_fine : (c : Course Mover Move Place) (vs : List Bool) (x : Entry Move Place) (after : Effect Bool Bool Place) → c.standing ≡ has (Event x.event) → Follows means vs c.own.hand x after → IsFine x.worker c → IsFine x.worker (done_by means c after.hand x.reply x.now)
+done_fine : (c : Course Mover Move Place) (vs : List Bool) (x : Entry Move Place) (after : Effect Bool Bool Place) → c.standing ≡ has (Event x.event)
+    → Follows means vs c.own.hand x after → IsFine x.worker c → IsFine x.worker (done_by means c after.hand x.reply x.now)
 done_fine c vs x after is follows r = let over : c.own.point ≡ Over = subst (IsDue c.own.point) is r.due in record {
   hand = hand_stays x.worker x.event x.now c.own.hand x.locks vs follows.guarded after follows.under follows.effect ∙ r.hand;
   due = tt;
@@ -193,12 +196,14 @@ first_fine zero o e = subst (λ i. IsFine 0 (unbegun i)) (same_Some _ o e) recor
 first_fine (suc zero) o e = subst (λ i. IsFine 1 (unbegun i)) (same_Some _ o e) record { hand = refl; due = tt; count = omega arith }
 first_fine (suc (suc w)) o e = absurd (none-some o e)
 
-set_fine : (cs : List (Course Mover Move Place)) (v : ℕ) (d : Course Mover Move Place) → ((w : ℕ) (c : Course Mover Move Place) → slice_get cs w ≡ Some c → IsFine w c) → IsFine v d
+set_fine : (cs : List (Course Mover Move Place)) (v : ℕ) (d : Course Mover Move Place) → ((w : ℕ) (c : Course Mover Move Place) → slice_get cs w ≡ Some c → IsFine w c)
+    → IsFine v d
     → (w : ℕ) (c : Course Mover Move Place) → slice_get (set cs v d) w ≡ Some c → IsFine w c
 set_fine cs v d old new w c at = ⊎_elim (λ (z : (w ≡ v) × (d ≡ c)). subst (λ i. IsFine i c) (sym z.0) (subst (IsFine v) z.1 new)) (λ (z : (w ≢ v) × (slice_get cs w ≡ Some c)). old w c z.1) (get_set cs v w d c at)
 
 -- each worker's course is fine after every legal play
-pub all_fine : {h : List (Entry Move Place)} {vs : List Bool} {cs : List (Course Mover Move Place)} → Play means h vs cs → (w : ℕ) (c : Course Mover Move Place) → slice_get cs w ≡ Some c → IsFine w c
+pub all_fine : {h : List (Entry Move Place)} {vs : List Bool} {cs : List (Course Mover Move Place)} → Play means h vs cs → (w : ℕ) (c : Course Mover Move Place)
+    → slice_get cs w ≡ Some c → IsFine w c
 all_fine opens w c at = let o = map_get unbegun means.owns w c at in subst (IsFine w) o.2 (first_fine w o.0 o.1)
 all_fine (answers {h} {vs} {cs} v d told play at is) w c here = set_fine cs v (answered means d told) (all_fine play) (answered_fine v d told is (all_fine play v d at)) w c here
 all_fine (begins {h} {vs} {cs} v d order play at is next) w c here = set_fine cs v (ordered means d order) (all_fine play) (ordered_fine v d order is next (all_fine play v d at)) w c here
