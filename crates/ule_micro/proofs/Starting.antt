@@ -1,0 +1,232 @@
+-- The state at the start is kept.
+use Rattle.std.proofs.Common.{◌≡◌, ℕ, zero, suc, ◌+◌, ◌≤◌, ◌<◌, Bool, true, false, List, [], ◌∷◌, ◌++◌, map, length, set, sym, refl, ap, ◌∙◌, subst, inl, arith, true≢false, length-append}
+use Rattle.std.specs.Prelude.{Option, Some, None, Result, Ok, Err, is_ok, is_err, if◌then◌else◌, slice_get, slice_index_or}
+use Rattle.std.proofs.lemmas.Option.{none-some, same_Some}
+use mathlib.Core.Logic.{dite}
+use native.Mathlib.Decide.{ℕ_discrete}
+use Rattle.ule_micro.specs.declared.seat.Progress.TheVariants as progress
+use Rattle.ule_micro.specs.declared.seat.Seat.{Seat}
+use Rattle.ule_micro.specs.declared.word.Word.TheVariants.{Lock}
+use Rattle.ule_micro.specs.Means.{Means, stands_at}
+use Rattle.ule_micro.specs.Histories.{Leads}
+use Rattle.ule_micro.specs.Courses.{Course, standing_with, all_advanced, unbegun, Play, opens}
+use Rattle.ule_micro.specs.Laws.{StartsSmall, StartsSettled, KeepsHands, KeepsPrograms, start_of}
+use Rattle.ule_micro.specs.Agreement.{under}
+use Rattle.ule_micro.specs.Programs.{CanBegin}
+use Rattle.ule_micro.specs.States.{State, holds, held_by, pending, pending_by, carried_at, course_of, hand_of, courses, world}
+use Rattle.ule_micro.specs.Turns.{Fetched, next_command, seated, phase_with}
+use Rattle.ule_micro.specs.Theorem.{IsStart, HasWhatItNeeds, ThreadAgreesIn}
+use Rattle.ule_micro.specs.Kept.{IsKept}
+use Rattle.ule_micro.specs.declared.entry.Entry.{Entry}
+use Rattle.ule_micro.specs.declared.word.Word.{Word}
+use Rattle.ule_micro.specs.Opening.{AreFree, AreFirstWords, AreFirstValues, AreFirstSeats, IsFirstSeat}
+use Rattle.ule_micro.proofs.Lists.{set_same, there, something, get_map, length_map, index_get}
+use Rattle.ule_micro.proofs.Fetches.{IsFetchedWell, commands_well}
+use Rattle.ule_micro.proofs.Fresh.{took_nothing, standing_given, given_none, given_open, given_not_leaving, open_not_timed}
+
+module _ {X : Type 0} where
+  -- mixed: the first n of one list, and the rest of another
+  abbrev pub mixed : ℕ → List X → List X → List X
+  mixed zero xs ys = ys
+  mixed (suc n) [] ys = ys
+  mixed (suc n) (x ∷ xs) [] = []
+  mixed (suc n) (x ∷ xs) (y ∷ ys) = x ∷ mixed n xs ys
+
+  mixed_next : (n : ℕ) (xs ys : List X) (x : X) → length xs ≡ length ys → slice_get xs n ≡ Some x → set (mixed n xs ys) n x ≡ mixed (suc n) xs ys
+  mixed_next n [] ys x len at = absurd (none-some x at)
+  mixed_next n (z ∷ xs) [] x len at = absurd (let e : suc (length xs) ≡ 0 = len in omega arith)
+  mixed_next zero (z ∷ xs) (y ∷ ys) x len at = ap (λ i. i ∷ ys) (sym (same_Some z x at))
+  mixed_next (suc n) (z ∷ xs) (y ∷ ys) x len at = ap (λ l. z ∷ l) (mixed_next n xs ys x (let e : suc (length xs) ≡ suc (length ys) = len in omega arith) at)
+
+  mixed_rest : (n : ℕ) (xs ys : List X) → length xs ≡ length ys → slice_get (mixed n xs ys) n ≡ slice_get ys n
+  mixed_rest zero xs ys len = refl
+  mixed_rest (suc n) [] ys len = refl
+  mixed_rest (suc n) (x ∷ xs) [] len = refl
+  mixed_rest (suc n) (x ∷ xs) (y ∷ ys) len = mixed_rest n xs ys (let e : suc (length xs) ≡ suc (length ys) = len in omega arith)
+
+  mixed_all : (xs ys : List X) → length xs ≡ length ys → mixed (length xs) xs ys ≡ xs
+  mixed_all [] [] len = refl
+  mixed_all [] (y ∷ ys) len = absurd (let e : 0 ≡ suc (length ys) = len in omega arith)
+  mixed_all (x ∷ xs) [] len = absurd (let e : suc (length xs) ≡ 0 = len in omega arith)
+  mixed_all (x ∷ xs) (y ∷ ys) len = ap (λ l. x ∷ l) (mixed_all xs ys (let e : suc (length xs) ≡ suc (length ys) = len in omega arith))
+
+  -- two lists that have the same at each place are one
+  pub same_list : (xs ys : List X) → length xs ≡ length ys → ((i : ℕ) → i < length xs → slice_get xs i ≡ slice_get ys i) → xs ≡ ys
+  same_list [] [] len at = refl
+  same_list [] (y ∷ ys) len at = absurd (let e : 0 ≡ suc (length ys) = len in omega arith)
+  same_list (x ∷ xs) [] len at = absurd (let e : suc (length xs) ≡ 0 = len in omega arith)
+  same_list (x ∷ xs) (y ∷ ys) len at = λ i. same_Some x y (at 0 (omega arith)) i ∷ same_list xs ys (let e : suc (length xs) ≡ suc (length ys) = len in omega arith) (λ j h. at (suc j) (omega arith)) i
+
+  -- a place of a list with one more
+  pub snoc_get : (xs : List X) (x : X) (k : ℕ) → k < length xs → slice_get (xs ++ x ∷ []) k ≡ slice_get xs k
+  snoc_get [] x k h = absurd (omega arith)
+  snoc_get (y ∷ ys) x zero h = refl
+  snoc_get (y ∷ ys) x (suc k) h = snoc_get ys x k (omega arith)
+
+  -- the last place of a list with one more
+  pub snoc_last : (xs : List X) (x : X) (k : ℕ) → k ≡ length xs → slice_get (xs ++ x ∷ []) k ≡ Some x
+  snoc_last [] x zero e = refl
+  snoc_last [] x (suc k) e = absurd (omega arith)
+  snoc_last (y ∷ ys) x zero e = absurd (omega arith)
+  snoc_last (y ∷ ys) x (suc k) e = snoc_last ys x k (omega arith)
+
+  -- a list of defaults with one more default reads as the default
+  pub snoc_default : (xs : List X) (d : X) (k : ℕ) → ((i : ℕ) → slice_index_or xs i d ≡ d) → slice_index_or (xs ++ d ∷ []) k d ≡ d
+  snoc_default [] d zero all = refl
+  snoc_default [] d (suc k) all = refl
+  snoc_default (y ∷ ys) d zero all = all 0
+  snoc_default (y ∷ ys) d (suc k) all = snoc_default ys d k (λ i. all (suc i))
+
+module _ {H O G E R C : Type 0} (m : Means H O G E R C) (hands : KeepsHands m) (programs : KeepsPrograms m) where
+  -- the first command of a worker may begin, and so on up to its first item
+  module _ (cs : List (Course O E R)) (play : Play m [] m.values cs) (w : ℕ) (o : O) (at : slice_get cs w ≡ Some (unbegun o)) where
+    first_fetch : CanBegin m o (m.orders w) × IsFetchedWell m hands programs [] m.values cs w 0 0 o (there cs w (unbegun o) at) (next_command m o 0 (m.orders w))
+    first_fetch = commands_well m hands programs [] m.values cs w 0 0 o (there cs w (unbegun o) at) (m.orders w) o 0 refl (omega arith) (subst (Play m [] m.values) (sym (set_same cs w (unbegun o) at)) play) refl refl
+
+  -- at the start the commands of a worker may begin, up to its first item
+  pub start_can : (w : ℕ) (o : O) → slice_get m.owns w ≡ Some o → CanBegin m o (m.orders w)
+  start_can w o at = (first_fetch (map unbegun m.owns) opens w o (get_map unbegun m.owns w o at)).0
+
+module _ {H O G E R C : Type 0} (m : Means H O G E R C) (small : StartsSmall m) (settled : StartsSettled m) (hands : KeepsHands m) (programs : KeepsPrograms m) (s : State O G E R) (st : IsStart m s) (locks : length s.locks ≡ 25) (words : length s.words ≡ 256) where
+  many : length (courses s) ≡ length (map (unbegun {O = O} {E = E} {R = R}) m.owns)
+  many = length_map course_of s.seats ∙ (st.workers ∙ sym (length_map unbegun m.owns))
+
+  abbrev first_item : ℕ → O → Fetched O E
+  first_item w o = next_command m o 0 (m.orders w)
+
+  -- a worker at the start is the one that its own part leads to
+  each_start : (w : ℕ) (p : Seat O E R) → slice_get s.seats w ≡ Some p → (o : O) × (slice_get m.owns w ≡ Some o) × (p ≡ seated m (first_item w o) 0 0)
+  each_start w p at = let h = there s.seats w p at in let o = something m.owns w (let a = st.workers in omega arith) in (o.0, o.1, same_Some p _ (sym at ∙ st.seats w o.0 o.1))
+
+  -- the first n workers came to their first items
+  play_mixed : (n : ℕ) → n ≤ length m.owns → Play m [] m.values (mixed n (courses s) (map unbegun m.owns))
+  play_mixed zero h = opens
+  play_mixed (suc n) h = let o = something m.owns n (omega arith) in
+      let before = play_mixed n (omega arith) in
+      let at = mixed_rest n (courses s) (map unbegun m.owns) many ∙ get_map unbegun m.owns n o.0 o.1 in
+      let well = (first_fetch m hands programs (mixed n (courses s) (map unbegun m.owns)) before n o.0 at).1 in
+      let f = first_item n o.0 in
+      let here = get_map course_of s.seats n _ (st.seats n o.0 o.1) in
+      let same : course_of (seated m f 0 0) ≡ record { own = f.own; begun = f.begun; items = 0; advanced = 0; standing = standing_with f.item } = λ i. record { own = f.own; begun = f.begun; items = 0; advanced = 0; standing = standing_given f.item (phase_with f.item) refl i } in
+      subst (Play m [] m.values) (mixed_next n (courses s) (map unbegun m.owns) _ many (here ∙ ap Some same)) well.play
+
+  start_play : Play m [] m.values (courses s)
+  start_play = subst (Play m [] m.values) (mixed_all (courses s) (map unbegun m.owns) many) (play_mixed (length (courses s)) (let a = length_map course_of s.seats in let b = st.workers in omega arith))
+
+  fetched : (w : ℕ) (o : O) (at : slice_get m.owns w ≡ Some o)
+      → IsFetchedWell m hands programs [] m.values (map unbegun m.owns) w 0 0 o (there (map unbegun m.owns) w (unbegun o) (get_map unbegun m.owns w o at)) (first_item w o)
+  fetched w o at = (first_fetch m hands programs (map unbegun m.owns) opens w o (get_map unbegun m.owns w o at)).1
+
+  hand_start : (w : ℕ) (p : Seat O E R) → slice_get s.seats w ≡ Some p → (o : O) × (slice_get m.owns w ≡ Some o) × (m.hand p.own ≡ m.hand o)
+  hand_start w p at = let z = each_start w p at in (z.0, z.1, ap (λ (y : Seat O E R). m.hand y.own) z.2 ∙ (fetched w z.0 z.1).hand)
+
+  hands_start : map (hand_of m) s.seats ≡ map m.hand m.owns
+  hands_start = same_list (map (hand_of m) s.seats) (map m.hand m.owns) (length_map (hand_of m) s.seats ∙ (st.workers ∙ sym (length_map m.hand m.owns)))
+      (λ i h. let p = something s.seats i (let a = length_map (hand_of m) s.seats in omega arith) in let z = hand_start i p.0 p.1 in
+      get_map (hand_of m) s.seats i p.0 p.1 ∙ (ap Some z.2 ∙ sym (get_map m.hand m.owns i z.0 z.1)))
+
+  no_change : (w : ℕ) → pending s w ≡ None
+  no_change w = by (slice_get s.seats w) refl where
+    by : (o : Option (Seat O E R)) → slice_get s.seats w ≡ o → pending s w ≡ None
+    by None e = ap pending_by e
+    by (Some p) e = ap pending_by e ∙ ap (λ (y : Seat O E R). y.pending) (each_start w p e).2
+
+  no_lock : (w l : ℕ) → holds s w l ≡ false
+  no_lock w l = by (slice_get s.seats w) refl where
+    by : (o : Option (Seat O E R)) → slice_get s.seats w ≡ o → holds s w l ≡ false
+    by None e = ap (λ i. held_by i l) e
+    by (Some p) e = let z = each_start w p e in ap (λ i. held_by i l) e ∙ took_nothing (first_item w z.0).item p.phase l (ap (λ (y : Seat O E R). y.phase) z.2)
+
+  no_thread : (t w : ℕ) → m.declared t ≡ true → carried_at m (slice_get s.seats w) t ≡ false
+  no_thread t w dec = by (slice_get s.seats w) refl where
+    by : (o : Option (Seat O E R)) → slice_get s.seats w ≡ o → carried_at m (slice_get s.seats w) t ≡ false
+    by None e = ap (λ i. carried_at m i t) e
+    by (Some p) e = let z = hand_start w p e in ap (λ i. carried_at m i t) e ∙ (ap (λ h. m.carried_in h t) z.2 ∙ settled.empty t w z.0 dec z.1)
+
+  stands_start : (l t : ℕ) → stands_at m s.values l t ≡ stands_at m m.values l t
+  stands_start l t = ap (λ vs. stands_at m vs l t) st.values
+
+  thread_start : (t : ℕ) → m.declared t ≡ true → ThreadAgreesIn m s t
+  thread_start t dec = record {
+    place = under (m.word t);
+    there = stands_start (m.word t) t ∙ settled.stands t dec;
+    only_under = λ l e. ap under (sym (settled.once t l dec (sym (stands_start l t) ∙ e)));
+    only_hand = λ w e. absurd (true≢false (sym e ∙ no_thread t w dec));
+    word_agrees = inl (st.words t (settled.few t dec), λ w c e _. none-some c (sym (no_change w) ∙ e));
+    change_agrees = λ w c e _. absurd (none-some c (sym (no_change w) ∙ e));
+  }
+
+  none_advanced : (seats : List (Seat O E R)) → ((w : ℕ) (p : Seat O E R) → slice_get seats w ≡ Some p → p.advanced ≡ 0) → all_advanced (map course_of seats) ≡ 0
+  none_advanced [] each = refl
+  none_advanced (p ∷ ps) each = let a = each 0 p refl in let b = none_advanced ps (λ w q e. each (suc w) q e) in omega arith
+
+  -- the state at the start is kept
+  pub start_kept : IsKept m s
+  start_kept = record {
+    locks = locks;
+    words = words;
+    values = ap length st.values ∙ small.locks;
+    workers = st.workers;
+    numbers = λ w p e. let z = each_start w p e in ap (λ (y : Seat O E R). m.number y.own) z.2 ∙ ((fetched w z.0 z.1).number ∙ small.numbered w z.0 z.1);
+    begun = λ w p e. let z = each_start w p e in subst (λ (y : Seat O E R). y.begun ≤ length (m.orders w)) (sym z.2) (fetched w z.0 z.1).low;
+    ended = λ w p e fin. let z = each_start w p e in subst (λ (y : Seat O E R). slice_get (m.orders w) y.begun ≡ None) (sym z.2) ((fetched w z.0 z.1).ended (given_none (first_item w z.0).item p.phase (ap (λ (y : Seat O E R). y.phase) z.2) fin));
+    apart = λ w p reply now held e is. absurd (let z = each_start w p e in given_not_leaving (first_item w z.0).item p.phase reply now held (ap (λ (y : Seat O E R). y.phase) z.2) is);
+    agreement = record {
+      locks = λ l. record { named = λ w h. absurd (true≢false (sym h ∙ no_lock w l)); held = λ w e. absurd (none-some w (sym (st.locks l) ∙ e)) };
+      threads = thread_start;
+      changes = λ w p e c is. absurd (none-some c (sym (no_change w) ∙ (ap pending_by e ∙ is)));
+      ways = λ w p e on at is. let z = each_start w p at in subst (HasWhatItNeeds m s e) (sym (given_open (first_item w z.0).item p.phase e on (ap (λ (y : Seat O E R). y.phase) z.2) is)) tt;
+      times = λ w p e held now at is. absurd (let z = each_start w p at in open_not_timed held now (sym (given_open (first_item w z.0).item p.phase e (progress.Timed held now) (ap (λ (y : Seat O E R). y.phase) z.2) is)));
+      past = λ j x e. absurd (none-some x (ap (λ h. slice_get h j) (sym st.history) ∙ e));
+      now = let a = none_advanced s.seats (λ w p e. ap (λ (y : Seat O E R). y.advanced) (each_start w p e).2) in let b = st.now in omega arith;
+      finished = λ w p e fin. record {
+        free = λ l is. none-some w (sym (st.locks l) ∙ is);
+        calm = ap (λ (y : Seat O E R). y.pending) (each_start w p e).2;
+        empty = λ t dec. let z = hand_start w p e in ap (λ h. m.carried_in h t) z.2 ∙ settled.empty t w z.0 dec z.1;
+      };
+      ticket = st.ticket ∙ sym (ap length st.history);
+      history = subst (λ h. Leads m (start_of m) h (world m s)) (sym st.history) (λ i. record { values = st.values i; hands = hands_start i });
+    };
+    play = subst (λ h. Play m h s.values (courses s)) (sym st.history) (subst (λ vs. Play m [] vs (courses s)) (sym st.values) start_play);
+  }
+
+-- a push that was no error added what was pushed
+pub pushed : {X T U : Type 0} (r : Result T U) (e : Bool) (items more less : List X) → e ≡ is_err r → e ≡ false → items ≡ (if is_ok r then more else less) → items ≡ more
+pushed (Ok x) e items more less is none same = same
+pushed (Err x) e items more less is none same = absurd (true≢false (sym is ∙ none))
+
+module _ {H O G E R C : Type 0} (m : Means H O G E R C) where
+  -- one more worker
+  pub more_seats : (n : ℕ) (seats seats' : List (Seat O E R)) (p : Seat O E R) → AreFirstSeats m n seats → IsFirstSeat m n p → seats' ≡ seats ++ p ∷ []
+      → AreFirstSeats m (n + 1) seats'
+  more_seats n seats seats' p old new is = (
+    (let a : length seats' ≡ length (seats ++ p ∷ []) = ap length is in let b = length-append seats (p ∷ []) in let c = old.0 in omega arith),
+    λ w q at. dite (ℕ_discrete w n)
+        (λ z. let same : p ≡ q = same_Some p q (sym (snoc_last seats p w (z ∙ sym old.0)) ∙ (ap (λ l. slice_get l w) (sym is) ∙ at)) in subst (λ (y : Seat O E R). IsFirstSeat m w y) same (subst (λ i. IsFirstSeat m i p) (sym z) new))
+        (λ far. let h : w < length seats' = there seats' w q at in let a : length seats' ≡ length (seats ++ p ∷ []) = ap length is in let b = length-append seats (p ∷ []) in let c = old.0 in
+        old.1 w q (sym (snoc_get seats p w (omega arith)) ∙ (ap (λ l. slice_get l w) (sym is) ∙ at))),
+  )
+
+  module _ (n : ℕ) (locks : List (Option ℕ)) (words : List Word) (values : List G) (seats : List (Seat O E R)) (history : List (Entry E R)) (small : StartsSmall m) (many : n ≡ length m.owns)
+      (free : AreFree 25 locks) (first_words : AreFirstWords m 256 words) (first_values : AreFirstValues m 25 values) (first_seats : AreFirstSeats m n seats) (none : history ≡ []) where
+    -- opening state: the state of these parts
+    abbrev pub opening_state : State O G E R
+    opening_state = record { locks = locks; words = words; ticket = 0; now = 20000; values = values; seats = seats; history = history }
+
+    -- these parts are a start
+    pub opening_start : IsStart m opening_state
+    opening_start = record {
+      locks = free.1;
+      words = λ t h. index_get words t (Lock 24) (Lock (m.word t)) (first_words.1 t h);
+      ticket = refl;
+      now = refl;
+      values = same_list values m.values (first_values.0 ∙ sym small.locks) (λ i h. first_values.1 i (let a = first_values.0 in omega arith));
+      history = none;
+      workers = first_seats.0 ∙ many;
+      seats = λ w o at. let h = there m.owns w o at in let p = something seats w (let a = first_seats.0 in omega arith) in let z = first_seats.1 w p.0 p.1 in
+          let same : z.0 ≡ o = same_Some z.0 o (sym z.1 ∙ at) in p.1 ∙ ap Some (z.2 ∙ ap (λ i. seated m (next_command m i 0 (m.orders w)) 0 0) same);
+    }
+
+    -- the state of these parts is kept
+    pub opening_kept : StartsSettled m → KeepsHands m → KeepsPrograms m → IsKept m opening_state
+    opening_kept settled hands programs = start_kept m small settled hands programs opening_state opening_start free.0 first_words.0

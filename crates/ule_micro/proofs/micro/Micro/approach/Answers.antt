@@ -1,0 +1,23 @@
+use Rattle.ule_micro.proofs.Refines.{takes_named, takes_second, frees_stale, at_way}
+use Rattle.ule_micro.proofs.micro.Micro.approach.Goals as goal
+
+pub open_event-requires : goal.open_event-requires
+open_event-requires g c = (at_way c.args.self.now.state c.args.worker c.args.e _ _ c.in-Open.is c.requires)
+
+pub take-requires : goal.take-requires
+take-requires g c = takes_named g.P.Parts.means c.args.self.now.parts c.args.self.now.state c.args.worker c.args.e c.in-Named.t c.in-Named.l (at_way c.args.self.now.state c.args.worker c.args.e _ _ c.in-Named.is c.requires)
+
+pub second_read-requires : goal.second_read-requires
+second_read-requires g c = (at_way c.args.self.now.state c.args.worker c.args.e _ _ c.in-Taken.is c.requires)
+
+pub release-requires : goal.release-requires
+release-requires g c = frees_stale g.P.Parts.means c.args.self.now.parts c.args.self.now.state c.args.worker c.args.e c.in-Stale.l (at_way c.args.self.now.state c.args.worker c.args.e _ _ c.in-Stale.is c.requires)
+
+pub take-requires-in-Half : goal.take-requires-in-Half
+take-requires-in-Half g c = takes_second g.P.Parts.means c.args.self.now.parts c.args.self.now.state c.args.worker c.args.e c.in-Half.a c.in-Half.b (at_way c.args.self.now.state c.args.worker c.args.e _ _ c.in-Half.is c.requires)
+
+pub read_now-requires : goal.read_now-requires
+read_now-requires g c = (at_way c.args.self.now.state c.args.worker c.args.e _ _ c.in-Locked.is c.requires)
+
+pub commit-requires : goal.commit-requires
+commit-requires g c = (at_way c.args.self.now.state c.args.worker c.args.e _ _ c.in-Timed.is c.requires)

@@ -1,0 +1,12 @@
+pub mod Means
+pub mod Histories
+pub mod Courses
+pub mod Laws
+pub mod Agreement
+pub mod States
+pub mod Turns
+pub mod Performing
+pub mod Programs
+pub mod Theorem
+pub mod Opening
+pub mod Kept

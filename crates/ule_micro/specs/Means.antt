@@ -1,0 +1,76 @@
+-- What the parts of a scheduler mean: the values under its locks, its workers' own parts, its events and its programs.
+use Rattle.std.specs.Prelude.{ℕ, zero, suc, ◌+◌, Bool, false, List, Option, Some, None, slice_get}
+use Rattle.ule_micro.specs.declared.entry.HeldLocks.{HeldLocks}
+use Rattle.ule_micro.specs.declared.entry.HeldLocks.TheVariants.{One, Two}
+use Rattle.ule_micro.specs.declared.todo.Todo.{Todo}
+use Rattle.ule_micro.specs.declared.word.WordChange.{WordChange}
+use Rattle.ule_micro.specs.declared.word.WordChange.TheVariants.{Block, Point}
+
+-- needs: what has to be held before an event is performed, which is one lock, two locks, or the lock of the place where a thread stands
+pub data Needs : Type 0 where
+  one : ℕ → Needs
+  both : ℕ → ℕ → Needs
+  lock_of : ℕ → Needs
+
+-- sought by: the thread that a seeking event seeks
+abbrev pub sought_by : Needs → Option ℕ
+sought_by (one a) = None
+sought_by (both a b) = None
+sought_by (lock_of t) = Some t
+
+-- fixed by: the rising locks of an event that doesn't seek
+abbrev pub fixed_by : Needs → Option HeldLocks
+fixed_by (one a) = Some (One a)
+fixed_by (both a b) = Some (Two a b)
+fixed_by (lock_of t) = None
+
+-- thread of: the thread whose word a change is about
+abbrev pub thread_of : WordChange → ℕ
+thread_of (Block t) = t
+thread_of (Point t l) = t
+
+-- means: all that the step model knows of a scheduler, where H is a hand, O a worker's own part, G the value under a lock, E an event, R a reply and C a command
+pub record Means (H O G E R C : Type 0) : Type 1 where
+  -- the threads that there are
+  pub declared : ℕ → Bool
+  -- whether a thread stands under the lock of this value, and whether a hand has it
+  pub stands_in : G → ℕ → Bool
+  pub carried_in : H → ℕ → Bool
+  -- the start: the value under each lock, each worker's own part, the lock that each thread's word names
+  pub values : List G
+  pub owns : List O
+  pub word : ℕ → ℕ
+  -- the greatest number of items of each worker, and its list of commands
+  pub budget : ℕ → ℕ
+  pub orders : ℕ → List C
+  -- an own part: the number of its worker, its hand, and the same part with another hand
+  pub number : O → ℕ
+  pub hand : O → H
+  pub with_hand : O → H → O
+  -- an event: what it needs, whether it fits its worker's hand and the values under its locks, and whether it may be performed at this time
+  pub needs : E → Needs
+  pub fits : ℕ → E → H → List G → Type 0
+  pub may : ℕ → E → ℕ → H → List G → Type 0
+  -- the step of an event of a worker at a time, on the hand and the value under its lock, or under both its locks
+  pub step : ℕ → E → ℕ → H → G → H × G × R
+  pub pair : ℕ → E → ℕ → H → G → G → H × G × G × R
+  pub change : E → R → Option WordChange
+  -- a program: whether a command may begin, what beginning it leaves, whether the next item may be asked for, and what it is and leaves
+  pub begins : O → C → Type 0
+  pub begin : O → C → O
+  pub goes_on : O → Option (R × ℕ) → Type 0
+  pub next : O → Option (R × ℕ) → Option (Todo E) × O
+
+-- budgets: the budgets of n workers together
+abbrev pub budgets : (ℕ → ℕ) → ℕ → ℕ
+budgets b zero = 0
+budgets b (suc n) = budgets b n + b n
+
+module _ {H O G E R C : Type 0} (m : Means H O G E R C) where
+  -- stands at: whether a thread stands under a lock, where these are the values under all locks
+  abbrev pub stands_at : List G → ℕ → ℕ → Bool
+  stands_at values l t = elim (slice_get values l) as (λ _. Bool) [ None ↦ false | Some v ↦ m.stands_in v t ]
+
+  -- carried by: whether a worker has a thread in hand, where these are the hands of all workers
+  abbrev pub carried_by : List H → ℕ → ℕ → Bool
+  carried_by hands w t = elim (slice_get hands w) as (λ _. Bool) [ None ↦ false | Some h ↦ m.carried_in h t ]

@@ -1,0 +1,5 @@
+pub mod Nap
+pub mod NapLaws
+pub mod NapPlays
+pub mod Shift
+pub mod ShiftLaws

@@ -1,0 +1,206 @@
+//! One thread and two queues: an event under both locks moves the thread from one queue to the
+//! other, and another event seeks it.
+ghost use Rattle.std.specs.Prelude.{◌≡◌};
+ghost use Rattle.ule_micro_rows.specs.Shift.{item_at, looker};
+ghost use Rattle.ule_micro_rows.specs.declared.shift.Point.TheVariants.{Over};
+
+use std::alloc::Global;
+use ule_io::Memory;
+use ule_micro::entry::HeldLocks;
+use ule_micro::{OwnPart, Parts, Todo, WordChange};
+use ule_prio::{LockId, ThreadId};
+
+/// An event.
+#[derive(Clone, Copy, Debug, PartialEq, Eq)]
+pub enum Move {
+    /// Moves the thread from the queue where it stands to the other.
+    Shift,
+    /// Seeks the thread, and changes nothing.
+    Look,
+}
+
+/// What an event answered.
+#[derive(Clone, Copy, Debug, PartialEq, Eq)]
+pub enum Place {
+    /// The thread went to the first queue.
+    First,
+    /// The thread went to the second queue.
+    Second,
+    /// Nothing changed.
+    Same,
+}
+
+/// The point at which a worker's command waits.
+#[derive(Clone, Copy, Debug, PartialEq, Eq)]
+pub enum Point {
+    /// It has no further item.
+    Over,
+    /// It was begun, and its event is next.
+    Ready(Move),
+}
+
+/// A worker's own part. Its hand is always empty.
+#[derive(Clone, Copy, Debug, PartialEq, Eq)]
+pub struct Mover {
+    /// The worker.
+    pub number: u8,
+    /// Where its command stands.
+    pub point: Point,
+    /// Whether it has the thread in hand.
+    pub hand: bool,
+}
+
+/// Two workers: worker 0 shifts the thread three times, and worker 1 looks at it and shifts it
+/// once.
+#[derive(Drop)]
+pub struct Shifts;
+
+impl OwnPart for Mover {
+    type Hand = bool;
+
+    type Value = bool;
+
+    type Event = Move;
+
+    type Reply = Place;
+
+    type Order = Move;
+
+    ghost hand = { λ own. own.hand };
+}
+
+impl Parts for Shifts {
+    type Hand = bool;
+
+    type Value = bool;
+
+    type Event = Move;
+
+    type Reply = Place;
+
+    type Order = Move;
+
+    type Own = Mover;
+
+    ghost use Rattle.ule_micro_rows.specs.Shift.{means};
+    ghost use Rattle.ule_micro_rows.specs.ShiftLaws.{same_hand, starts_small, starts_settled, moves_little, keeps_hands, keeps_programs, readies};
+
+    ghost means = { λ _. means };
+
+    fn workers(&self) -> u8 {
+        2
+    }
+
+    fn budget(&self, worker: u8) -> u32 {
+        if worker == 0 { 3 } else { 2 }
+    }
+
+    fn opening(&self, _alloc: Global, l: LockId) -> Result<bool, Memory> {
+        Ok(l.0 == 0)
+    }
+
+    fn own_at_start(&self, worker: u8) -> Mover {
+        Mover {
+            number: worker,
+            point: Point::Over,
+            hand: false,
+        }
+    }
+
+    fn word_at_start(&self, _t: ThreadId) -> LockId {
+        LockId(0)
+    }
+
+    fn order(&self, worker: u8, k: u32) -> Option<Move> {
+        if worker == 0 {
+            return match k {
+                1 => Some(Move::Shift),
+                2 => Some(Move::Shift),
+                3 => Some(Move::Shift),
+                _ => None,
+            };
+        }
+        match k {
+            1 => Some(Move::Look),
+            2 => Some(Move::Shift),
+            _ => None,
+        }
+    }
+
+    fn begin(&self, own: &mut Mover, c: &Move) {
+        own.point = Point::Ready(*c);
+    }
+
+    fn next(&self, own: &mut Mover, _last: Option<(Place, u64)>) -> Option<Todo<Move>>
+        ensures item { result ≡ item_at own.old.point }
+        ensures own { own.new ≡ looker own.old.number Over own.old.hand }
+    {
+        let point = own.point;
+        own.point = Point::Over;
+        match point {
+            Point::Over => None,
+            Point::Ready(e) => Some(Todo::Event(e)),
+        }
+    }
+
+    fn sought(&self, e: &Move) -> Option<ThreadId> {
+        match e {
+            Move::Look => Some(ThreadId(0)),
+            Move::Shift => None,
+        }
+    }
+
+    fn fixed(&self, e: &Move) -> Option<HeldLocks> {
+        match e {
+            Move::Look => None,
+            Move::Shift => Some(HeldLocks::Two(LockId(0), LockId(1))),
+        }
+    }
+
+    fn step(&self, _own: &mut Mover, _value: &mut bool, _e: &Move, _now: u64) -> Place {
+        Place::Same
+    }
+
+    fn step_pair(
+        &self,
+        _own: &mut Mover,
+        first: &mut bool,
+        second: &mut bool,
+        _e: &Move,
+        _now: u64,
+    ) -> Place {
+        if *first {
+            *first = false;
+            *second = true;
+            return Place::Second;
+        }
+        if *second {
+            *first = true;
+            *second = false;
+            return Place::First;
+        }
+        Place::Same
+    }
+
+    fn change(&self, _e: &Move, r: &Place) -> Option<WordChange> {
+        match r {
+            Place::First => Some(WordChange::Point(ThreadId(0), LockId(0))),
+            Place::Second => Some(WordChange::Point(ThreadId(0), LockId(1))),
+            Place::Same => None,
+        }
+    }
+
+    ghost same_hand = { λ _. same_hand };
+
+    ghost starts_small = { λ _. starts_small };
+
+    ghost starts_settled = { λ _. starts_settled };
+
+    ghost moves_little = { λ _. moves_little };
+
+    ghost keeps_hands = { λ _. keeps_hands };
+
+    ghost keeps_programs = { λ _. keeps_programs };
+
+    ghost readies = { λ _. readies };
+}
