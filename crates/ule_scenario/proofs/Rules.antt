@@ -27,9 +27,9 @@ all_weaker p q each (x ∷ xs) all =
     let parts = and_parts (p x) (list_all p xs) all in
     and_from (q x) (list_all q xs) (each x parts.0) (all_weaker p q each xs parts.1)
 
--- each at the front passes
-pub all_front : {A : Type 0} (p : A → Bool) (n : ℕ) (xs : List A) → list_all p xs ≡ true → list_all p (take n xs) ≡ true
-all_front p n xs all =
+-- where all of a list pass, all of its first n pass
+pub list_all-take : {A : Type 0} (p : A → Bool) (n : ℕ) (xs : List A) → list_all p xs ≡ true → list_all p (take n xs) ≡ true
+list_all-take p n xs all =
     (and_parts (list_all p (take n xs)) (list_all p (drop n xs)) (sym (list_all-append p (take n xs) (drop n xs)) ∙ ap (list_all p) (take-append-drop n xs) ∙ all)).0
 
 all_empty : {A : Type 0} (p : List A → Bool) (n : ℕ) → p [] ≡ true → list_all p (replicate n []) ≡ true
@@ -178,7 +178,7 @@ parts_of_rules settings cpus groups threads scripts turns kept =
 -- valid commands so far, of which each thread is in range
 pub spellable_front : (cpus : ℕ) (threads : List ThreadSpec) (scripts : List (List Command)) → list_all is_in_range threads ≡ true → list_all (list_all is_built) scripts ≡ true → list_all (list_all (is_command (ids_of threads) cpus)) scripts ≡ true → list_all (list_all (is_spellable (ids_of threads) cpus)) (take cpus scripts) ≡ true
 spellable_front cpus threads scripts range built valid =
-    all_front (list_all (is_spellable (ids_of threads) cpus)) cpus scripts
+    list_all-take (list_all (is_spellable (ids_of threads) cpus)) cpus scripts
     (both (list_all is_built) (list_all (is_command (ids_of threads) cpus)) (list_all (is_spellable (ids_of threads) cpus))
     (both is_built (is_command (ids_of threads) cpus) (is_spellable (ids_of threads) cpus)
     (λ c b v. command_from (ids_of threads) cpus c b v (range_from_ids threads cpus c range v)))
