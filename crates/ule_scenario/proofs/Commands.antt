@@ -1,11 +1,11 @@
 -- The lines of commands tell them.
-use Rattle.std.proofs.Common.{◌≡◌, ◌≢◌, ℕ, ◌+◌, ◌*◌, ◌<◌, ◌≤◌, ◌==◌, Bool, true, false, ◌&&◌, IsTrue, List, [], ◌∷◌, ◌++◌, map, refl, sym, ap, ◌∙◌, arith, get_or, ltb, ℤ}
+use Rattle.std.proofs.Common.{◌≡◌, ◌≢◌, ℕ, ◌<◌, ◌≤◌, ◌==◌, true, ◌&&◌, IsTrue, List, [], ◌∷◌, refl, sym, ap, ◌∙◌, arith, get_or, ltb, ℤ}
 use Rattle.std.specs.Prelude.{if◌then◌else◌}
 use Rattle.std.specs.Fmt.{decimal, signed_decimal}
 use Rattle.std.specs.List.{list_all}
 use Rattle.ule_prio.specs.Class.{is_within}
 use Rattle.std.specs.Str.Parse.{digits_value}
-use Rattle.std.proofs.lemmas.Bool.{and_from, and_parts, leb-true, ltb-true, le-leb, lt-ltb, eqb-true, or_cases, false≢true}
+use Rattle.std.proofs.lemmas.Bool.{and_from, and_parts, ltb-true, eqb-true, or_cases, false≢true}
 use Rattle.std.proofs.Common.{⊎_elim}
 use Rattle.ule_types.specs.Commands.{is_among, is_nice, is_command, forked_by}
 use Rattle.ule_types.specs.Form.{is_built_for}
@@ -25,6 +25,7 @@ pub record IsSpellable (declared : Declared) (cpus : ℕ) (c : Command) : Type 0
   pub valid : IsTrue (is_command (ids_of declared) cpus c)
   pub built : IsTrue (is_built_for cpus c)
 
+-- a command that a line can give passes its tests
 pub command_parts : (declared : Declared) (cpus : ℕ) (c : Command) → is_spellable declared cpus c ≡ true → IsSpellable declared cpus c
 command_parts declared cpus c good =
     let range = names_in_range c in
@@ -35,6 +36,7 @@ command_parts declared cpus c good =
     let first = and_parts range forks second.0 in
     record { range = first.0; forks = first.1; valid = second.1; built = third.1 }
 
+-- a command that passes the tests can be given by a line
 pub command_from : (declared : Declared) (cpus : ℕ) (c : Command) → IsSpellable declared cpus c → is_spellable declared cpus c ≡ true
 command_from declared cpus c parts =
     let range = names_in_range c in
@@ -84,6 +86,7 @@ command_by m a b =
     (if m == 900 then Fork (digits_value 10 a) else
     (if m == 836 then Exit else Idle))))))))))
 
+-- the command that a line tells
 abbrev told : Line → Command
 told line = command_by (mark (get_or line 0 [])) (get_or line 1 []) (get_or line 2 [])
 
@@ -124,13 +127,15 @@ no_command declared cpus line none c good e =
     let same : Idle ≡ c = sym none ∙ ap told e ∙ told_by_line declared cpus c (command_parts declared cpus c good) in
     false≢true (command_parts declared cpus Idle (ap (is_spellable declared cpus) same ∙ good)).built
 
+-- the line that begins a script gives no command
 pub script_line_apart : (declared : Declared) (cpus worker : ℕ) (c : Command) → is_spellable declared cpus c ≡ true → script_line worker ≢ command_line c
 script_line_apart declared cpus worker = no_command declared cpus (script_line worker) refl
 
+-- the last line gives no command
 pub end_line_apart : (declared : Declared) (cpus : ℕ) (c : Command) → is_spellable declared cpus c ≡ true → end_line ≢ command_line c
 end_line_apart declared cpus = no_command declared cpus end_line refl
 
--- what a line is not that gives none of the commands
+-- a line gives none of the commands that can be given so far
 pub record GivesNoCommand (declared : Declared) (cpus : ℕ) (line : Line) : Type 0 where
   pub tick : line ≢ command_line Tick
   pub time : (k : ℕ) → 1 ≤ k → k ≤ 1000000 → line ≢ command_line (Time k)
@@ -144,6 +149,7 @@ pub record GivesNoCommand (declared : Declared) (cpus : ℕ) (line : Line) : Typ
   pub fork : (t : ℕ) → IsTrue (is_spellable declared cpus (Fork t)) → line ≢ command_line (Fork t)
   pub exit : cpus < 2 → line ≢ command_line Exit
 
+-- a line that gives none of these gives no command
 pub none_given : (declared : Declared) (cpus : ℕ) (line : Line) → GivesNoCommand declared cpus line → (c : Command) → IsTrue (is_spellable declared cpus c) → line ≢ command_line c
 none_given declared cpus line none Tick good = none.tick
 none_given declared cpus line none (Time k) good =

@@ -1,5 +1,5 @@
 -- The lines of declarations tell them.
-use Rattle.std.proofs.Common.{◌≡◌, ◌≢◌, ℕ, ◌+◌, ◌*◌, ◌^◌, ◌<◌, ◌≤◌, ◌==◌, Bool, true, false, ◌&&◌, ◌||◌, IsTrue, List, [], ◌∷◌, ◌++◌, length, refl, sym, ap, ◌∙◌, arith, ltb, get_or}
+use Rattle.std.proofs.Common.{◌≡◌, ◌≢◌, ℕ, ◌+◌, ◌*◌, ◌^◌, ◌<◌, ◌≤◌, ◌==◌, Bool, true, false, ◌&&◌, IsTrue, [], ◌∷◌, ◌++◌, length, refl, sym, ap, ◌∙◌, arith, ltb, get_or}
 use Rattle.std.specs.Prelude.{codes, if◌then◌else◌, nat_le}
 use Rattle.std.specs.Fmt.{decimal, signed_decimal}
 use Rattle.std.specs.Str.Parse.{digits_value}
@@ -11,7 +11,7 @@ use Rattle.ule_types.specs.declared.setup.Form.{Form}
 use Rattle.ule_types.specs.declared.setup.Form.TheVariants.{Ts, Ithd, Rt, Fifo, Idle}
 use Rattle.ule_types.specs.declared.setup.ThreadSpec.{ThreadSpec}
 use Rattle.ule_scenario.specs.Cut.{Word, Line}
-use Rattle.ule_scenario.specs.Scenario.{thread_line, declaration_line, script_line, end_line, form_words, bound_words}
+use Rattle.ule_scenario.specs.Scenario.{declaration_line, script_line, end_line, form_words, bound_words}
 use Rattle.ule_scenario.specs.Sections.{is_in_range, is_thread, is_declaration}
 use Rattle.ule_scenario.specs.declared.declaration.Declaration.{Declaration}
 use Rattle.ule_scenario.specs.declared.declaration.Declaration.TheVariants.{Queued, Unborn}
@@ -32,6 +32,7 @@ pub record IsThread (cpus : ℕ) (spec : ThreadSpec) : Type 0 where
   pub cpu : spec.cpu < cpus
   pub kept : IsTrue (is_spec cpus spec)
 
+-- a thread that a line can declare passes its tests
 pub thread_parts : (cpus : ℕ) (spec : ThreadSpec) → is_thread cpus spec ≡ true → IsThread cpus spec
 thread_parts cpus spec good =
     let outer = and_parts (is_bound_for cpus spec && is_in_range spec) (is_spec cpus spec) good in
@@ -39,16 +40,19 @@ thread_parts cpus spec good =
     let kept = and_parts (is_form spec.form) (ltb spec.cpu cpus) outer.1 in
     record { bound = inner.0; id = ltb-true spec.id 256 inner.1; form = kept.0; cpu = ltb-true spec.cpu cpus kept.1; kept = outer.1 }
 
--- the priority of a form is a byte
+-- the priority of an interrupt thread is a byte
 pub ithd_byte : (p : ℕ) → IsTrue (is_form (Ithd p)) → p < 256
 ithd_byte p good = omega (arith, within_parts 0 47 p good)
 
+-- the priority of a realtime thread is a byte
 pub rt_byte : (p : ℕ) → IsTrue (is_form (Rt p)) → p < 256
 rt_byte p good = omega (arith, within_parts 48 79 p good)
 
+-- the priority of a realtime thread without slices is a byte
 pub fifo_byte : (p : ℕ) → IsTrue (is_form (Fifo p)) → p < 256
 fifo_byte p good = omega (arith, within_parts 48 79 p good)
 
+-- the priority of an idle thread is a byte
 pub idle_byte : (p : ℕ) → IsTrue (is_form (Idle p)) → p < 256
 idle_byte p good = ltb-true p 256 (and_parts (nat_le 224 p) (ltb p 256) good).1
 
@@ -75,13 +79,16 @@ told_declaration line =
       bound = ltb 5 (length line);
     })
 
+-- a line of six words is that of a bound thread
 told_bound : (a b c d e : Word) (bound : Bool) → ltb 5 (length (a ∷ b ∷ c ∷ d ∷ e ∷ bound_words bound)) ≡ bound
 told_bound a b c d e true = refl
 told_bound a b c d e false = refl
 
+-- the declaration of a thread, by its numbers
 abbrev queued : ℕ → Form → ℕ → Bool → Declaration
 queued id form cpu bound = Queued (record { id = id; form = form; cpu = cpu; bound = bound })
 
+-- declarations with the same numbers are the same
 same_queued : {i i' : ℕ} {f f' : Form} {c c' : ℕ} {b b' : Bool} → i ≡ i' → f ≡ f' → c ≡ c' → b ≡ b' → queued i f c b ≡ queued i' f' c' b'
 same_queued p q r s = rw (p, q, r, s) refl
 

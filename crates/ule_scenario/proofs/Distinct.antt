@@ -1,6 +1,6 @@
 -- Numbers of which no two are the same.
-use Rattle.std.proofs.Common.{◌≡◌, ℕ, ◌+◌, ◌≤◌, ◌<◌, ◌==◌, Bool, true, false, ◌&&◌, ◌||◌, not, cond, IsTrue, List, [], ◌∷◌, ◌++◌, map, refl, sym, ap, ◌∙◌, arith, ⊎_elim}
-use Rattle.std.specs.List.{list_any, flat_map}
+use Rattle.std.proofs.Common.{◌≡◌, ℕ, ◌+◌, ◌≤◌, ◌==◌, Bool, true, false, ◌||◌, not, cond, List, [], ◌∷◌, ◌++◌, map, refl, sym, ap, ◌∙◌, arith, ⊎_elim}
+use Rattle.std.specs.List.{list_any}
 use Rattle.std.proofs.lemmas.Bool.{and_from, and_parts, not-true, eqb-true, eq-eqb, false≢true, or_cases, or_parts}
 use Rattle.std.proofs.lemmas.Grind.{flat_map-append}
 use Rattle.std.proofs.lemmas.List.{map-append}
@@ -19,6 +19,7 @@ abbrev pub times : ℕ → List ℕ → ℕ
 times x [] = 0
 times x (y ∷ ys) = cond (y == x) 1 0 + times x ys
 
+-- how often a number stands in two lists
 times-append : (x : ℕ) (xs ys : List ℕ) → times x (xs ++ ys) ≡ times x xs + times x ys
 times-append x [] ys = omega arith
 times-append x (z ∷ xs) ys = omega (arith, times-append x xs ys)
@@ -117,6 +118,7 @@ declared_push ds d = sym (declared_by-append ds (d ∷ []) ∙ single d)
     single (Queued spec) = refl
     single (Unborn t) = refl
 
+-- how often a number is declared in two parts
 times_both : (x : ℕ) (a b : Declared) → times x (ids_of (both a b)) ≡ times x (ids_of a) + times x (ids_of b)
 times_both x a b =
     let id : ThreadSpec → ℕ = λ spec. spec.id in
@@ -136,7 +138,8 @@ times_more x declared (Queued spec) = times_both x declared (record { threads = 
 times_more x declared (Unborn t) = times_both x declared (record { threads = []; unborn = t ∷ [] })
 
 -- one declaration more, of another number
-pub distinct_more : (declared : Declared) (d : Declaration) → is_distinct (ids_of declared) ≡ true → is_among (ids_of declared) (id_in d) ≡ false → is_distinct (ids_of (with_declaration declared d)) ≡ true
+pub distinct_more : (declared : Declared) (d : Declaration) → is_distinct (ids_of declared) ≡ true → is_among (ids_of declared) (id_in d) ≡ false
+    → is_distinct (ids_of (with_declaration declared d)) ≡ true
 distinct_more declared d all none =
     once_distinct (ids_of (with_declaration declared d)) (λ x. omega (
       arith,

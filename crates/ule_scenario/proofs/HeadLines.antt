@@ -1,7 +1,6 @@
 -- The lines of the settings and the head tell them.
-use Rattle.std.proofs.Common.{◌≡◌, ◌≢◌, ℕ, ◌^◌, ◌<◌, ◌≤◌, List, [], ◌∷◌, ◌++◌, refl, sym, ap, ◌∙◌, arith, get_or, Option, Some, None}
+use Rattle.std.proofs.Common.{◌≡◌, ◌≢◌, ℕ, ◌^◌, ◌<◌, ◌≤◌, List, ◌∷◌, ◌++◌, refl, sym, ap, ◌∙◌, arith, get_or, Option, Some, None}
 use Rattle.std.specs.Prelude.{codes}
-use Rattle.std.specs.Fmt.{decimal}
 use Rattle.std.proofs.lemmas.List.{append_assoc}
 use Rattle.ule_score.specs.declared.record.Settings.{Settings}
 use Rattle.ule_scenario.specs.Cut.{Word, Line}
@@ -21,6 +20,7 @@ record IsPast (name : Word) (lines : List Line) : Type 0 where
   is : lines ≡ first ∷ rest
   other : (n : ℕ) → first ≢ set_line name n
 
+-- lines of another setting keep them past this one
 past_other : (name other : Word) (g : Option ℕ) (lines : List Line) → name ≢ other → IsPast name lines → IsPast name (setting_lines other g ++ lines)
 past_other name other None lines apart past = past
 past_other name other (Some n) lines apart past = record { first = set_line other n; rest = lines; is = refl; other = λ m e. apart (sym (second_of_three e)) }
@@ -43,27 +43,34 @@ setting_taken : (name : Word) (low high : ℕ) (g : Option ℕ) (rest : List Lin
 setting_taken name low high None rest fits past = record { front = refl; within = fits; stops = λ n next more least most e. past.other n (first_line (sym past.is ∙ e)) }
 setting_taken name low high (Some n) rest fits past = record { front = refl; within = fits; stops = tt }
 
+-- names whose second bytes differ are two
 other_name : (a b : Word) → get_or a 1 0 ≢ get_or b 1 0 → a ≢ b
 other_name a b apart e = apart (ap (λ word. get_or word 1 0) e)
 
+-- settings that are given, one by one
 abbrev given_by : Option ℕ → Option ℕ → Option ℕ → Option ℕ → GivenSettings
 given_by i s p t = record { interact = i; slice = s; preempt = p; steal = t }
 
+-- settings that are given alike are the same
 same_given : {i i' s s' p p' t t' : Option ℕ} → i ≡ i' → s ≡ s' → p ≡ p' → t ≡ t' → given_by i s p t ≡ given_by i' s' p' t'
 same_given a b c d = rw (a, b, c, d) refl
 
 -- lines of settings before a line that gives none
 module _ (g : GivenSettings) (next : Line) (more : List Line) (none : IsNoSetting next) where
+  -- lines from it on are past each setting
   past_end : (name : Word) → IsPast name (next ∷ more)
   past_end name = record { first = next; rest = more; is = refl; other = none name }
 
+  -- the line of the last setting is past each other one
   past_preempt : (name : Word) → get_or name 1 0 ≢ 116 → IsPast name (after_preempt g (next ∷ more))
   past_preempt name steal = past_other name (codes "steal") g.steal (next ∷ more) (other_name name (codes "steal") steal) (past_end name)
 
+  -- the lines of the last two settings are past the first two
   past_slice : (name : Word) → get_or name 1 0 ≢ 116 → get_or name 1 0 ≢ 114 → IsPast name (after_slice g (next ∷ more))
   past_slice name steal preempt =
       past_other name (codes "preempt") g.preempt (after_preempt g (next ∷ more)) (other_name name (codes "preempt") preempt) (past_preempt name steal)
 
+  -- the lines of the last three settings are past the first
   past_interact : (name : Word) → get_or name 1 0 ≢ 116 → get_or name 1 0 ≢ 114 → get_or name 1 0 ≢ 108 → IsPast name (after_interact g (next ∷ more))
   past_interact name steal preempt slice =
       past_other name (codes "slice") g.slice (after_slice g (next ∷ more)) (other_name name (codes "slice") slice) (past_slice name steal preempt)
@@ -96,13 +103,15 @@ module _ (g : GivenSettings) (next : Line) (more : List Line) (none : IsNoSettin
       let t = setting_apart (codes "steal") 1 64 takes.fourth h.steal g.steal x (next ∷ more) (omega arith) takes.steal fits.steal (past_end (codes "steal")) p.1 in
       (same_given i.0 s.0 p.0 t.0, t.1)
 
+-- the jitter line gives no setting
 jitter_is_no_setting : (jitter : ℕ) → IsNoSetting (jitter_line jitter)
 jitter_is_no_setting jitter name n e =
     let words : codes "jitter" ≡ codes "set" = first_word e in
     omega (arith, ap (λ w. get_or w 0 0) words)
 
 -- the lines after the settings of a head
-pub after_settings : (lines after : List Line) (s : Settings) (x : List Line) → lines ≡ header_line ∷ after → (takes : TakesSettings after s x) → (g : GivenSettings) (jitter cpus : ℕ) (rest : List Line) → AreGiven g
+pub after_settings : (lines after : List Line) (s : Settings) (x : List Line) → lines ≡ header_line ∷ after → (takes : TakesSettings after s x)
+    → (g : GivenSettings) (jitter cpus : ℕ) (rest : List Line) → AreGiven g
     → lines ≡ head_lines g jitter cpus rest → (takes.given ≡ g) × (x ≡ jitter_line jitter ∷ cpus_line cpus ∷ rest)
 after_settings lines after s x header takes g jitter cpus rest fits e =
     settings_apart g (jitter_line jitter) (cpus_line cpus ∷ rest) (jitter_is_no_setting jitter) after s x takes fits (other_lines (sym header ∙ e))
@@ -149,7 +158,7 @@ taken_front lines s rest takes =
     ∙ ap (λ ls. setting_lines (codes "slice") g.slice ++ ls) (takes.preempt.front
     ∙ ap (λ ls. setting_lines (codes "preempt") g.preempt ++ ls) takes.steal.front))
 
--- and are in their ranges
+-- settings that were taken are in their ranges
 pub taken_within : (lines : List Line) (s : Settings) (rest : List Line) (takes : TakesSettings lines s rest) → AreGiven takes.given
 taken_within lines s rest takes = record {
   interact = takes.interact.within;

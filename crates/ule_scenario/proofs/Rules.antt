@@ -1,5 +1,5 @@
 -- A setup of the form so far keeps every rule, and what the rules say of one.
-use Rattle.std.proofs.Common.{◌≡◌, ℕ, zero, suc, ◌+◌, ◌-◌, ◌^◌, ◌<◌, ◌≤◌, ◌==◌, Bool, true, false, ◌&&◌, ◌||◌, IsTrue, Option, Some, None, List, [], ◌∷◌, ◌++◌, map, length, take, drop, replicate, refl, sym, ap, ◌∙◌, arith, ltb}
+use Rattle.std.proofs.Common.{◌≡◌, ℕ, zero, suc, ◌+◌, ◌-◌, ◌^◌, ◌<◌, ◌≤◌, ◌==◌, Bool, true, false, ◌&&◌, ◌||◌, Option, Some, None, List, [], ◌∷◌, ◌++◌, map, length, take, drop, replicate, refl, sym, ap, ◌∙◌, arith, ltb}
 use Rattle.std.specs.Prelude.{nat_le, count_by, unwrap_or}
 use Rattle.std.specs.List.{list_all, flat_map}
 use Rattle.std.proofs.lemmas.Bool.{and_from, and_parts, le-leb, leb-true, lt-ltb, ltb-true, ltb-false, eqb-true}
@@ -11,7 +11,7 @@ use Rattle.ule_prio.specs.Class.{is_within}
 use Rattle.ule_score.specs.declared.record.Settings.{Settings}
 use Rattle.ule_types.specs.Form.{is_bound_for, is_built_for, is_tick, has_few_ticks}
 use Rattle.ule_types.specs.Commands.{is_among, is_command, forked_by}
-use Rattle.ule_types.specs.Rules.{are_settings, are_numbers, are_turns, is_distinct, is_spec, declared_ids, budget_from, are_scripts, keeps_rules}
+use Rattle.ule_types.specs.Rules.{are_settings, are_numbers, are_turns, is_distinct, is_spec, budget_from, are_scripts, keeps_rules}
 use Rattle.ule_types.specs.declared.command.Command.{Command}
 use Rattle.ule_types.specs.declared.setup.GroupLine.{GroupLine}
 use Rattle.ule_types.specs.declared.setup.ThreadSpec.{ThreadSpec}
@@ -20,7 +20,7 @@ use Rattle.ule_scenario.specs.Sections.{IsGivenWithin, AreGiven, is_in_range, is
 use Rattle.ule_scenario.specs.declared.declaration.Declaration.{Declaration}
 use Rattle.ule_scenario.specs.declared.declaration.Declaration.TheVariants.{Queued, Unborn}
 use Rattle.ule_scenario.specs.declared.declaration.Declared.{Declared}
-use Rattle.ule_scenario.proofs.Commands.{IsSpellable, command_parts, command_from, range_from_ids}
+use Rattle.ule_scenario.proofs.Commands.{command_parts, command_from, range_from_ids}
 use Rattle.ule_scenario.proofs.Declarations.{within_parts, thread_parts}
 use Rattle.ule_scenario.proofs.Scripts.{budget-append}
 
@@ -36,6 +36,7 @@ pub all_front : {A : Type 0} (p : A → Bool) (n : ℕ) (xs : List A) → list_a
 all_front p n xs all =
     (and_parts (list_all p (take n xs)) (list_all p (drop n xs)) (sym (list_all-append p (take n xs) (drop n xs)) ∙ ap (list_all p) (take-append-drop n xs) ∙ all)).0
 
+-- empty lists pass a test that the empty list passes
 all_empty : {A : Type 0} (p : List A → Bool) (n : ℕ) → p [] ≡ true → list_all p (replicate n []) ≡ true
 all_empty p zero good = refl
 all_empty p (suc n) good = and_from (p []) (list_all p (replicate n [])) good (all_empty p n good)
@@ -46,6 +47,7 @@ all_scripts p n m scripts good others all =
     sym (ap (list_all p) (take-append-drop n scripts)) ∙ list_all-append p (take n scripts) (drop n scripts)
     ∙ and_from (list_all p (take n scripts)) (list_all p (drop n scripts)) all (ap (list_all p) others ∙ all_empty p m good)
 
+-- scripts of no command are empty
 pub empty_scripts : (scripts : List (List Command)) → list_all (λ script. length script == 0) scripts ≡ true → scripts ≡ replicate (length scripts) []
 empty_scripts [] all = refl
 empty_scripts (script ∷ scripts) all =
@@ -53,18 +55,21 @@ empty_scripts (script ∷ scripts) all =
     let none = nil_from_length script (eqb-true (length script) 0 parts.0) in
     rw none (ap (λ rest. [] ∷ rest) (empty_scripts scripts parts.1))
 
+-- empty scripts are charged nothing
 budget_of_empty : (worker cpus n : ℕ) → budget_from worker cpus (replicate n []) ≡ 0
 budget_of_empty worker cpus zero = refl
 budget_of_empty worker cpus (suc n) = omega (arith, budget_of_empty (worker + 1) cpus n)
 
--- what all scripts are charged, and whether their ticks are few, where the last are empty
-pub budget_of_front : (cpus m : ℕ) (scripts : List (List Command)) → cpus ≤ length scripts → drop cpus scripts ≡ replicate m [] → budget_from 0 cpus scripts ≡ budget_from 0 cpus (take cpus scripts)
+-- what all scripts are charged, where the last are empty
+pub budget_of_front : (cpus m : ℕ) (scripts : List (List Command)) → cpus ≤ length scripts → drop cpus scripts ≡ replicate m []
+    → budget_from 0 cpus scripts ≡ budget_from 0 cpus (take cpus scripts)
 budget_of_front cpus m scripts within others =
     let split = ap (budget_from 0 cpus) (take-append-drop cpus scripts) in
     let parts = budget-append 0 cpus cpus (take cpus scripts) (drop cpus scripts) (omega (arith, length-take-le cpus scripts within)) in
     let none : budget_from cpus cpus (drop cpus scripts) ≡ 0 = ap (budget_from cpus cpus) others ∙ budget_of_empty cpus cpus m in
     omega (arith, split, parts, none)
 
+-- the ticks are few where those of the first scripts are
 pub ticks_of_front : (cpus : ℕ) (scripts : List (List Command)) → 1 ≤ cpus → has_few_ticks cpus (take cpus scripts) ≡ has_few_ticks cpus scripts
 ticks_of_front cpus scripts some =
     ap (λ (script : List Command). ltb cpus 2 || nat_le (count_by is_tick script) 63) (get_or-take cpus scripts 0 [] some)
@@ -84,6 +89,7 @@ all_flat p f (x ∷ xs) all =
     let parts = and_parts (list_all p (f x)) (list_all (λ y. list_all p (f y)) xs) all in
     ap (list_all p) (flat_map-cons f x xs) ∙ list_all-append p (f x) (flat_map f xs) ∙ and_from (list_all p (f x)) (list_all p (flat_map f xs)) parts.0 (all_flat p f xs parts.1)
 
+-- a test of what several lists make together is one of each
 all_of_flat : {A B : Type 0} (p : B → Bool) (f : A → List B) (xs : List A) → list_all p (flat_map f xs) ≡ true → list_all (λ x. list_all p (f x)) xs ≡ true
 all_of_flat p f [] all = refl
 all_of_flat p f (x ∷ xs) all =
@@ -105,6 +111,7 @@ pub record AreDeclared (cpus : ℕ) (declared : Declared) : Type 0 where
   pub threads : list_all (is_thread cpus) declared.threads ≡ true
   pub unborn : list_all (is_unborn cpus) declared.unborn ≡ true
 
+-- the threads of declarations that lines can be
 pub declared_parts : (cpus : ℕ) (ds : List Declaration) → list_all (is_declaration cpus) ds ≡ true → AreDeclared cpus (declared_by ds)
 declared_parts cpus ds all = record {
   threads = all_flat (is_thread cpus) thread_in ds (all_weaker (is_declaration cpus) (λ d. list_all (is_thread cpus) (thread_in d)) thread_good ds all);
@@ -119,6 +126,7 @@ declared_parts cpus ds all = record {
     unborn_good (Queued spec) good = refl
     unborn_good (Unborn t) good = and_from (is_unborn cpus t) true good refl
 
+-- declarations of such threads can be lines
 pub declared_from : (cpus : ℕ) (ds : List Declaration) → AreDeclared cpus (declared_by ds) → list_all (is_declaration cpus) ds ≡ true
 declared_from cpus ds all =
     all_both (λ d. list_all (is_thread cpus) (thread_in d)) (λ d. list_all (is_unborn cpus) (unborn_in d)) (is_declaration cpus) good ds
@@ -132,6 +140,7 @@ declared_from cpus ds all =
 abbrev pub are_bytes : List ℕ → Bool
 are_bytes ids = list_all (λ t. ltb t 256) ids
 
+-- the numbers of threads that lines can declare are bytes
 bytes_of_threads : (cpus : ℕ) (threads : List ThreadSpec) → list_all (is_thread cpus) threads ≡ true → are_bytes (map (λ spec. spec.id) threads) ≡ true
 bytes_of_threads cpus [] all = refl
 bytes_of_threads cpus (spec ∷ threads) all =
@@ -147,7 +156,8 @@ bytes_of_declared cpus declared all =
     (all_weaker (is_unborn cpus) (λ t. ltb t 256) (λ t good. (and_parts (ltb t 256) (ltb cpus 2) good).0) declared.unborn all.unborn)
 
 -- threads that keep the rules, and are of the form, can be declared
-pub declared_of_rules : (cpus : ℕ) (declared : Declared) → list_all (is_bound_for cpus) declared.threads ≡ true → list_all (is_spec cpus) declared.threads ≡ true → are_bytes (ids_of declared) ≡ true
+pub declared_of_rules : (cpus : ℕ) (declared : Declared) → list_all (is_bound_for cpus) declared.threads ≡ true → list_all (is_spec cpus) declared.threads ≡ true
+    → are_bytes (ids_of declared) ≡ true
     → (2 ≤ cpus → declared.unborn ≡ []) → AreDeclared cpus declared
 declared_of_rules cpus declared bound specs bytes alone =
     let first : List ℕ = map (λ spec. spec.id) declared.threads in
@@ -157,7 +167,8 @@ declared_of_rules cpus declared bound specs bytes alone =
       unborn = by_cpus (ltb cpus 2) refl parts.1;
     }
   where
-    all_threads : (threads : List ThreadSpec) → list_all (is_bound_for cpus) threads ≡ true → list_all (is_spec cpus) threads ≡ true → are_bytes (map (λ spec. spec.id) threads) ≡ true → list_all (is_thread cpus) threads ≡ true
+    all_threads : (threads : List ThreadSpec) → list_all (is_bound_for cpus) threads ≡ true → list_all (is_spec cpus) threads ≡ true
+        → are_bytes (map (λ spec. spec.id) threads) ≡ true → list_all (is_thread cpus) threads ≡ true
     all_threads [] bound specs bytes = refl
     all_threads (spec ∷ threads) bound specs bytes =
         let b = and_parts (is_bound_for cpus spec) (list_all (is_bound_for cpus) threads) bound in
@@ -183,6 +194,7 @@ given_within : (low high default : ℕ) (g : Option ℕ) → is_within low high 
 given_within low high default None within = tt
 given_within low high default (Some n) within = within_parts low high n within
 
+-- a setting that is given in range is in range, as its default is
 value_within : (low high default : ℕ) (g : Option ℕ) → is_within low high default ≡ true → IsGivenWithin low high g → is_within low high (unwrap_or g default) ≡ true
 value_within low high default None within fits = within
 value_within low high default (Some n) within fits = and_from (nat_le low n) (nat_le n high) (le-leb low n fits.0) (le-leb n high fits.1)
@@ -201,6 +213,7 @@ given_of_rules given kept =
       steal = given_within 1 64 2 given.steal d.1;
     }
 
+-- settings that are given in range are in range
 pub settings_of_given : (given : GivenSettings) → AreGiven given → are_settings (settings_of given) ≡ true
 settings_of_given given fits =
     let s = settings_of given in
@@ -211,9 +224,11 @@ settings_of_given given fits =
     (value_within 1 64 2 given.steal refl fits.steal)
 
 module _ (cpus : ℕ) (declared : Declared) (scripts : List (List Command)) (some : 1 ≤ cpus) (few : cpus ≤ 16) (number : length scripts ≡ 16) (others : drop cpus scripts ≡ replicate (16 - cpus) []) (allowed : AreScripts declared cpus (take cpus scripts)) where
+  -- each command of the scripts can be given by a line
   all_spellable : list_all (list_all (is_spellable declared cpus)) scripts ≡ true
   all_spellable = all_scripts (list_all (is_spellable declared cpus)) cpus (16 - cpus) scripts refl others allowed.each
 
+  -- each command passes a test that follows
   weaker_scripts : (q : Command → Bool) → ((c : Command) → is_spellable declared cpus c ≡ true → q c ≡ true) → list_all (list_all q) scripts ≡ true
   weaker_scripts q each =
       all_weaker (list_all (is_spellable declared cpus)) (list_all q) (all_weaker (is_spellable declared cpus) q each) scripts all_spellable
@@ -222,9 +237,11 @@ module _ (cpus : ℕ) (declared : Declared) (scripts : List (List Command)) (som
   pub built_scripts : list_all (list_all (is_built_for cpus)) scripts ≡ true
   built_scripts = weaker_scripts (is_built_for cpus) (λ c good. (command_parts declared cpus c good).built)
 
+  -- the scripts have few ticks
   pub few_ticks : has_few_ticks cpus scripts ≡ true
   few_ticks = sym (ticks_of_front cpus scripts some) ∙ allowed.ticks
 
+  -- each thread that is forked is an unborn one
   forks_kept : list_all (is_among declared.unborn) (flat_map forked_in scripts) ≡ true
   forks_kept =
       all_flat (is_among declared.unborn) forked_in scripts
@@ -267,6 +284,7 @@ pub record KeptRules (settings : Settings) (jitter cpus : ℕ) (groups : List Gr
   pub once : is_distinct (flat_map forked_in (take cpus scripts)) ≡ true
   pub budget : budget_from 0 cpus scripts ≤ 65536
 
+-- a setup that keeps the rules has these parts
 pub parts_of_rules : (settings : Settings) (jitter cpus : ℕ) (groups : List GroupLine) (declared : Declared) (scripts : List (List Command)) (turns : List ℕ)
     → keeps_rules settings jitter cpus groups declared.threads declared.unborn scripts turns ≡ true → KeptRules settings jitter cpus groups declared scripts
 parts_of_rules settings jitter cpus groups declared scripts turns kept =

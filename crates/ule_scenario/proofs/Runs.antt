@@ -8,7 +8,8 @@ use Rattle.ule_scenario.specs.Cut.{Line}
 use Rattle.ule_scenario.specs.Sections.{Begins, Stops}
 
 -- one item more
-pub begins_more : {A : Type 0} (p : A → Bool) (f : A → Line) (lines : List Line) (items : List A) (x : A) (rest after : List Line) → Begins p f lines items rest → rest ≡ f x ∷ after → IsTrue (p x) → Begins p f lines (items ++ x ∷ []) after
+pub begins_more : {A : Type 0} (p : A → Bool) (f : A → Line) (lines : List Line) (items : List A) (x : A) (rest after : List Line) → Begins p f lines items rest
+    → rest ≡ f x ∷ after → IsTrue (p x) → Begins p f lines (items ++ x ∷ []) after
 begins_more p f lines items x rest after begins e good = record {
   front = begins.front ∙ ap (λ r. map f items ++ r) e ∙ sym (ap (λ front. front ++ after) (map-append f items (x ∷ [])) ∙ append_assoc (map f items) (f x ∷ []) after);
   each = list_all-append p items (x ∷ []) ∙ and_from (list_all p items) (p x && true) begins.each (and_from (p x) true good refl);
@@ -22,7 +23,8 @@ cons_of (x ∷ xs) y ys = (x, xs ++ y ∷ ys, refl)
 -- two runs of items whose lines tell them apart
 module _ {A : Type 0} (p : A → Bool) (f : A → Line) (apart : (a b : A) → p a ≡ true → p b ≡ true → f a ≡ f b → a ≡ b) where
   -- the second run goes on at least as far as the first, where no item's line follows it
-  pub longer : (us vs : List A) (x y : List Line) → list_all p us ≡ true → list_all p vs ≡ true → map f us ++ x ≡ map f vs ++ y → ((a : A) (rest : List Line) → p a ≡ true → y ≢ f a ∷ rest) → (more : List A) × (vs ≡ us ++ more) × (list_all p more ≡ true) × (x ≡ map f more ++ y)
+  pub longer : (us vs : List A) (x y : List Line) → list_all p us ≡ true → list_all p vs ≡ true → map f us ++ x ≡ map f vs ++ y
+      → ((a : A) (rest : List Line) → p a ≡ true → y ≢ f a ∷ rest) → (more : List A) × (vs ≡ us ++ more) × (list_all p more ≡ true) × (x ≡ map f more ++ y)
   longer [] vs x y good good' e none = (vs, refl, good', e)
   longer (a ∷ us) [] x y good good' e none = absurd (none a (map f us ++ x) (and_parts (p a) (list_all p us) good).0 (sym e))
   longer (a ∷ us) (b ∷ vs) x y good good' e none =
@@ -34,14 +36,16 @@ module _ {A : Type 0} (p : A → Bool) (f : A → Line) (apart : (a b : A) → p
       let rest = longer us vs x y parts.1 parts'.1 tails none in
       (rest.0, cc, rest.2, rest.3)
 
-  none_more : (us vs : List A) (x : List Line) (y : Line) (ys : List Line) → Stops p f x → (more : List A) → vs ≡ us ++ more → list_all p more ≡ true → x ≡ map f more ++ y ∷ ys → (us ≡ vs) × (x ≡ y ∷ ys)
+  none_more : (us vs : List A) (x : List Line) (y : Line) (ys : List Line) → Stops p f x → (more : List A) → vs ≡ us ++ more → list_all p more ≡ true → x ≡ map f more ++ y ∷ ys
+      → (us ≡ vs) × (x ≡ y ∷ ys)
   none_more us vs x y ys stops [] joined all over = (sym (joined ∙ append-nil us), over)
   none_more us vs x y ys stops (a ∷ more) joined all over =
       let tail = cons_of (map f more) y ys in
       absurd (stops a tail.0 tail.1 (and_parts (p a) (list_all p more) all).0 (over ∙ ap (λ rest. f a ∷ rest) tail.2))
 
   -- both are one, where no item's line follows either
-  pub exact : (us vs : List A) (x : List Line) (y : Line) (ys : List Line) → list_all p us ≡ true → list_all p vs ≡ true → map f us ++ x ≡ map f vs ++ y ∷ ys → ((a : A) (rest : List Line) → p a ≡ true → y ∷ ys ≢ f a ∷ rest) → Stops p f x → (us ≡ vs) × (x ≡ y ∷ ys)
+  pub exact : (us vs : List A) (x : List Line) (y : Line) (ys : List Line) → list_all p us ≡ true → list_all p vs ≡ true → map f us ++ x ≡ map f vs ++ y ∷ ys
+      → ((a : A) (rest : List Line) → p a ≡ true → y ∷ ys ≢ f a ∷ rest) → Stops p f x → (us ≡ vs) × (x ≡ y ∷ ys)
   exact us vs x y ys good good' e none stops =
       let rest = longer us vs x (y ∷ ys) good good' e none in
       none_more us vs x y ys stops rest.0 rest.1 rest.2 rest.3

@@ -21,7 +21,8 @@ use Rattle.ule_scenario.proofs.Parts.{first_line, other_lines}
 use Rattle.ule_scenario.proofs.Runs.{begins_more, longer, cons_of}
 
 -- a command pushed to a worker's script
-pub pushed_script : (first old new : List (List Command)) (worker : ℕ) (script : List Command) (c : Command) → length first ≡ 16 → worker < 16 → old ≡ set first worker script → new ≡ set old worker (script ++ c ∷ []) → (get_or new worker [] ≡ script ++ c ∷ []) × (new ≡ set first worker (script ++ c ∷ []))
+pub pushed_script : (first old new : List (List Command)) (worker : ℕ) (script : List Command) (c : Command) → length first ≡ 16 → worker < 16 → old ≡ set first worker script
+    → new ≡ set old worker (script ++ c ∷ []) → (get_or new worker [] ≡ script ++ c ∷ []) × (new ≡ set first worker (script ++ c ∷ []))
 pushed_script first old new worker script c number small put push =
     let again : new ≡ set first worker (script ++ c ∷ []) =
     push ∙ ap (λ scripts. set scripts worker (script ++ c ∷ [])) put ∙ set-set first worker script (script ++ c ∷ []) in
@@ -83,14 +84,14 @@ module _ (declared : Declared) (worker cpus spent : ℕ) (forked : List ℕ) (li
       none tail.0 tail.1 (e ∙ ap (λ rest. script_line worker ∷ rest) tail.2)
 
   module _ (script : List Command) (c : Command) (here : IsRead declared worker cpus lines (script ++ c ∷ [])) where
-    -- nor where the next command passes the budget
+    -- a worker has no script where the next command passes the budget
     pub none_over_budget : (total : ℕ) → total ≡ spent + charge worker cpus script → 65536 < total + greatest_of c worker cpus → HasNoScript declared worker cpus spent forked lines
     none_over_budget total sum over other next more allowed apart front =
         let run = goes_on declared worker cpus lines (script ++ c ∷ []) other next more here allowed.each apart front in
         let budget = rw run.1 at allowed.budget in
         omega (arith, budget, charge-le worker cpus (script ++ c ∷ []) run.0, charge_push worker cpus script c)
 
-    -- nor where the next command makes its ticks too many
+    -- a worker has no script where the next command makes its ticks too many
     pub none_over_ticks : (ticks : ℕ) → ticks ≡ count_by is_tick script + count_by is_tick (c ∷ []) → are_few worker cpus ticks ≡ false → HasNoScript declared worker cpus spent forked lines
     none_over_ticks ticks sum over other next more allowed apart front =
         let run = goes_on declared worker cpus lines (script ++ c ∷ []) other next more here allowed.each apart front in
@@ -98,7 +99,7 @@ module _ (declared : Declared) (worker cpus spent : ℕ) (forked : List ℕ) (li
         let le : ticks ≤ count_by is_tick ((script ++ c ∷ []) ++ run.0) = omega (arith, ticks-le (script ++ c ∷ []) run.0, ticks-append script (c ∷ [])) in
         false≢true (sym over ∙ fewer worker cpus ticks (count_by is_tick ((script ++ c ∷ []) ++ run.0)) le few)
 
-    -- nor where the next command forks a thread that is forked already
+    -- a worker has no script where the next command forks a thread that is forked already
     pub none_over_forks : (noted : List ℕ) → noted ≡ forked ++ forked_in script → is_distinct (noted ++ forked_by c) ≡ false → HasNoScript declared worker cpus spent forked lines
     none_over_forks noted all over other next more allowed apart front =
         let run = goes_on declared worker cpus lines (script ++ c ∷ []) other next more here allowed.each apart front in

@@ -22,7 +22,8 @@ use Rattle.ule_scenario.proofs.Runs.{exact}
 use Rattle.ule_scenario.proofs.Declarations.{script_line_declares_none, end_line_declares_none}
 
 -- the lines of scripts in two parts
-pub script_lines-append : (worker next : ℕ) (xs ys : List (List Command)) (rest : List Line) → next ≡ worker + length xs → script_lines worker (xs ++ ys) ++ rest ≡ script_lines worker xs ++ (script_lines next ys ++ rest)
+pub script_lines-append : (worker next : ℕ) (xs ys : List (List Command)) (rest : List Line) → next ≡ worker + length xs
+    → script_lines worker (xs ++ ys) ++ rest ≡ script_lines worker xs ++ (script_lines next ys ++ rest)
 script_lines-append worker next [] ys rest e =
     let same : worker ≡ next = omega arith in rw same refl
 script_lines-append worker next (x ∷ xs) ys rest e =
@@ -44,7 +45,8 @@ few_at : (cpus : ℕ) (us : List (List Command)) (v : List Command) (more : List
 few_at cpus [] v more few = few
 few_at cpus (u ∷ us) v more few = rw (ne_eqb (length (u ∷ us)) 0 (λ e. omega (arith, e))) refl
 
-few_push : (cpus : ℕ) (us : List (List Command)) (v : List Command) → has_few_ticks cpus us ≡ true → are_few (length us) cpus (count_by is_tick v) ≡ true → has_few_ticks cpus (us ++ v ∷ []) ≡ true
+few_push : (cpus : ℕ) (us : List (List Command)) (v : List Command) → has_few_ticks cpus us ≡ true → are_few (length us) cpus (count_by is_tick v) ≡ true
+    → has_few_ticks cpus (us ++ v ∷ []) ≡ true
 few_push cpus [] v few here = here
 few_push cpus (u ∷ us) v few here = few
 
@@ -71,17 +73,21 @@ next_line declared cpus worker (v ∷ scripts) rest = record {
 }
 
 -- no command's line follows a script, where none follows the last
-stops_before : (declared : Declared) (cpus worker : ℕ) (scripts : List (List Command)) (rest : List Line) → Stops (is_spellable declared cpus) command_line rest → Stops (is_spellable declared cpus) command_line (script_lines worker scripts ++ rest)
+stops_before : (declared : Declared) (cpus worker : ℕ) (scripts : List (List Command)) (rest : List Line) → Stops (is_spellable declared cpus) command_line rest
+    → Stops (is_spellable declared cpus) command_line (script_lines worker scripts ++ rest)
 stops_before declared cpus worker [] rest stops = stops
 stops_before declared cpus worker (v ∷ scripts) rest stops = λ c next more good e. script_line_apart declared cpus worker c good (first_line e)
 
 -- lines from the start of a script on
-after_script : (u : List Command) (us : List (List Command)) (v : List Command) (vs : List (List Command)) (worker : ℕ) (x y : List Line) → script_lines worker (u ∷ us) ++ x ≡ script_lines worker (v ∷ vs) ++ y → map command_line u ++ (script_lines (worker + 1) us ++ x) ≡ map command_line v ++ (script_lines (worker + 1) vs ++ y)
+after_script : (u : List Command) (us : List (List Command)) (v : List Command) (vs : List (List Command)) (worker : ℕ) (x y : List Line)
+    → script_lines worker (u ∷ us) ++ x ≡ script_lines worker (v ∷ vs) ++ y
+    → map command_line u ++ (script_lines (worker + 1) us ++ x) ≡ map command_line v ++ (script_lines (worker + 1) vs ++ y)
 after_script u us v vs worker x y e =
     sym (append_assoc (map command_line u) (script_lines (worker + 1) us) x) ∙ other_lines e ∙ append_assoc (map command_line v) (script_lines (worker + 1) vs) y
 
 -- scripts up to the last line go on at least as far as those that were read
-pub scripts_longer : (declared : Declared) (cpus worker next : ℕ) (us vs : List (List Command)) (x ys : List Line) → list_all (list_all (is_spellable declared cpus)) us ≡ true → list_all (list_all (is_spellable declared cpus)) vs ≡ true → next ≡ worker + length us → (0 < length us → Stops (is_spellable declared cpus) command_line x)
+pub scripts_longer : (declared : Declared) (cpus worker next : ℕ) (us vs : List (List Command)) (x ys : List Line) → list_all (list_all (is_spellable declared cpus)) us ≡ true
+    → list_all (list_all (is_spellable declared cpus)) vs ≡ true → next ≡ worker + length us → (0 < length us → Stops (is_spellable declared cpus) command_line x)
     → script_lines worker us ++ x ≡ script_lines worker vs ++ end_line ∷ ys → (more : List (List Command)) × (vs ≡ us ++ more) × (x ≡ script_lines next more ++ end_line ∷ ys)
 scripts_longer declared cpus worker next [] vs x ys good good' at stops e =
     let same : worker ≡ next = omega arith in (vs, refl, rw (← same) e)
@@ -122,7 +128,9 @@ module _ (declared : Declared) (workers cpus : ℕ) (lines : List Line) (old : L
       sym at ∙ ap (λ scripts. get_or scripts 0 []) taken.others ∙ get_or-replicate (16 - workers) 0 [] [] (omega arith)
 
   -- one script more
-  pub takes_more : (script : List Command) (after : List Line) (new : List (List Command)) → TakesScript declared workers cpus spent forked rest script after → new ≡ set old workers script → TakesScripts declared (workers + 1) cpus lines new after × (spent + charge workers cpus script ≡ budget_from 0 cpus (take (workers + 1) new)) × (forked ++ forked_in script ≡ flat_map forked_in (take (workers + 1) new))
+  pub takes_more : (script : List Command) (after : List Line) (new : List (List Command)) → TakesScript declared workers cpus spent forked rest script after
+      → new ≡ set old workers script
+      → TakesScripts declared (workers + 1) cpus lines new after × (spent + charge workers cpus script ≡ budget_from 0 cpus (take (workers + 1) new)) × (forked ++ forked_in script ≡ flat_map forked_in (take (workers + 1) new))
   takes_more script after new here put =
       let within : workers < length old = omega (arith, taken.number) in
       let front : take (workers + 1) new ≡ take workers old ++ script ∷ [] = ap (take (workers + 1)) put ∙ take_more_set old workers script within in

@@ -1,7 +1,7 @@
 -- The lines of a setup that bytes spell, and that no bytes spell two.
-use Rattle.std.proofs.Common.{◌≡◌, ◌≢◌, ℕ, ◌-◌, ◌^◌, ◌<◌, ◌≤◌, true, IsTrue, List, [], ◌∷◌, ◌++◌, map, length, take, drop, replicate, refl, sym, ap, subst, ◌∙◌, arith}
+use Rattle.std.proofs.Common.{◌≡◌, ◌≢◌, ℕ, ◌-◌, ◌^◌, ◌<◌, ◌≤◌, true, List, [], ◌∷◌, ◌++◌, map, length, take, drop, replicate, refl, sym, ap, subst, ◌∙◌, arith}
 use Rattle.std.specs.Prelude.{Result, Ok, Err, IfOk}
-use Rattle.std.specs.List.{list_all, flat_map}
+use Rattle.std.specs.List.{list_all}
 use Rattle.std.proofs.lemmas.Bool.{false≢true}
 use Rattle.std.proofs.lemmas.List.{append_assoc, append-nil, length-append, length-take-le, take-append-drop}
 use Rattle.ule_score.specs.declared.record.Settings.{Settings}
@@ -14,7 +14,7 @@ use Rattle.ule_types.specs.declared.setup.Setup.{Setup}
 use Rattle.ule_types.specs.declared.setup.ThreadSpec.{ThreadSpec}
 use Rattle.ule_scenario.specs.Cut.{Line, cut, no_more, IsCut}
 use Rattle.ule_scenario.specs.Scenario.{GivenSettings, settings_of, given_lines, header_line, jitter_line, cpus_line, declaration_line, script_lines, end_line, SpellsSetup, Spells, IsSame}
-use Rattle.ule_scenario.specs.Sections.{AreGiven, settings_before, head_lines, TakesHead, HasNoHead, is_thread, is_unborn, is_declaration, is_spellable, declared_by, ids_of, TakesThreads, RepeatsThread, AreScripts, TakesScripts, HasNoScripts}
+use Rattle.ule_scenario.specs.Sections.{AreGiven, head_lines, TakesHead, HasNoHead, is_thread, is_declaration, is_spellable, declared_by, ids_of, TakesThreads, RepeatsThread, AreScripts, TakesScripts, HasNoScripts}
 use Rattle.ule_scenario.specs.declared.declaration.Declaration.{Declaration}
 use Rattle.ule_scenario.specs.declared.declaration.Declared.{Declared}
 use Rattle.ule_scenario.proofs.Commands.{end_line_apart}
@@ -73,9 +73,11 @@ all_lines lines t spelled =
     ∙ ap (λ declaring. header_line ∷ (given_lines spelled.settings.given ++ after (declaring ++ (spelled.commanding ++ end_line ∷ [])))) spelled.threads.each
     ∙ ap (λ commanding. header_line ∷ (given_lines spelled.settings.given ++ after (map declaration_line spelled.threads.declarations ++ (commanding ++ end_line ∷ [])))) spelled.scripts
 
+-- the same threads and unborn ones are declared alike
 same_declared : {a b : List ThreadSpec} {x y : List ℕ} → a ≡ b → x ≡ y → ◌≡◌ {A = Declared} (record { threads = a; unborn = x }) (record { threads = b; unborn = y })
 same_declared p q = rw (p, q) refl
 
+-- the lines of bytes that spell a setup have its shape
 pub shape_of : (bytes : List ℕ) (t : Setup) → Spells bytes t → Shape (cut bytes) t
 shape_of bytes t spells =
     let form = spells.form in
@@ -133,6 +135,7 @@ record Follows (s : Settings) (jitter cpus : ℕ) (rest : List Line) (t : Setup)
   lines_are : rest ≡ after_head declarations (take cpus t.scripts) no_more
 
 module _ (bytes : List ℕ) (s : Settings) (jitter cpus : ℕ) (rest : List Line) (head : TakesHead (cut bytes) s jitter cpus rest) where
+  -- a setup that the bytes spell follows the head
   follows : (t : Setup) → Spells bytes t → Follows s jitter cpus rest t
   follows t spells =
       let shape = shape_of bytes t spells in
@@ -172,6 +175,7 @@ module _ (bytes : List ℕ) (s : Settings) (jitter cpus : ℕ) (rest : List Line
         (sym takes.declares.begins.front ∙ rest_of.lines_are ∙ ap (λ ls. map declaration_line rest_of.declarations ++ ls) line.is) (λ d more good over. line.declares_none d (first_line over)) takes.stops in
         (takes.declares.all ∙ ap declared_by both.0 ∙ sym rest_of.all, both.1 ∙ sym line.is)
 
+    -- a setup that the bytes spell has scripts that its workers can have
     scripts_of : (t : Setup) → Spells bytes t → AreScripts declared cpus (take cpus t.scripts)
     scripts_of t spells =
         subst (λ d. AreScripts d cpus (take cpus t.scripts)) (sym (same_threads t spells).0) (follows t spells).scripts
@@ -181,7 +185,7 @@ module _ (bytes : List ℕ) (s : Settings) (jitter cpus : ℕ) (rest : List Line
     no_scripts none t spells =
         none (take cpus t.scripts) no_more (scripts_of t spells) (follows t spells).number (same_threads t spells).1
 
-    -- nor do those whose last line doesn't follow the scripts
+    -- bytes whose last line doesn't follow the scripts spell nothing
     pub no_end : (scripts : List (List Command)) (over : List Line) → TakesScripts declared cpus cpus after scripts over → over ≢ end_line ∷ no_more → (t : Setup) → Spells bytes t → ⊥
     no_end scripts over taken none t spells =
         let number = length-take-le cpus scripts (omega (arith, taken.number, head.greatest)) in
@@ -203,7 +207,8 @@ module _ (bytes : List ℕ) (s : Settings) (jitter cpus : ℕ) (rest : List Line
         ∙ sym (before head.settings.given jitter cpus takes.declares.declarations (take cpus scripts) no_more)
 
 -- scripts of which the front is the same
-same_scripts : (cpus cpus' : ℕ) (ss ts : List (List Command)) → cpus ≡ cpus' → drop cpus ss ≡ replicate (16 - cpus) [] → drop cpus' ts ≡ replicate (16 - cpus') [] → take cpus ss ≡ take cpus' ts → ss ≡ ts
+same_scripts : (cpus cpus' : ℕ) (ss ts : List (List Command)) → cpus ≡ cpus' → drop cpus ss ≡ replicate (16 - cpus) [] → drop cpus' ts ≡ replicate (16 - cpus') []
+    → take cpus ss ≡ take cpus' ts → ss ≡ ts
 same_scripts cpus cpus' ss ts same others others' front =
     let back : drop cpus ss ≡ drop cpus' ts = others ∙ ap (λ n. replicate (16 - n) []) same ∙ sym others' in
     sym (take-append-drop cpus ss) ∙ ap (λ xs. xs ++ drop cpus ss) front ∙ ap (λ ys. take cpus' ts ++ ys) back ∙ take-append-drop cpus' ts
@@ -240,7 +245,8 @@ one_setup bytes s t spells other =
     by_left us vs [] joined same = sym (joined ∙ append-nil us)
     by_left us vs (m ∷ more) joined same = absurd (omega (arith, same, ap length joined, length-append us (m ∷ more)))
 
-    scripts_equal : (declared : Declared) (cpus : ℕ) (us vs : List (List Command)) → list_all (list_all (is_spellable declared cpus)) us ≡ true → list_all (list_all (is_spellable declared cpus)) vs ≡ true → length us ≡ length vs
+    scripts_equal : (declared : Declared) (cpus : ℕ) (us vs : List (List Command)) → list_all (list_all (is_spellable declared cpus)) us ≡ true
+        → list_all (list_all (is_spellable declared cpus)) vs ≡ true → length us ≡ length vs
         → script_lines 0 us ++ end_line ∷ no_more ≡ script_lines 0 vs ++ end_line ∷ no_more → us ≡ vs
     scripts_equal declared cpus us vs good good' same e =
         let run = scripts_longer declared cpus 0 (length us) us vs (end_line ∷ no_more) no_more good good' (omega arith) (λ some c next more allowed over. end_line_apart declared cpus c allowed (first_line over)) e in
@@ -293,7 +299,8 @@ found_setup bytes s limit turns found =
     }
 
 -- what was read keeps the rules
-pub found_rules : (bytes : List ℕ) (settings : Settings) (jitter cpus : ℕ) (groups : List GroupLine) (declared : Declared) (scripts : List (List Command)) (turns : List ℕ) → groups ≡ [] → turns ≡ []
+pub found_rules : (bytes : List ℕ) (settings : Settings) (jitter cpus : ℕ) (groups : List GroupLine) (declared : Declared) (scripts : List (List Command)) (turns : List ℕ)
+    → groups ≡ [] → turns ≡ []
     → Found bytes settings jitter cpus declared scripts → keeps_rules settings jitter cpus groups declared.threads declared.unborn scripts turns ≡ true
 found_rules bytes settings jitter cpus groups declared scripts turns no_groups no_turns found =
     let head = found.head in

@@ -14,6 +14,7 @@ use Rattle.ule_scenario.proofs.Distinct.{declared_push, distinct_more, repeats_m
 use Rattle.ule_scenario.proofs.Runs.{begins_more}
 
 module _ (cpus : ℕ) (lines rest after : List Line) (declared : Declared) (d : Declaration) (declares : Declares cpus lines declared rest) (e : rest ≡ declaration_line d ∷ after) (good : IsTrue (is_declaration cpus d)) where
+  -- what is declared then is what the declarations declare
   pushed : with_declaration declared d ≡ declared_by (declares.declarations ++ d ∷ [])
   pushed = ap (λ before. with_declaration before d) declares.all ∙ declared_push declares.declarations d
 
@@ -40,6 +41,7 @@ pub queued-le : (threads : List ThreadSpec) (d : Declaration) → length (thread
 queued-le threads (Queued spec) = omega (arith, length-append threads (spec ∷ []))
 queued-le threads (Unborn t) = omega (arith, length-append threads [])
 
+-- one declaration more adds one unborn thread at most
 pub waiting-le : (unborn : List ℕ) (d : Declaration) → length (unborn ++ unborn_in d) ≤ length unborn + 1
 waiting-le unborn (Queued spec) = omega (arith, length-append unborn [])
 waiting-le unborn (Unborn t) = omega (arith, length-append unborn (t ∷ []))

@@ -32,16 +32,19 @@ pub record AreGiven (given : GivenSettings) : Type 0 where
 abbrev pub GivesNone : Word → ℕ → ℕ → List Line → Type 0
 GivesNone name low high lines = (n : ℕ) (next : Line) (more : List Line) → low ≤ n → n ≤ high → lines ≢ set_line name n ∷ next ∷ more
 
--- the lines of the settings from a place on, before others
+-- the lines of the settings after the preemption setting, before others
 abbrev pub after_preempt : GivenSettings → List Line → List Line
 after_preempt given rest = setting_lines (codes "steal") given.steal ++ rest
 
+-- the lines of the settings after the slice, before others
 abbrev pub after_slice : GivenSettings → List Line → List Line
 after_slice given rest = setting_lines (codes "preempt") given.preempt ++ after_preempt given rest
 
+-- the lines of the settings after the interactivity setting, before others
 abbrev pub after_interact : GivenSettings → List Line → List Line
 after_interact given rest = setting_lines (codes "slice") given.slice ++ after_slice given rest
 
+-- the lines of all settings, before others
 abbrev pub settings_before : GivenSettings → List Line → List Line
 settings_before given rest = setting_lines (codes "interact") given.interact ++ after_interact given rest
 

@@ -19,17 +19,17 @@ use ule_prio::{Nice, Priority, ThreadId};
 use ule_types::{Command, ThreadSpec};
 
 /// Whether one of the threads has this number.
-fn is_thread(threads: &[ThreadSpec], id: ThreadId) -> bool
+fn is_thread_number(threads: &[ThreadSpec], id: ThreadId) -> bool
     ensures { result ≡ list_any (λ spec. spec.id == id) threads.now }
 {
     threads.iter().any(|spec| spec.id == id)
 }
 
-/// Whether this number is one of these.
-fn is_among(ids: &[ThreadId], id: ThreadId) -> bool
-    ensures { result ≡ is_among ids.now id }
+/// Whether one of the unborn threads has this number.
+fn is_unborn_number(unborn: &[ThreadId], id: ThreadId) -> bool
+    ensures { result ≡ is_among unborn.now id }
 {
-    ids.iter().any(|t| *t == id)
+    unborn.iter().any(|t| *t == id)
 }
 
 /// Whether one of the threads or of the unborn ones has this number.
@@ -37,7 +37,7 @@ fn is_among(ids: &[ThreadId], id: ThreadId) -> bool
 pub(crate) fn is_declared(threads: &[ThreadSpec], unborn: &[ThreadId], id: ThreadId) -> bool
     ensures { result ≡ is_among (declared_ids threads.now unborn.now) id }
 {
-    is_thread(threads, id) || is_among(unborn, id)
+    is_thread_number(threads, id) || is_unborn_number(unborn, id)
 }
 
 /// The declared thread whose number stands next, and the words after it.

@@ -1,6 +1,6 @@
-use Rattle.std.proofs.Common.{◌≡◌, ◌≤◌, IsTrue, length, take}
+use Rattle.std.proofs.Common.{◌≡◌, ◌≤◌, length, take}
 use Rattle.std.specs.List.{flat_map}
-use Rattle.ule_types.specs.Rules.{is_distinct, budget_from}
+use Rattle.ule_types.specs.Rules.{budget_from}
 use Rattle.ule_scenario.specs.Cut.{cut}
 use Rattle.ule_scenario.specs.Sections.{forked_in, TakesScripts}
 use Rattle.ule_scenario.proofs.section.read_scripts.Given as goal
