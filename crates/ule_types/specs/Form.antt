@@ -1,5 +1,5 @@
 -- The form of a setup that a scenario can spell so far.
-use Rattle.std.specs.Prelude.{◌≡◌, ℕ, ◌≤◌, Bool, true, false, nat_lt, nat_le, ◌&&◌, ◌||◌, List, [], IsTrue, count_by, slice_index_or}
+use Rattle.std.specs.Prelude.{◌≡◌, ℕ, ◌≤◌, Bool, true, false, nat_lt, nat_le, ◌||◌, List, [], IsTrue, count_by, slice_index_or}
 use Rattle.std.specs.List.{list_all}
 use Rattle.ule_score.specs.declared.record.Settings.{Settings}
 use Rattle.ule_types.specs.declared.command.Command.{Command}
