@@ -11,11 +11,11 @@ use Rattle.ule_score.specs.declared.place.Place.{Place}
 use Rattle.ule_score.specs.declared.place.Place.TheVariants.{Running, Queued, Asleep, Unborn, Gone, Hand}
 use Rattle.ule_score.specs.declared.record.ThreadRecord.{ThreadRecord}
 use Rattle.ule_model.specs.CpuValue.{CpuValue, StandsFor, current_place, first_found, queued_place, thread_in, thread_on, value_line, value_place}
-use Rattle.ule_model.specs.Finals.{line_of, position_of, thread_line}
+use Rattle.ule_model.specs.Finals.{line_of, position_of, final_line}
 use Rattle.ule_model.specs.Places.{is_on, rank_of, runs_on, waits_on}
 use Rattle.ule_model.specs.Shows.{ShowsQueue}
 use Rattle.ule_model.specs.WellMade.{IsWellMade}
-use Rattle.ule_model.specs.World.{Member, Side, current_of, is_thread}
+use Rattle.ule_model.specs.World.{Member, Side, current_of, is_numbered}
 use Rattle.ule_laws.proofs.PlaceLaws.{place_from_runs_on, place_from_waits_on, waits_on_place}
 use Rattle.ule_laws.proofs.Positions.{place_in_lacks, place_in_shown}
 use Rattle.ule_members.proofs.Membership.{Has, all_has, has_within, same_from_number}
@@ -66,9 +66,9 @@ runner_of_current v s stands made u is = split (current_of v.cpu s.members) refl
 -- a thread whose number finds none on a CPU doesn't stand there
 none_stands_on : (c t : ℕ) (ms : List Member) → thread_on c t ms ≡ None → (n : Member) → Has n ms → n.thread.id ≡ t → is_on c n.place ≡ true → ⊥
 none_stands_on c t ms none n has number on =
-    both_ways (is_thread t n && is_on c n.place)
-    (all_has (λ x. (is_thread t x && is_on c x.place) ≡ false) n ms (none_passes (λ x. is_thread t x && is_on c x.place) ms none) has)
-    (and_from (is_thread t n) (is_on c n.place) (eq-eqb n.thread.id t number) on)
+    both_ways (is_numbered t n && is_on c n.place)
+    (all_has (λ x. (is_numbered t x && is_on c x.place) ≡ false) n ms (none_passes (λ x. is_numbered t x && is_on c x.place) ms none) has)
+    (and_from (is_numbered t n) (is_on c n.place) (eq-eqb n.thread.id t number) on)
 
 -- a queue of a CPU lacks a thread that isn't there
 queue_lacks : (lists : List (List ℕ)) (c : ℕ) (k : Kind) (t : ℕ) (ms : List Member) → ShowsQueue lists c k ms → thread_on c t ms ≡ None →
@@ -200,7 +200,7 @@ place_stands v s stands made t =
 
 -- the line that the value tells of a thread is that of the side
 pub line_stands : (v : CpuValue) (s : Side) → StandsFor v s → IsWellMade s.members → (t : ℕ) →
-    value_line v t ≡ option_map (thread_line s.members) (thread_on v.cpu t s.members)
+    value_line v t ≡ option_map (final_line s.members) (thread_on v.cpu t s.members)
 line_stands v s stands made t =
     ap (λ (at : Option (Place × ℕ)). option_and_then (λ (r : ThreadRecord). option_map (λ (p : Place × ℕ). line_of r p.0 p.1) at) (thread_in v t)) (positions_stand v s stands made t) ∙
     ap (λ (o : Option ThreadRecord). option_and_then (λ (r : ThreadRecord). option_map (λ (p : Place × ℕ). line_of r p.0 p.1) (placed_at (thread_on v.cpu t s.members))) o) (stands.threads t) ∙
@@ -210,6 +210,6 @@ line_stands v s stands made t =
     placed_at o = option_map (λ m. (m.place, position_of m.place m.order s.members)) o
 
     split : (o : Option Member) →
-        option_and_then (λ (r : ThreadRecord). option_map (λ (p : Place × ℕ). line_of r p.0 p.1) (placed_at o)) (option_map (λ m. m.thread) o) ≡ option_map (thread_line s.members) o
+        option_and_then (λ (r : ThreadRecord). option_map (λ (p : Place × ℕ). line_of r p.0 p.1) (placed_at o)) (option_map (λ m. m.thread) o) ≡ option_map (final_line s.members) o
     split None = refl
     split (Some m) = refl

@@ -168,27 +168,27 @@ hand_stays v w worker e now at none u =
     ap (option_map (λ (m : Member). m.thread)) (sym (own_hand v w worker e now at u ∙ ap (λ (c : Option WordChange). in_hand_after w worker e now c u (thread_in_hand worker u w.members)) none))
 
 -- what a step makes shows a world, and is answered so
-abbrev pub Agrees : World → Reply → WorldValue × Reply → Type 0
-Agrees n reply done = Shows done.0 n × (done.1 ≡ reply)
+abbrev pub ShowsWithReply : World → Reply → WorldValue × Reply → Type 0
+ShowsWithReply n reply done = Shows done.0 n × (done.1 ≡ reply)
 
 -- what a step of an event is to come to
 abbrev pub IsStepOf : WorldValue → World → ℕ → Event → ℕ → Type 0
-IsStepOf v w worker e now = Agrees (step w worker e now).0 (step w worker e now).1 (value_step v worker e now)
+IsStepOf v w worker e now = ShowsWithReply (step w worker e now).0 (step w worker e now).1 (value_step v worker e now)
 
 -- what an event makes of its lock's value and the worker's hand is what the world has there
-abbrev pub IsMade : WorldValue → World → ℕ → Event → ℕ → ℕ → LockValue → Type 0
-IsMade v w worker e now l value = IsMadeFor (step w worker e now).0 worker l (step w worker e now).1 (lock_step v.settings worker e now (held_by v worker) value)
+abbrev pub IsStepUnder : WorldValue → World → ℕ → Event → ℕ → ℕ → LockValue → Type 0
+IsStepUnder v w worker e now l value = IsMadeFor (step w worker e now).0 worker l (step w worker e now).1 (lock_step v.settings worker e now (held_by v worker) value)
 
 -- so the step is that of the world
 pub step_from : (v : WorldValue) (w : World) (worker : ℕ) (e : Event) (now l : ℕ) → IsAtEvent v w worker e now → lock_for v.values (locking e) ≡ Some l →
-    locks_of w e ≡ l ∷ [] → l < 25 → ((at : HasValue v w l) → IsMade v w worker e now l at.value) → IsStepOf v w worker e now
+    locks_of w e ≡ l ∷ [] → l < 25 → ((at : HasValue v w l) → IsStepUnder v w worker e now l at.value) → IsStepOf v w worker e now
 step_from v w worker e now l at lock locks within made =
     let n : World = (step w worker e now).0 in
     let reply : Reply = (step w worker e now).1 in
     let has : HasValue v w l = value_at v w l at.shows within in
     let stepped : Stepped = lock_step v.settings worker e now (held_by v worker) has.value in
-    subst (λ (o : Option ℕ). Agrees n reply (value_step_at o worker e now v)) (sym lock)
-    (subst (λ (o : Option LockValue). Agrees n reply (put_back l worker (option_map (lock_step v.settings worker e now (held_by v worker)) o) v)) (sym has.found)
+    subst (λ (o : Option ℕ). ShowsWithReply n reply (value_step_at o worker e now v)) (sym lock)
+    (subst (λ (o : Option LockValue). ShowsWithReply n reply (put_back l worker (option_map (lock_step v.settings worker e now (held_by v worker)) o) v)) (sym has.found)
     (put_back_shows v w worker l e n reply stepped at.shows (step_frame v w worker e now at) locks within at.possible.worker_is (made has)))
 
 -- a hand that takes a thread
@@ -245,7 +245,7 @@ own_side : (w : World) (c : ℕ) (u : CpuValue) → IsQueueOf w c u → StandsFo
 own_side w c u is = subst (λ (d : ℕ). StandsFor u (side_of d w)) (sym is.cpu) is.stands
 
 -- a tick
-tick_made : (v : WorldValue) (w : World) (worker c now : ℕ) (u : CpuValue) → IsAtEvent v w worker (Tick c) now → IsQueueOf w c u → IsMade v w worker (Tick c) now c (queue u)
+tick_made : (v : WorldValue) (w : World) (worker c now : ℕ) (u : CpuValue) → IsAtEvent v w worker (Tick c) now → IsQueueOf w c u → IsStepUnder v w worker (Tick c) now c (queue u)
 tick_made v w worker c now u at is = record { value = value; hand = hand_stays v w worker (Tick c) now at refl; answer = answer }
   where
     both : ActsAlike u (value_ticked now u) (ticked c now (side_of c w))
@@ -258,7 +258,8 @@ tick_made v w worker c now u at is = record { value = value; hand = hand_stays v
     answer = both.answer
 
 -- a switch
-switch_made : (v : WorldValue) (w : World) (worker c : ℕ) (why : Why) (now : ℕ) (u : CpuValue) → IsAtEvent v w worker (Switch c why) now → IsQueueOf w c u → IsMade v w worker (Switch c why) now c (queue u)
+switch_made : (v : WorldValue) (w : World) (worker c : ℕ) (why : Why) (now : ℕ) (u : CpuValue) → IsAtEvent v w worker (Switch c why) now → IsQueueOf w c u →
+    IsStepUnder v w worker (Switch c why) now c (queue u)
 switch_made v w worker c why now u at is = record { value = value; hand = hand_stays v w worker (Switch c why) now at refl; answer = both.answer }
   where
     both : ActsAlike u (value_switched why now u) (switched c why now (side_of c w))
@@ -268,7 +269,8 @@ switch_made v w worker c why now u at is = record { value = value; hand = hand_s
     value = queue_stands w c u (value_switched why now u).0 (switched c why now (side_of c w)).0 is both.stands both.cpu (switched_settings c why now (side_of c w))
 
 -- a drop
-drop_made : (v : WorldValue) (w : World) (worker c channel now : ℕ) (u : CpuValue) → IsAtEvent v w worker (Drop c channel) now → IsQueueOf w c u → held_by v worker ≡ None → IsMade v w worker (Drop c channel) now c (queue u)
+drop_made : (v : WorldValue) (w : World) (worker c channel now : ℕ) (u : CpuValue) → IsAtEvent v w worker (Drop c channel) now → IsQueueOf w c u → held_by v worker ≡ None →
+    IsStepUnder v w worker (Drop c channel) now c (queue u)
 drop_made v w worker c channel now u at is empty = split (current_of c w.members) refl (value_taken sleeps now u).1 refl
   where
     made : Side × Reply
@@ -309,7 +311,8 @@ drop_made v w worker c channel now u at is empty = split (current_of c w.members
         taken : taken_member w worker (Drop c channel) now x.thread.id ≡ Some (held_member worker (record_after w.settings now sleeps m.thread))
         taken = ap (option_map (λ (n : Member). held_member worker (taken_record w.settings now (Drop c channel) n.thread))) found
 
-        after : (y : ℕ) → thread_in_hand worker y made.0.members ≡ (if y == x.thread.id then Some (held_member worker (record_after w.settings now sleeps m.thread)) else thread_in_hand worker y w.members)
+        after : (y : ℕ) →
+            thread_in_hand worker y made.0.members ≡ (if y == x.thread.id then Some (held_member worker (record_after w.settings now sleeps m.thread)) else thread_in_hand worker y w.members)
         after y =
             own_hand v w worker (Drop c channel) now at y ∙
             ap (λ (change : Option WordChange). in_hand_after w worker (Drop c channel) now change y (thread_in_hand worker y w.members)) (ap (change_of (Drop c channel)) answer) ∙
@@ -332,7 +335,8 @@ drop_made v w worker c channel now u at is empty = split (current_of c w.members
         same_record r n e = cc
 
 -- a landing of the thread in the hand
-land_made : (v : WorldValue) (w : World) (worker c t now : ℕ) (u : CpuValue) → IsAtEvent v w worker (Land t c) now → IsQueueOf w c u → IsInHand w.members worker t (held_by v worker) → IsMade v w worker (Land t c) now c (queue u)
+land_made : (v : WorldValue) (w : World) (worker c t now : ℕ) (u : CpuValue) → IsAtEvent v w worker (Land t c) now → IsQueueOf w c u →
+    IsInHand w.members worker t (held_by v worker) → IsStepUnder v w worker (Land t c) now c (queue u)
 land_made v w worker c t now u at is held =
     subst (λ (o : Option ThreadRecord). IsMadeFor (with_side c made.0 w) worker c made.1 (queue_landed worker o u)) (sym held.held_is)
     (record { value = value; hand = hand; answer = answer })
@@ -369,7 +373,7 @@ land_made v w worker c t now u at is held =
 
 -- a bed
 bed_made : (v : WorldValue) (w : World) (worker t channel now : ℕ) (c : ChainValue) → Shows v w → IsChainOf w (16 + channel % 8) c → IsInHand w.members worker t (held_by v worker) →
-    IsMade v w worker (Bed t channel) now (16 + channel % 8) (chain c)
+    IsStepUnder v w worker (Bed t channel) now (16 + channel % 8) (chain c)
 bed_made v w worker t channel now c shows is held =
     let down : IsPutDown (moved_to t (Asleep channel) (pos 0) w.members) worker (16 + channel % 8) held.member.thread (Asleep channel) c.slots =
     put_down w.members worker (16 + channel % 8) t (held_by v worker) (Asleep channel) c.slots held (shows.hands worker) is.under is.slots (eq-eqb (16 + channel % 8) (16 + channel % 8) refl) refl in
@@ -388,7 +392,7 @@ bed_made v w worker t channel now c shows is held =
 
 -- a return
 return_made : (v : WorldValue) (w : World) (worker t now : ℕ) (c : LimboValue) → Shows v w → IsLimboOf w 24 c → IsInHand w.members worker t (held_by v worker) →
-    IsMade v w worker (Return t) now 24 (limbo c)
+    IsStepUnder v w worker (Return t) now 24 (limbo c)
 return_made v w worker t now c shows is held =
     let down : IsPutDown (moved_to t Unborn (pos 0) w.members) worker 24 held.member.thread Unborn c.slots =
     put_down w.members worker 24 t (held_by v worker) Unborn c.slots held (shows.hands worker) is.under is.slots refl refl in
@@ -406,7 +410,7 @@ return_made v w worker t now c shows is held =
 
 -- a burial
 bury_made : (v : WorldValue) (w : World) (worker t now : ℕ) (c : LimboValue) → Shows v w → IsLimboOf w 24 c → IsInHand w.members worker t (held_by v worker) →
-    IsMade v w worker (Bury t) now 24 (limbo c)
+    IsStepUnder v w worker (Bury t) now 24 (limbo c)
 bury_made v w worker t now c shows is held =
     let down : IsPutDown (moved_to t Gone (pos 0) w.members) worker 24 held.member.thread Gone c.slots =
     put_down w.members worker 24 t (held_by v worker) Gone c.slots held (shows.hands worker) is.under is.slots refl refl in
@@ -424,7 +428,7 @@ bury_made v w worker t now c shows is held =
 
 -- a hatch of this unborn thread
 hatch_made : (v : WorldValue) (w : World) (worker t now : ℕ) (m : Member) (c : LimboValue) → Shows v w → IsLimboOf w 24 c → held_by v worker ≡ None →
-    thread_of t w.members ≡ Some m → m.place ≡ Unborn → IsMade v w worker (Hatch t) now 24 (limbo c)
+    thread_of t w.members ≡ Some m → m.place ≡ Unborn → IsStepUnder v w worker (Hatch t) now 24 (limbo c)
 hatch_made v w worker t now m c shows is empty found place =
     let within : Within t m w.members = within_thread t w.members m shows.made found in
     let up : IsTakenUp (changed t (taken_up worker (λ r. r)) w.members) worker 24 t m.thread c.slots =
@@ -639,10 +643,10 @@ few_queues w c few below = omega arith
 
 -- the step of an event of CPU c
 on_queue : (v : WorldValue) (w : World) (worker : ℕ) (e : Event) (now c : ℕ) → IsAtEvent v w worker e now → lock_for v.values (locking e) ≡ Some c →
-    locks_of w e ≡ c ∷ [] → c < length w.lines → ((u : CpuValue) → IsQueueOf w c u → IsMade v w worker e now c (queue u)) → IsStepOf v w worker e now
+    locks_of w e ≡ c ∷ [] → c < length w.lines → ((u : CpuValue) → IsQueueOf w c u → IsStepUnder v w worker e now c (queue u)) → IsStepOf v w worker e now
 on_queue v w worker e now c at lock locks below made =
     step_from v w worker e now c at lock locks (few_queues w c at.shows.cpus below)
-    (λ has. let q = queue_at w c has.value below at.shows.cpus has.stands in subst (λ x. IsMade v w worker e now c x) (sym q.1) (made q.0 q.2))
+    (λ has. let q = queue_at w c has.value below at.shows.cpus has.stands in subst (λ x. IsStepUnder v w worker e now c x) (sym q.1) (made q.0 q.2))
 
 -- the step of an event that seeks a thread and has none yet
 unbuilt_sought : (v : WorldValue) (w : World) (worker t : ℕ) (e : Event) (now : ℕ) → IsAtEvent v w worker e now → IsSought v w t → is_unbuilt e ≡ true →
@@ -662,7 +666,7 @@ step_shows v w worker (Drop c channel) now at =
 step_shows v w worker (Bed t channel) now at =
     step_from v w worker (Bed t channel) now (16 + channel % 8) at refl refl (let small : channel % 8 < 8 = mod-lt channel (omega arith) in omega arith)
     (λ has. let c = chain_at w channel has.value at.shows.cpus has.stands in
-    subst (λ x. IsMade v w worker (Bed t channel) now (16 + channel % 8) x) (sym c.1)
+    subst (λ x. IsStepUnder v w worker (Bed t channel) now (16 + channel % 8) x) (sym c.1)
     (bed_made v w worker t channel now c.0 at.shows c.2 (holder_holds w.members worker t (held_by v worker) at.shows.made (at.shows.hands worker) at.possible.hand)))
 step_shows v w worker (Wake t) now at =
     let s : IsSought v w t = sought_stands v w worker t at.shows at.possible.declared at.possible.ready at.possible.hand in
@@ -683,20 +687,20 @@ step_shows v w worker (Hatch t) now at =
     let m = unborn_stands w t at.possible.hand.1 in
     step_from v w worker (Hatch t) now 24 at refl refl (omega arith)
     (λ has. let c = limbo_at w has.value at.shows.cpus has.stands in
-    subst (λ x. IsMade v w worker (Hatch t) now 24 x) (sym c.1)
+    subst (λ x. IsStepUnder v w worker (Hatch t) now 24 x) (sym c.1)
     (hatch_made v w worker t now m.0 c.0 at.shows c.2 (empty_hand w worker (held_by v worker) at.shows.made (at.shows.hands worker) at.possible.hand.0) m.1 m.2))
 step_shows v w worker (Fork c t) now at =
     step_from v w worker (Fork c t) now c at refl refl (few_queues w c at.shows.cpus (ltb-true c (length w.lines) at.possible.cpus)) (λ has. unbuilt_made v w worker c (Fork c t) now has at.shows refl)
 step_shows v w worker (Return t) now at =
     step_from v w worker (Return t) now 24 at refl refl (omega arith)
     (λ has. let c = limbo_at w has.value at.shows.cpus has.stands in
-    subst (λ x. IsMade v w worker (Return t) now 24 x) (sym c.1)
+    subst (λ x. IsStepUnder v w worker (Return t) now 24 x) (sym c.1)
     (return_made v w worker t now c.0 at.shows c.2 (holder_holds w.members worker t (held_by v worker) at.shows.made (at.shows.hands worker) at.possible.hand)))
 step_shows v w worker (Exit c) now at =
     step_from v w worker (Exit c) now c at refl refl (few_queues w c at.shows.cpus (ltb-true c (length w.lines) at.possible.cpus)) (λ has. unbuilt_made v w worker c (Exit c) now has at.shows refl)
 step_shows v w worker (Bury t) now at =
     step_from v w worker (Bury t) now 24 at refl refl (omega arith)
     (λ has. let c = limbo_at w has.value at.shows.cpus has.stands in
-    subst (λ x. IsMade v w worker (Bury t) now 24 x) (sym c.1)
+    subst (λ x. IsStepUnder v w worker (Bury t) now 24 x) (sym c.1)
     (bury_made v w worker t now c.0 at.shows c.2 (holder_holds w.members worker t (held_by v worker) at.shows.made (at.shows.hands worker) at.possible.hand)))
 step_shows v w worker (Inherit t run) now at = unbuilt_sought v w worker t (Inherit t run) now at (sought_stands v w worker t at.shows at.possible.declared at.possible.ready at.possible.hand) refl refl refl refl

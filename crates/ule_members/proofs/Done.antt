@@ -18,7 +18,7 @@ use Rattle.ule_model.specs.Frames.{AreTouched, HaveWords, IsTouched, reached, th
 use Rattle.ule_model.specs.Places.{hand_of, is_hand_of, is_number, lock_of}
 use Rattle.ule_model.specs.WellMade.{IsPlace, IsWellMade}
 use Rattle.ule_model.specs.Words.{WordChange, block, point}
-use Rattle.ule_model.specs.World.{Member, World, is_thread, thread_of}
+use Rattle.ule_model.specs.World.{Member, World, is_numbered, thread_of}
 use Rattle.ule_members.proofs.MadeWell.{IsApartFrom, well_made_put}
 use Rattle.ule_members.proofs.Reach.{no_hand_under, reached_by_hand, reached_by_lock, is_number_itself}
 use Rattle.ule_members.proofs.Threads.{find_here, find_kept, find_only, thread_of_within}
@@ -151,27 +151,27 @@ module _ (w : World) (worker : ℕ) (e : Event) (now : ℕ) where
   }
 
   -- a thread of one number is not found by another
-  other_fails : (u t : ℕ) (x : Member) → u ≢ t → x.thread.id ≡ t → (is_thread u x && is_hand_of worker x.place) ≡ false
+  other_fails : (u t : ℕ) (x : Member) → u ≢ t → x.thread.id ≡ t → (is_numbered u x && is_hand_of worker x.place) ≡ false
   other_fails u t x apart number =
-      and_left (is_thread u x) (is_hand_of worker x.place) (ne_eqb x.thread.id u (λ same. apart (sym same ∙ number)))
+      and_left (is_numbered u x) (is_hand_of worker x.place) (ne_eqb x.thread.id u (λ same. apart (sym same ∙ number)))
 
   -- threads that lack a number have none of it in a hand
-  lacks_in_hand : (t : ℕ) (xs : List Member) → Lacks t xs → AllByRecursion (λ x. (is_thread t x && is_hand_of worker x.place) ≡ false) xs
+  lacks_in_hand : (t : ℕ) (xs : List Member) → Lacks t xs → AllByRecursion (λ x. (is_numbered t x && is_hand_of worker x.place) ≡ false) xs
   lacks_in_hand t xs lacks =
-      all_along (λ x. is_thread t x ≡ false) (λ x. (is_thread t x && is_hand_of worker x.place) ≡ false) xs
-      (λ x fails. and_left (is_thread t x) (is_hand_of worker x.place) fails) lacks
+      all_along (λ x. is_numbered t x ≡ false) (λ x. (is_numbered t x && is_hand_of worker x.place) ≡ false) xs
+      (λ x fails. and_left (is_numbered t x) (is_hand_of worker x.place) fails) lacks
 
   module _ (m n : Member) (ms : List Member) (v : Within m.thread.id m ms) (number : n.thread.id ≡ m.thread.id) where
     -- look-up in the worker's hand of another number finds what it found
     hand_other : (u : ℕ) → u ≢ m.thread.id → thread_in_hand worker u (v.before ++ n ∷ v.after) ≡ thread_in_hand worker u ms
     hand_other u apart =
-        find_kept (λ x. is_thread u x && is_hand_of worker x.place) v.before m n v.after
+        find_kept (λ x. is_numbered u x && is_hand_of worker x.place) v.before m n v.after
         (other_fails u m.thread.id m apart refl) (other_fails u m.thread.id n apart number) ∙ ap (thread_in_hand worker u) (sym v.whole)
 
     -- look-up of the thread itself finds it where it is in the hand then
     hand_own : thread_in_hand worker m.thread.id (v.before ++ n ∷ v.after) ≡ (if is_hand_of worker n.place then Some n else None)
     hand_own =
-        find_only (λ x. is_thread m.thread.id x && is_hand_of worker x.place) v.before n v.after
+        find_only (λ x. is_numbered m.thread.id x && is_hand_of worker x.place) v.before n v.after
         (lacks_in_hand m.thread.id v.before v.lacks_before) (lacks_in_hand m.thread.id v.after v.lacks_after) ∙
         ap (λ (b : Bool). if b && is_hand_of worker n.place then Some n else None) (eq-eqb n.thread.id m.thread.id number)
 
@@ -190,9 +190,9 @@ module _ (w : World) (worker : ℕ) (e : Event) (now : ℕ) where
     hand_carried : (change : Option WordChange) → IsOnWordOf m.thread.id change → IsPassedBy change m n → (u : ℕ) →
         thread_in_hand worker u (v.before ++ n ∷ v.after) ≡ in_hand_after w worker e now change u (thread_in_hand worker u ms)
     hand_carried None on handled u =
-        find_kept (λ x. is_thread u x && is_hand_of worker x.place) v.before m n v.after
-        (and_right (is_thread u m) (is_hand_of worker m.place) (ap (is_number worker) handled.0))
-        (and_right (is_thread u n) (is_hand_of worker n.place) (ap (is_number worker) handled.1)) ∙
+        find_kept (λ x. is_numbered u x && is_hand_of worker x.place) v.before m n v.after
+        (and_right (is_numbered u m) (is_hand_of worker m.place) (ap (is_number worker) handled.0))
+        (and_right (is_numbered u n) (is_hand_of worker n.place) (ap (is_number worker) handled.1)) ∙
         ap (thread_in_hand worker u) (sym v.whole)
     hand_carried (Some (block t)) on handled u =
         hand_split t u (taken_member w worker e now t) on (hand_own ∙ cond-true (is_hand_of worker n.place) (Some n) None (is_number_itself worker (hand_of n.place) handled.0) ∙ sym handled.1)
@@ -203,14 +203,14 @@ module _ (w : World) (worker : ℕ) (e : Event) (now : ℕ) where
     holder_other : (u : ℕ) → u ≢ m.thread.id → holder_of (v.before ++ n ∷ v.after) u ≡ holder_of ms u
     holder_other u apart =
         ap (option_and_then (λ (x : Member). hand_of x.place))
-        (find_kept (is_thread u) v.before m n v.after (ne_eqb m.thread.id u (λ same. apart (sym same))) (ne_eqb n.thread.id u (λ same. apart (sym same ∙ number))) ∙
+        (find_kept (is_numbered u) v.before m n v.after (ne_eqb m.thread.id u (λ same. apart (sym same))) (ne_eqb n.thread.id u (λ same. apart (sym same ∙ number))) ∙
         ap (thread_of u) (sym v.whole))
 
     -- the holder of the thread itself is the worker in whose hand it is
     holder_own : holder_of (v.before ++ n ∷ v.after) m.thread.id ≡ hand_of n.place
     holder_own =
         ap (option_and_then (λ (x : Member). hand_of x.place))
-        (find_here (is_thread m.thread.id) v.before n v.after v.lacks_before (eq-eqb n.thread.id m.thread.id number))
+        (find_here (is_numbered m.thread.id) v.before n v.after v.lacks_before (eq-eqb n.thread.id m.thread.id number))
 
     -- where a word changes, the holder is what this says of the thread, and of each other what it was
     holder_split : (t u : ℕ) (own : Option ℕ) → t ≡ m.thread.id → hand_of n.place ≡ own →

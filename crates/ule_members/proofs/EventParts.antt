@@ -17,7 +17,7 @@ use Rattle.ule_model.specs.Sleep.{put_in_hand}
 use Rattle.ule_model.specs.Switch.{choosing_next, running_chosen}
 use Rattle.ule_model.specs.WellMade.{IsPlace, IsWellMade}
 use Rattle.ule_model.specs.Words.{block, point}
-use Rattle.ule_model.specs.World.{Member, Side, World, current_of, is_thread, moved_to, with_change}
+use Rattle.ule_model.specs.World.{Member, Side, World, current_of, is_numbered, moved_to, with_change}
 use Rattle.ule_members.proofs.Done.{IsDone, carried_from_hand, carried_to_hand, carried_under, done_nothing, done_one, held_member, taken_member}
 use Rattle.ule_members.proofs.MadeWell.{IsApartFrom, apart_from_kept, apart_from_off, apart_from_queued, apart_from_running}
 use Rattle.ule_members.proofs.Membership.{has_thread_of}
@@ -96,7 +96,7 @@ module _ (w : World) (worker : ℕ) (e : Event) (now : ℕ) where
       number = (has_thread_of t m ms held.found).1
 
       v : Within m.thread.id m ms
-      v = within_found (is_thread t) ms m made held.found
+      v = within_found (is_numbered t) ms m made held.found
 
   -- ---- a queue
 

@@ -20,7 +20,7 @@ use Rattle.ule_model.specs.Switch.{choosing_next, counted, given_way, insertion_
 use Rattle.ule_model.specs.Tick.{clocked, is_due, load_of, ticked, ticked_with}
 use Rattle.ule_model.specs.WellMade.{IsWellMade}
 use Rattle.ule_model.specs.Words.{block, change_of, point}
-use Rattle.ule_model.specs.World.{Member, Side, World, current_of, fresh_line, is_thread, side_of, thread_of}
+use Rattle.ule_model.specs.World.{Member, Side, World, current_of, fresh_line, is_numbered, side_of, thread_of}
 use Rattle.ule_members.proofs.Done.{IsDone, done_further, done_nothing, held_member, taken_record}
 use Rattle.ule_members.proofs.EventParts.{done_choosing, done_hatched, done_landed, done_noted, done_put, done_requeued, done_taken}
 use Rattle.ule_members.proofs.Membership.{has_thread_of}
@@ -131,7 +131,7 @@ module _ (w : World) (worker now : ℕ) where
           let among : is_among (locks_of w e) (16 + channel % 8) ≡ true =
           ap (λ (o : Option Member). is_among (option_to_list (option_and_then (λ x. lock_of x.place) o)) (16 + channel % 8)) found ∙
           ap (λ (o : Option ℕ). is_among (option_to_list o) (16 + channel % 8)) under ∙ takes_itself (16 + channel % 8) in
-          done_taken w worker e now t (16 + channel % 8) woken_change m w.members (within_found (is_thread t) w.members m made found) among under
+          done_taken w worker e now t (16 + channel % 8) woken_change m w.members (within_found (is_numbered t) w.members m made found) among under
           (has_thread_of t m w.members found).1 tt (ap (option_map (λ x. held_member worker (taken_record w.settings now e x.thread))) found)
 
       at_place : (m : Member) → thread_of t w.members ≡ Some m → (place : Place) → m.place ≡ place →
@@ -155,7 +155,7 @@ module _ (w : World) (worker now : ℕ) where
       let h : IsHeld w.members t worker = held_found w.members t worker held in
       let m : Member = h.member in
       subst (λ (o : Option Member). IsDone w worker (event.Land t c) now (Some (point t c)) w.members (landed_with o c worker now (side_of c w)).0.members) (sym h.found)
-      (done_landed w worker (event.Land t c) now Ordinary c (placed c) m (side_of c w) (within_found (is_thread t) w.members m made h.found) t refl (takes_itself c)
+      (done_landed w worker (event.Land t c) now Ordinary c (placed c) m (side_of c w) (within_found (is_numbered t) w.members m made h.found) t refl (takes_itself c)
       h.hand (has_thread_of t m w.members h.found).1 tt index)
 
   -- ---- birth and burial
@@ -168,7 +168,7 @@ module _ (w : World) (worker now : ℕ) where
       let m : Member = h.member in
       let number : m.thread.id ≡ t = (has_thread_of t m w.members h.found).1 in
       subst (λ (u : ℕ). IsDone w worker (event.Hatch t) now (Some (block t)) w.members (hatched u worker w.members).0) number
-      (done_hatched w worker (event.Hatch t) now t 24 m w.members (within_found (is_thread t) w.members m made h.found) (takes_itself 24) (ap lock_of h.place) number
+      (done_hatched w worker (event.Hatch t) now t 24 m w.members (within_found (is_numbered t) w.members m made h.found) (takes_itself 24) (ap lock_of h.place) number
       (ap (option_map (λ x. held_member worker (taken_record w.settings now (event.Hatch t) x.thread))) h.found))
 
   -- a return makes the thread in hand unborn

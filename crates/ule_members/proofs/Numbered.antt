@@ -11,10 +11,10 @@ use Rattle.ule_types.specs.declared.event.Event.{Event}
 use Rattle.ule_model.specs.Conditions.{IsByIfReached, IsPossible}
 use Rattle.ule_model.specs.Events.{is_reached}
 use Rattle.ule_model.specs.Frames.{AreTouched, IsTouched, left, reached}
-use Rattle.ule_model.specs.Shows.{ids_of}
+use Rattle.ule_model.specs.Shows.{numbers_of}
 use Rattle.ule_model.specs.Step.{step}
 use Rattle.ule_model.specs.WellMade.{IsMade, IsWellMadeWorld}
-use Rattle.ule_model.specs.World.{Member, World, is_thread, thread_of}
+use Rattle.ule_model.specs.World.{Member, World, is_numbered, thread_of}
 use Rattle.ule_score.proofs.ChangeLaws.{change_by_now, change_bounds, change_numbers}
 use Rattle.ule_members.proofs.Steps.{step_is_made, step_touches}
 use Rattle.ule_members.proofs.Touches.{touched_number}
@@ -53,12 +53,12 @@ pub record IsFoundTouched (w : World) (worker : ℕ) (e : Event) (now : ℕ) (m 
 
 module _ (w : World) (worker : ℕ) (e : Event) (now : ℕ) where
   -- threads that are touched or left have their numbers
-  pub touched_numbers : (ms ns : List Member) → AreTouched w worker e now ms ns → ids_of ns ≡ ids_of ms
+  pub touched_numbers : (ms ns : List Member) → AreTouched w worker e now ms ns → numbers_of ns ≡ numbers_of ms
   touched_numbers [] [] touched = refl
   touched_numbers [] (n ∷ ns) touched = absurd touched
   touched_numbers (m ∷ ms) [] touched = absurd touched
   touched_numbers (m ∷ ms) (n ∷ ns) touched =
-      ap (λ (u : ℕ). u ∷ ids_of ns) (touched_number w worker e now m n touched.0) ∙ ap (λ (us : List ℕ). m.thread.id ∷ us) (touched_numbers ms ns touched.1)
+      ap (λ (u : ℕ). u ∷ numbers_of ns) (touched_number w worker e now m n touched.0) ∙ ap (λ (us : List ℕ). m.thread.id ∷ us) (touched_numbers ms ns touched.1)
 
   -- a number finds among them a thread that is touched or left, or none both times
   pub touched_found : (u : ℕ) (ms ns : List Member) → AreTouched w worker e now ms ns → IsFoundTouched w worker e now (thread_of u ms) (thread_of u ns)
@@ -67,7 +67,7 @@ module _ (w : World) (worker : ℕ) (e : Event) (now : ℕ) where
   touched_found u (m ∷ ms) [] touched = absurd touched
   touched_found u (m ∷ ms) (n ∷ ns) touched =
       subst (λ (d : Bool). IsFoundTouched w worker e now (thread_of u (m ∷ ms)) (if d then Some n else thread_of u ns))
-      (ap (λ (i : ℕ). i == u) (sym (touched_number w worker e now m n touched.0))) (split (is_thread u m) (touched_found u ms ns touched.1))
+      (ap (λ (i : ℕ). i == u) (sym (touched_number w worker e now m n touched.0))) (split (is_numbered u m) (touched_found u ms ns touched.1))
     where
       split : (d : Bool) → IsFoundTouched w worker e now (thread_of u ms) (thread_of u ns) →
           IsFoundTouched w worker e now (if d then Some m else thread_of u ms) (if d then Some n else thread_of u ns)
@@ -91,7 +91,7 @@ module _ (w : World) (worker : ℕ) (e : Event) (now : ℕ) where
     -- ---- after a step
 
     -- the numbers of the threads stay
-    pub step_numbers : ids_of (step w worker e now).0.members ≡ ids_of w.members
+    pub step_numbers : numbers_of (step w worker e now).0.members ≡ numbers_of w.members
     step_numbers = touched_numbers w.members (step w worker e now).0.members (step_touches w worker e now made possible)
 
     -- each number finds a thread that the step touches or leaves, or none before and after

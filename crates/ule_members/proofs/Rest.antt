@@ -25,7 +25,7 @@ use Rattle.ule_model.specs.Insertion.{members_in, queued, with_queued}
 use Rattle.ule_model.specs.Landing.{landed, landed_with}
 use Rattle.ule_model.specs.Sleep.{dropped, dropped_with, taken}
 use Rattle.ule_model.specs.Step.{step}
-use Rattle.ule_model.specs.Switch.{after_leaving, after_removal, choosing_next, counted, given_way, insertion_of, is_preemption, is_unasked, running_chosen, switched, switched_from, unmarked}
+use Rattle.ule_model.specs.Switch.{after_leaving, after_queue_removal, choosing_next, counted, given_way, insertion_of, is_preemption, is_unasked, running_chosen, switched, switched_from, unmarked}
 use Rattle.ule_model.specs.Tick.{clocked, is_due, load_of, ticked, ticked_with, word_after_tick}
 use Rattle.ule_model.specs.WellMade.{HaveIndexes}
 use Rattle.ule_model.specs.World.{Member, Side, World, current_of, fresh_line, others, side_of, thread_of, with_change, with_side}
@@ -59,7 +59,7 @@ turn_within idx ridx is_empty at =
     cond_both ((idx == ridx) && is_empty) ((idx + 1) % 64) ridx (λ i. i < 64) (λ e. omega arith) (λ e. at)
 
 -- the removal index after a thread left a queue is that of a bucket
-after_removal_within : (k : Kind) (c : ℕ) (line : CpuLine) (rest : List Member) → line.ridx < 64 → (after_removal k c line rest).ridx < 64
+after_removal_within : (k : Kind) (c : ℕ) (line : CpuLine) (rest : List Member) → line.ridx < 64 → (after_queue_removal k c line rest).ridx < 64
 after_removal_within Real c line rest at = at
 after_removal_within Batch c line rest at = removal_within line.idx line.ridx (length (members_in c Batch line.ridx rest) == 0) at
 after_removal_within Idle c line rest at = at

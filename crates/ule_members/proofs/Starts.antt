@@ -18,6 +18,7 @@ use Rattle.ule_score.specs.declared.record.CpuLine.{CpuLine}
 use Rattle.ule_score.specs.declared.record.Settings.{Settings}
 use Rattle.ule_score.specs.declared.record.ThreadRecord.{ThreadRecord}
 use Rattle.ule_types.specs.Commands.{is_among}
+use Rattle.ule_types.proofs.Repeats.{distinct_front}
 use Rattle.ule_types.specs.Form.{IsOfForm}
 use Rattle.ule_types.specs.Rules.{declared_ids, is_distinct, is_form, is_nice, is_spec}
 use Rattle.ule_types.specs.declared.setup.Form.{Form}
@@ -27,10 +28,10 @@ use Rattle.ule_types.specs.declared.setup.ThreadSpec.{ThreadSpec}
 use Rattle.ule_model.specs.declared.insertion.Insertion.TheVariants.{Ordinary}
 use Rattle.ule_model.specs.Insertion.{order_of_insertion, place_of_insertion, with_queued}
 use Rattle.ule_model.specs.Places.{hand_of}
-use Rattle.ule_model.specs.Shows.{ids_of}
-use Rattle.ule_model.specs.Start.{base_of, class_of, empty_world, first_line, fresh_history, fresh_use, laid, laid_on, nice_of, record_of, starting_time, unborn_member, unborn_record, with_unborn, world_at_start}
+use Rattle.ule_model.specs.Shows.{numbers_of}
+use Rattle.ule_model.specs.Start.{base_of, class_of, empty_world, start_line, fresh_history, fresh_use, laid, laid_on, nice_of, record_of, starting_time, unborn_member, unborn_record, with_unborn, world_at_start}
 use Rattle.ule_model.specs.WellMade.{AreApart, IsWellMade, IsWellMadeWorld}
-use Rattle.ule_model.specs.World.{Member, Side, World, fresh_line, is_thread, others, side_of, thread_of, with_side}
+use Rattle.ule_model.specs.World.{Member, Side, World, fresh_line, is_numbered, others, side_of, thread_of, with_side}
 use Rattle.ule_members.proofs.Lists.{drop_at}
 use Rattle.ule_members.proofs.MadeWell.{queued_made}
 use Rattle.ule_members.proofs.Rest.{all_at, all_set}
@@ -145,10 +146,10 @@ unborn_fresh cpus t small = (
 -- ---- a thread appended
 
 -- a thread whose number is none of these is apart from all
-pub apart_from_new : (r : ThreadRecord) (ms : List Member) → is_among (ids_of ms) r.id ≡ false → AllByRecursion (AreApart (unborn_member r)) ms
+pub apart_from_new : (r : ThreadRecord) (ms : List Member) → is_among (numbers_of ms) r.id ≡ false → AllByRecursion (AreApart (unborn_member r)) ms
 apart_from_new r [] new = tt
 apart_from_new r (m ∷ ms) new =
-    let parts = or_parts (m.thread.id == r.id) (is_among (ids_of ms) r.id) new in (
+    let parts = or_parts (m.thread.id == r.id) (is_among (numbers_of ms) r.id) new in (
       record {
         numbers = λ same. both_ways (m.thread.id == r.id) parts.0 (eq-eqb m.thread.id r.id (sym same));
         orders = λ c k b here there same. false≢true here;
@@ -158,7 +159,7 @@ apart_from_new r (m ∷ ms) new =
     )
 
 -- threads stay well made with one more that is unborn and has a new number
-pub made_with_new : (r : ThreadRecord) (ms : List Member) → HasNumbers r → is_among (ids_of ms) r.id ≡ false → IsWellMade ms → IsWellMade (ms ++ unborn_member r ∷ [])
+pub made_with_new : (r : ThreadRecord) (ms : List Member) → HasNumbers r → is_among (numbers_of ms) r.id ≡ false → IsWellMade ms → IsWellMade (ms ++ unborn_member r ∷ [])
 made_with_new r ms numbers new made =
     well_made_between ms (unborn_member r) [] (subst IsWellMade (sym (append-nil ms)) made) (record { numbers = numbers; place = tt }) (apart_from_new r ms new) tt
 
@@ -187,22 +188,11 @@ distinct_new (i ∷ is) t rest distinct =
         by_first false further = further
 
 -- a number that none of some threads has finds none of them
-pub new_number : (t : ℕ) (ms : List Member) → is_among (ids_of ms) t ≡ false → thread_of t ms ≡ None
+pub new_number : (t : ℕ) (ms : List Member) → is_among (numbers_of ms) t ≡ false → thread_of t ms ≡ None
 new_number t [] new = refl
 new_number t (m ∷ ms) new =
-    let parts = or_parts (m.thread.id == t) (is_among (ids_of ms) t) new in
+    let parts = or_parts (m.thread.id == t) (is_among (numbers_of ms) t) new in
     cond-false (m.thread.id == t) (Some m) (thread_of t ms) parts.0 ∙ new_number t ms parts.1
-
--- of a list without repetitions the front has none
-pub distinct_front : (xs ys : List ℕ) → is_distinct (xs ++ ys) ≡ true → is_distinct xs ≡ true
-distinct_front [] ys distinct = refl
-distinct_front (x ∷ xs) ys distinct =
-    let both = and_parts (not (is_among (xs ++ ys) x)) (is_distinct (xs ++ ys)) distinct in
-    and_from (not (is_among xs x)) (is_distinct xs) (ap not (front xs (not-true (is_among (xs ++ ys) x) both.0))) (distinct_front xs ys both.1)
-  where
-    front : (us : List ℕ) → is_among (us ++ ys) x ≡ false → is_among us x ≡ false
-    front [] none = refl
-    front (u ∷ us) none = let parts = or_parts (u == x) (is_among (us ++ ys) x) none in or_from (u == x) (is_among us x) parts.0 (front us parts.1)
 
 -- an element of a list parts it
 pub parted_at : {X : Type 0} (xs : List X) (k : ℕ) (x : X) → slice_get xs k ≡ Some x → xs ≡ take k xs ++ x ∷ drop (k + 1) xs
@@ -228,9 +218,9 @@ newly_laid w spec = laid_member spec.cpu (record_of w.settings spec) (side_of sp
 -- the side with a thread of a new number laid has it behind the others
 pub laid_on_is : (c : ℕ) (r : ThreadRecord) (s : Side) → thread_of r.id s.members ≡ None → laid_on c r s ≡ record s { members = s.members ++ laid_member c r s ∷ [] }
 laid_on_is c r s new =
-    ap (λ o. with_queued Ordinary c o (record s { members = s.members ++ unborn_member r ∷ [] })) (find-appended_new (is_thread r.id) s.members (unborn_member r) new (eq-eqb r.id r.id refl)) ∙
+    ap (λ o. with_queued Ordinary c o (record s { members = s.members ++ unborn_member r ∷ [] })) (find-appended_new (is_numbered r.id) s.members (unborn_member r) new (eq-eqb r.id r.id refl)) ∙
     ap (λ (ms : List Member). record s { members = ms })
-    (changed_between r.id (λ n. record n { place = (laid_member c r s).place; order = (laid_member c r s).order }) s.members (unborn_member r) [] (none_passes (is_thread r.id) s.members new) refl tt)
+    (changed_between r.id (λ n. record n { place = (laid_member c r s).place; order = (laid_member c r s).order }) s.members (unborn_member r) [] (none_passes (is_numbered r.id) s.members new) refl tt)
 
 -- laying a thread of a new number puts it behind the others, and changes nothing else
 pub laid_is : (w : World) (spec : ThreadSpec) → thread_of spec.id w.members ≡ None → laid w spec ≡ with_member (newly_laid w spec) w
@@ -271,7 +261,7 @@ queued_at_start cpus (Hand w) is = absurd is
 pub record IsLaid (P : Place → Type 0) (cpus : ℕ) (settings : Settings) (ids : List ℕ) (w : World) : Type 0 where
   pub settings_are : w.settings ≡ settings
   pub count : length w.lines ≡ cpus
-  pub ids_are : ids_of w.members ≡ ids
+  pub ids_are : numbers_of w.members ≡ ids
   pub records : AllByRecursion (λ m. IsFreshRecord cpus m.thread) w.members
   pub made : IsWellMadeWorld w
   pub places : AllByRecursion (λ m. P m.place) w.members
@@ -379,12 +369,12 @@ good_numbers s form = record {
 empty_laid : (s : Setup) → IsLaid (IsQueuedBelow s.cpus) s.cpus s.settings [] (empty_world s)
 empty_laid s = record {
   settings_are = refl;
-  count = length-set (replicate s.cpus fresh_line) 0 (first_line s.jitter) ∙ length-replicate s.cpus fresh_line;
+  count = length-set (replicate s.cpus fresh_line) 0 (start_line s.jitter) ∙ length-replicate s.cpus fresh_line;
   ids_are = refl;
   records = tt;
   made = record {
     members = record { each = tt; apart = tt };
-    indexes = all_set (λ line. line.ridx < 64) (replicate s.cpus fresh_line) 0 (first_line s.jitter) (all_copies (λ line. line.ridx < 64) s.cpus fresh_line (omega arith)) (omega arith);
+    indexes = all_set (λ line. line.ridx < 64) (replicate s.cpus fresh_line) 0 (start_line s.jitter) (all_copies (λ line. line.ridx < 64) s.cpus fresh_line (omega arith)) (omega arith);
   };
   places = tt;
 }

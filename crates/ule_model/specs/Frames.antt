@@ -9,17 +9,17 @@ use Rattle.ule_model.specs.Places.{is_hand_of, is_under, lock_of}
 use Rattle.ule_model.specs.Step.{step}
 use Rattle.ule_model.specs.WellMade.{IsWellMadeWorld}
 use Rattle.ule_model.specs.Words.{WordChange, block, change_of, point}
-use Rattle.ule_model.specs.World.{Member, World, fresh_line, is_thread}
+use Rattle.ule_model.specs.World.{Member, World, fresh_line, is_numbered}
 
 -- ---- look-ups
 
 -- thread t, if its place lies under lock l
 abbrev pub thread_under : ℕ → ℕ → List Member → Option Member
-thread_under l t ms = find (λ m. is_thread t m && is_under l m.place) ms
+thread_under l t ms = find (λ m. is_numbered t m && is_under l m.place) ms
 
 -- thread t, if it is in worker h's hand
 abbrev pub thread_in_hand : ℕ → ℕ → List Member → Option Member
-thread_in_hand h t ms = find (λ m. is_thread t m && is_hand_of h m.place) ms
+thread_in_hand h t ms = find (λ m. is_numbered t m && is_hand_of h m.place) ms
 
 -- ---- the threads
 
@@ -40,8 +40,8 @@ AreTouched w worker e now (m ∷ ms) (n ∷ ns) = IsTouched w worker e now m n �
 -- the lock that a thread's word names after this change, where it named the lock of the thread's place
 abbrev pub word_after : Option WordChange → Member → Option ℕ
 word_after None m = lock_of m.place
-word_after (Some (block t)) m = if is_thread t m then None else lock_of m.place
-word_after (Some (point t l)) m = if is_thread t m then Some l else lock_of m.place
+word_after (Some (block t)) m = if is_numbered t m then None else lock_of m.place
+word_after (Some (point t l)) m = if is_numbered t m then Some l else lock_of m.place
 
 -- each thread's lock afterwards is the one that its word names then
 abbrev pub HaveWords : Option WordChange → List Member → List Member → Type 0

@@ -30,8 +30,8 @@ abbrev pub own_of : ℕ → ℕ → ℕ → Own
 own_of jitter cpus worker = record { worker = worker; cpus = cpus; stage = stage.Ended; looks = []; jitter = (jitter + worker) % 2 ^ 32 }
 
 -- a command that has no items yet; no scenario that is accepted has one
-abbrev pub not_built : Stage
-not_built = stage.Ended
+abbrev pub no_stage_built : Stage
+no_stage_built = stage.Ended
 
 -- where a command begins
 abbrev pub first_stage : Command → Stage
@@ -41,14 +41,14 @@ first_stage command.Yield = stage.Switches why.Yield
 first_stage command.Resched = stage.Switches why.Resched
 first_stage (command.Sleep channel) = stage.Drops channel
 first_stage (command.Wake t) = stage.Wakes t
-first_stage (command.Lend t p) = not_built
-first_stage (command.Unlend t) = not_built
-first_stage (command.Renice t n) = not_built
-first_stage (command.Fork t) = not_built
-first_stage command.Exit = not_built
-first_stage command.Idle = not_built
-first_stage command.Balance = not_built
-first_stage (command.Look c) = not_built
+first_stage (command.Lend t p) = no_stage_built
+first_stage (command.Unlend t) = no_stage_built
+first_stage (command.Renice t n) = no_stage_built
+first_stage (command.Fork t) = no_stage_built
+first_stage command.Exit = no_stage_built
+first_stage command.Idle = no_stage_built
+first_stage command.Balance = no_stage_built
+first_stage (command.Look c) = no_stage_built
 
 -- the command begun
 abbrev pub begun : Command → Own → Own

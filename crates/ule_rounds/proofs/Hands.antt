@@ -18,7 +18,7 @@ use Rattle.ule_model.specs.Sleep.{dropped_with, woken_at, woken_with}
 use Rattle.ule_model.specs.Step.{step}
 use Rattle.ule_model.specs.WellMade.{IsWellMade, IsWellMadeWorld}
 use Rattle.ule_model.specs.Words.{change_of}
-use Rattle.ule_model.specs.World.{Member, World, current_of, is_thread, side_of, thread_of}
+use Rattle.ule_model.specs.World.{Member, World, current_of, is_numbered, side_of, thread_of}
 use Rattle.ule_members.proofs.Done.{held_member, in_hand_after, taken_member, taken_record}
 use Rattle.ule_members.proofs.Lists.{slice_get-set_other, slice_get-set_same}
 use Rattle.ule_members.proofs.Reach.{number_from_test}
@@ -32,11 +32,11 @@ use Rattle.ule_rounds.proofs.Stages.{AtItem, FitsHand, at_event}
 -- ---- look-ups in a hand
 
 -- a thread whose place is a worker's hand is found there
-pub held_found : (h t : ℕ) (ms : List Member) → holder_of ms t ≡ Some h → is_some (thread_in_hand h t ms) ≡ true
-held_found h t [] held = absurd (none-some h held)
-held_found h t (m ∷ ms) held = step (is_thread t m) refl held (held_found h t ms)
+pub held_in_hand : (h t : ℕ) (ms : List Member) → holder_of ms t ≡ Some h → is_some (thread_in_hand h t ms) ≡ true
+held_in_hand h t [] held = absurd (none-some h held)
+held_in_hand h t (m ∷ ms) held = step (is_numbered t m) refl held (held_in_hand h t ms)
   where
-    step : (b : Bool) → is_thread t m ≡ b → option_and_then (λ (x : Member). hand_of x.place) (if b then Some m else thread_of t ms) ≡ Some h →
+    step : (b : Bool) → is_numbered t m ≡ b → option_and_then (λ (x : Member). hand_of x.place) (if b then Some m else thread_of t ms) ≡ Some h →
         (holder_of ms t ≡ Some h → is_some (thread_in_hand h t ms) ≡ true) →
         is_some (if b && is_hand_of h m.place then Some m else thread_in_hand h t ms) ≡ true
     step true is here rest =
@@ -51,8 +51,8 @@ found_held h t ms made found = at_found (thread_in_hand h t ms) refl found
     at_found : (o : Option Member) → thread_in_hand h t ms ≡ o → is_some o ≡ true → holder_of ms t ≡ Some h
     at_found None is some = absurd (false≢true some)
     at_found (Some m) is some =
-        let test = λ (n : Member). is_thread t n && is_hand_of h n.place in
-        let both = and_parts (is_thread t m) (is_hand_of h m.place) (found_at test ms m is).passes in
+        let test = λ (n : Member). is_numbered t n && is_hand_of h n.place in
+        let both = and_parts (is_numbered t m) (is_hand_of h m.place) (found_at test ms m is).passes in
         let by_number : thread_of m.thread.id ms ≡ Some m = thread_of_within m.thread.id m ms (within_found test ms m made is) in
         ap (holder_of ms) (sym (eqb-true m.thread.id t both.0)) ∙ ap (option_and_then (λ (x : Member). hand_of x.place)) by_number ∙
         number_from_test h (hand_of m.place) both.1
@@ -175,7 +175,7 @@ pub hand_handled : (w : World) (worker : ℕ) (courses : List Course) (hand : Op
     hand_at courses worker ≡ hand → FitsHand hand needs → IsHandled w worker needs
 hand_handled w worker courses hand any made agree is fits = tt
 hand_handled w worker courses hand empty made agree is fits = λ t held.
-    true≢false (sym (held_found worker t w.members held) ∙ agree worker t ∙ ap (is_number t) (is ∙ fits))
+    true≢false (sym (held_in_hand worker t w.members held) ∙ agree worker t ∙ ap (is_number t) (is ∙ fits))
 hand_handled w worker courses hand (unborn t) made agree is fits = absurd fits
 hand_handled w worker courses hand (has t) made agree is fits =
     found_held worker t w.members made (agree worker t ∙ ap (is_number t) (is ∙ fits) ∙ eq-eqb t t refl)

@@ -23,11 +23,11 @@ use Rattle.ule_model.specs.Legal.{after_entry}
 use Rattle.ule_model.specs.Places.{is_hand_of, is_number}
 use Rattle.ule_model.specs.Program.{Course, in_hand, item_at, next_step}
 use Rattle.ule_model.specs.Rounds.{Play, after_item, entry_of, greatest_rounds, opening, performed, turn}
-use Rattle.ule_model.specs.Shows.{ids_of}
+use Rattle.ule_model.specs.Shows.{numbers_of}
 use Rattle.ule_model.specs.Start.{starting_time, world_at_start}
 use Rattle.ule_model.specs.Step.{step}
 use Rattle.ule_model.specs.WellMade.{IsWellMadeWorld}
-use Rattle.ule_model.specs.World.{Member, is_thread, thread_of}
+use Rattle.ule_model.specs.World.{Member, is_numbered, thread_of}
 use Rattle.ule_members.proofs.Numbered.{step_bounds, step_by_now, step_numbers}
 use Rattle.ule_members.proofs.Rest.{step_leaves_rest}
 use Rattle.ule_members.proofs.Steps.{step_is_made}
@@ -55,7 +55,7 @@ pub record IsUnderWay (s : Setup) (p : Play) : Type 0 where
   pub courses : (worker : ℕ) (course : Course) → slice_get p.courses worker ≡ Some course → HasOrder (ids_in s) s.cpus worker course
   pub settings : p.world.settings ≡ s.settings
   pub lines : length p.world.lines ≡ s.cpus
-  pub ids : ids_of p.world.members ≡ ids_in s
+  pub ids : numbers_of p.world.members ≡ ids_in s
   pub made : IsWellMadeWorld p.world
   pub bounds : KeepsRecords p.world
   pub by_now : AllByRecursion (λ m. IsBy p.now m.thread) p.world.members
@@ -81,7 +81,7 @@ worker_below s p worker course kept got = subst (λ n. worker < n) kept.legal.co
 -- threads of which none is in a hand are found in no hand
 free_hands : (h t : ℕ) (ms : List Member) → AreFree ms → is_some (thread_in_hand h t ms) ≡ false
 free_hands h t [] free = refl
-free_hands h t (m ∷ ms) free = by_test (is_thread t m) (ap (is_number h) free.0) (free_hands h t ms free.1)
+free_hands h t (m ∷ ms) free = by_test (is_numbered t m) (ap (is_number h) free.0) (free_hands h t ms free.1)
   where
     by_test : (b : Bool) → is_hand_of h m.place ≡ false → is_some (thread_in_hand h t ms) ≡ false →
         is_some (if b && is_hand_of h m.place then Some m else thread_in_hand h t ms) ≡ false
@@ -120,11 +120,11 @@ under_way_opening s form = record {
 -- ---- what the next event needs
 
 -- a number among those of the threads finds one
-pub found_among : (t : ℕ) (ms : List Member) → is_among (ids_of ms) t ≡ true → IsSome (thread_of t ms)
+pub found_among : (t : ℕ) (ms : List Member) → is_among (numbers_of ms) t ≡ true → IsSome (thread_of t ms)
 found_among t [] among = absurd (false≢true among)
-found_among t (m ∷ ms) among = by_test (is_thread t m) among (found_among t ms)
+found_among t (m ∷ ms) among = by_test (is_numbered t m) among (found_among t ms)
   where
-    by_test : (b : Bool) → (b || is_among (ids_of ms) t) ≡ true → (is_among (ids_of ms) t ≡ true → IsSome (thread_of t ms)) → IsSome (if b then Some m else thread_of t ms)
+    by_test : (b : Bool) → (b || is_among (numbers_of ms) t) ≡ true → (is_among (numbers_of ms) t ≡ true → IsSome (thread_of t ms)) → IsSome (if b then Some m else thread_of t ms)
     by_test true is rest = refl
     by_test false is rest = rest is
 

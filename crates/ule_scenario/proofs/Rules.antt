@@ -15,8 +15,8 @@ use Rattle.ule_types.specs.Rules.{are_settings, are_numbers, are_turns, is_disti
 use Rattle.ule_types.specs.declared.command.Command.{Command}
 use Rattle.ule_types.specs.declared.setup.GroupLine.{GroupLine}
 use Rattle.ule_types.specs.declared.setup.ThreadSpec.{ThreadSpec}
-use Rattle.ule_scenario.specs.Scenario.{GivenSettings, settings_of, thread_in, unborn_in}
-use Rattle.ule_scenario.specs.Sections.{IsGivenWithin, AreGiven, is_in_range, is_thread, is_unborn, is_declaration, is_spellable, declared_by, ids_of, forked_in, AreScripts}
+use Rattle.ule_scenario.specs.Scenario.{GivenSettings, settings_of, queued_by, unborn_in}
+use Rattle.ule_scenario.specs.Sections.{IsGivenWithin, AreGiven, is_in_range, is_thread, can_be_unborn, is_declaration, is_spellable, declared_by, ids_of, forked_in, AreScripts}
 use Rattle.ule_scenario.specs.declared.declaration.Declaration.{Declaration}
 use Rattle.ule_scenario.specs.declared.declaration.Declaration.TheVariants.{Queued, Unborn}
 use Rattle.ule_scenario.specs.declared.declaration.Declared.{Declared}
@@ -32,8 +32,8 @@ all_weaker p q each (x ∷ xs) all =
     and_from (q x) (list_all q xs) (each x parts.0) (all_weaker p q each xs parts.1)
 
 -- each at the front passes
-pub all_front : {A : Type 0} (p : A → Bool) (n : ℕ) (xs : List A) → list_all p xs ≡ true → list_all p (take n xs) ≡ true
-all_front p n xs all =
+pub passes_front : {A : Type 0} (p : A → Bool) (n : ℕ) (xs : List A) → list_all p xs ≡ true → list_all p (take n xs) ≡ true
+passes_front p n xs all =
     (and_parts (list_all p (take n xs)) (list_all p (drop n xs)) (sym (list_all-append p (take n xs) (drop n xs)) ∙ ap (list_all p) (take-append-drop n xs) ∙ all)).0
 
 -- empty lists pass a test that the empty list passes
@@ -75,12 +75,12 @@ ticks_of_front cpus scripts some =
     ap (λ (script : List Command). ltb cpus 2 || nat_le (count_by is_tick script) 63) (get_or-take cpus scripts 0 [] some)
 
 -- each of two tests of each
-pub all_both : {A : Type 0} (p q r : A → Bool) → ((x : A) → p x ≡ true → q x ≡ true → r x ≡ true) → (xs : List A) → list_all p xs ≡ true → list_all q xs ≡ true → list_all r xs ≡ true
-all_both p q r each [] all all' = refl
-all_both p q r each (x ∷ xs) all all' =
+pub passes_both : {A : Type 0} (p q r : A → Bool) → ((x : A) → p x ≡ true → q x ≡ true → r x ≡ true) → (xs : List A) → list_all p xs ≡ true → list_all q xs ≡ true → list_all r xs ≡ true
+passes_both p q r each [] all all' = refl
+passes_both p q r each (x ∷ xs) all all' =
     let parts = and_parts (p x) (list_all p xs) all in
     let parts' = and_parts (q x) (list_all q xs) all' in
-    and_from (r x) (list_all r xs) (each x parts.0 parts'.0) (all_both p q r each xs parts.1 parts'.1)
+    and_from (r x) (list_all r xs) (each x parts.0 parts'.0) (passes_both p q r each xs parts.1 parts'.1)
 
 -- a test of each of several lists, put together
 all_flat : {A B : Type 0} (p : B → Bool) (f : A → List B) (xs : List A) → list_all (λ x. list_all p (f x)) xs ≡ true → list_all p (flat_map f xs) ≡ true
@@ -109,32 +109,32 @@ forks_of_front cpus m scripts others =
 -- what the threads are that declarations declare
 pub record AreDeclared (cpus : ℕ) (declared : Declared) : Type 0 where
   pub threads : list_all (is_thread cpus) declared.threads ≡ true
-  pub unborn : list_all (is_unborn cpus) declared.unborn ≡ true
+  pub unborn : list_all (can_be_unborn cpus) declared.unborn ≡ true
 
 -- the threads of declarations that lines can be
 pub declared_parts : (cpus : ℕ) (ds : List Declaration) → list_all (is_declaration cpus) ds ≡ true → AreDeclared cpus (declared_by ds)
 declared_parts cpus ds all = record {
-  threads = all_flat (is_thread cpus) thread_in ds (all_weaker (is_declaration cpus) (λ d. list_all (is_thread cpus) (thread_in d)) thread_good ds all);
-  unborn = all_flat (is_unborn cpus) unborn_in ds (all_weaker (is_declaration cpus) (λ d. list_all (is_unborn cpus) (unborn_in d)) unborn_good ds all);
+  threads = all_flat (is_thread cpus) queued_by ds (all_weaker (is_declaration cpus) (λ d. list_all (is_thread cpus) (queued_by d)) thread_good ds all);
+  unborn = all_flat (can_be_unborn cpus) unborn_in ds (all_weaker (is_declaration cpus) (λ d. list_all (can_be_unborn cpus) (unborn_in d)) unborn_good ds all);
 }
   where
-    thread_good : (d : Declaration) → is_declaration cpus d ≡ true → list_all (is_thread cpus) (thread_in d) ≡ true
+    thread_good : (d : Declaration) → is_declaration cpus d ≡ true → list_all (is_thread cpus) (queued_by d) ≡ true
     thread_good (Queued spec) good = and_from (is_thread cpus spec) true good refl
     thread_good (Unborn t) good = refl
 
-    unborn_good : (d : Declaration) → is_declaration cpus d ≡ true → list_all (is_unborn cpus) (unborn_in d) ≡ true
+    unborn_good : (d : Declaration) → is_declaration cpus d ≡ true → list_all (can_be_unborn cpus) (unborn_in d) ≡ true
     unborn_good (Queued spec) good = refl
-    unborn_good (Unborn t) good = and_from (is_unborn cpus t) true good refl
+    unborn_good (Unborn t) good = and_from (can_be_unborn cpus t) true good refl
 
 -- declarations of such threads can be lines
 pub declared_from : (cpus : ℕ) (ds : List Declaration) → AreDeclared cpus (declared_by ds) → list_all (is_declaration cpus) ds ≡ true
 declared_from cpus ds all =
-    all_both (λ d. list_all (is_thread cpus) (thread_in d)) (λ d. list_all (is_unborn cpus) (unborn_in d)) (is_declaration cpus) good ds
-    (all_of_flat (is_thread cpus) thread_in ds all.threads) (all_of_flat (is_unborn cpus) unborn_in ds all.unborn)
+    passes_both (λ d. list_all (is_thread cpus) (queued_by d)) (λ d. list_all (can_be_unborn cpus) (unborn_in d)) (is_declaration cpus) good ds
+    (all_of_flat (is_thread cpus) queued_by ds all.threads) (all_of_flat (can_be_unborn cpus) unborn_in ds all.unborn)
   where
-    good : (d : Declaration) → list_all (is_thread cpus) (thread_in d) ≡ true → list_all (is_unborn cpus) (unborn_in d) ≡ true → is_declaration cpus d ≡ true
+    good : (d : Declaration) → list_all (is_thread cpus) (queued_by d) ≡ true → list_all (can_be_unborn cpus) (unborn_in d) ≡ true → is_declaration cpus d ≡ true
     good (Queued spec) thread unborn = (and_parts (is_thread cpus spec) true thread).0
-    good (Unborn t) thread unborn = (and_parts (is_unborn cpus t) true unborn).0
+    good (Unborn t) thread unborn = (and_parts (can_be_unborn cpus t) true unborn).0
 
 -- whether each number is one of 0..255
 abbrev pub are_bytes : List ℕ → Bool
@@ -153,7 +153,7 @@ bytes_of_declared cpus declared all =
     let first : List ℕ = map (λ spec. spec.id) declared.threads in
     list_all-append (λ t. ltb t 256) first declared.unborn
     ∙ and_from (are_bytes first) (are_bytes declared.unborn) (bytes_of_threads cpus declared.threads all.threads)
-    (all_weaker (is_unborn cpus) (λ t. ltb t 256) (λ t good. (and_parts (ltb t 256) (ltb cpus 2) good).0) declared.unborn all.unborn)
+    (all_weaker (can_be_unborn cpus) (λ t. ltb t 256) (λ t good. (and_parts (ltb t 256) (ltb cpus 2) good).0) declared.unborn all.unborn)
 
 -- threads that keep the rules, and are of the form, can be declared
 pub declared_of_rules : (cpus : ℕ) (declared : Declared) → list_all (is_bound_for cpus) declared.threads ≡ true → list_all (is_spec cpus) declared.threads ≡ true
@@ -178,15 +178,15 @@ declared_of_rules cpus declared bound specs bytes alone =
         (and_from (is_bound_for cpus spec && is_in_range spec) (is_spec cpus spec) (and_from (is_bound_for cpus spec) (is_in_range spec) b.0 r.0) s.0)
         (all_threads threads b.1 s.1 r.1)
 
-    by_cpus : (b : Bool) → ltb cpus 2 ≡ b → are_bytes declared.unborn ≡ true → list_all (is_unborn cpus) declared.unborn ≡ true
-    by_cpus true one bytes = all_weaker (λ t. ltb t 256) (is_unborn cpus) (λ t good. and_from (ltb t 256) (ltb cpus 2) good one) declared.unborn bytes
-    by_cpus false several bytes = ap (list_all (is_unborn cpus)) (alone (ltb-false cpus 2 several))
+    by_cpus : (b : Bool) → ltb cpus 2 ≡ b → are_bytes declared.unborn ≡ true → list_all (can_be_unborn cpus) declared.unborn ≡ true
+    by_cpus true one bytes = all_weaker (λ t. ltb t 256) (can_be_unborn cpus) (λ t good. and_from (ltb t 256) (ltb cpus 2) good one) declared.unborn bytes
+    by_cpus false several bytes = ap (list_all (can_be_unborn cpus)) (alone (ltb-false cpus 2 several))
 
 -- unborn threads that are declared want one CPU
-pub alone_of_declared : (cpus : ℕ) (unborn : List ℕ) → list_all (is_unborn cpus) unborn ≡ true → 2 ≤ cpus → unborn ≡ []
+pub alone_of_declared : (cpus : ℕ) (unborn : List ℕ) → list_all (can_be_unborn cpus) unborn ≡ true → 2 ≤ cpus → unborn ≡ []
 alone_of_declared cpus [] all several = refl
 alone_of_declared cpus (t ∷ unborn) all several =
-    let one = and_parts (ltb t 256) (ltb cpus 2) (and_parts (is_unborn cpus t) (list_all (is_unborn cpus) unborn) all).0 in
+    let one = and_parts (ltb t 256) (ltb cpus 2) (and_parts (can_be_unborn cpus t) (list_all (can_be_unborn cpus) unborn) all).0 in
     absurd (omega (arith, ltb-true cpus 2 one.1))
 
 -- a setting is in its range where it is given, and where its default is
@@ -339,9 +339,9 @@ spellable_front cpus declared scripts bytes built valid forks =
     let of_script : list_all (λ script. list_all unborn (forked_in script)) scripts ≡ true = all_of_flat unborn forked_in scripts forks in
     let of_command : list_all (list_all (λ c. list_all unborn (forked_by c))) scripts ≡ true =
     all_weaker (λ script. list_all unborn (forked_in script)) (list_all (λ c. list_all unborn (forked_by c))) (all_of_flat unborn forked_by) scripts of_script in
-    all_front (list_all (is_spellable declared cpus)) cpus scripts
-    (all_both (list_all good) (list_all (λ c. list_all unborn (forked_by c))) (list_all (is_spellable declared cpus))
-    (all_both good (λ c. list_all unborn (forked_by c)) (is_spellable declared cpus) spelled)
+    passes_front (list_all (is_spellable declared cpus)) cpus scripts
+    (passes_both (list_all good) (list_all (λ c. list_all unborn (forked_by c))) (list_all (is_spellable declared cpus))
+    (passes_both good (λ c. list_all unborn (forked_by c)) (is_spellable declared cpus) spelled)
     scripts both of_command)
   where
     good : Command → Bool
@@ -354,6 +354,6 @@ spellable_front cpus declared scripts bytes built valid forks =
 
     both : list_all (list_all good) scripts ≡ true
     both =
-        all_both (list_all (is_built_for cpus)) (list_all (is_command (ids_of declared) cpus)) (list_all good)
-        (all_both (is_built_for cpus) (is_command (ids_of declared) cpus) good (λ c b v. and_from (is_built_for cpus c) (is_command (ids_of declared) cpus c) b v))
+        passes_both (list_all (is_built_for cpus)) (list_all (is_command (ids_of declared) cpus)) (list_all good)
+        (passes_both (is_built_for cpus) (is_command (ids_of declared) cpus) good (λ c b v. and_from (is_built_for cpus c) (is_command (ids_of declared) cpus c) b v))
         scripts built valid

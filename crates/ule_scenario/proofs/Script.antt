@@ -16,7 +16,7 @@ use Rattle.ule_scenario.specs.Sections.{Begins, is_spellable, charge, forked_in,
 use Rattle.ule_scenario.specs.declared.declaration.Declared.{Declared}
 use Rattle.ule_scenario.proofs.Charges.{charge_push, charge-le, ticks-append, ticks-le, fewer}
 use Rattle.ule_scenario.proofs.Commands.{command_apart}
-use Rattle.ule_scenario.proofs.Distinct.{distinct_front}
+use Rattle.ule_types.proofs.Repeats.{distinct_front}
 use Rattle.ule_scenario.proofs.Parts.{first_line, other_lines}
 use Rattle.ule_scenario.proofs.Runs.{begins_more, longer, cons_of}
 

@@ -16,7 +16,7 @@ use Rattle.ule_scenario.specs.declared.declaration.Declared.{Declared}
 use Rattle.ule_scenario.specs.Scenario.{declaration_line, script_line, script_lines, command_line, end_line}
 use Rattle.ule_scenario.specs.Sections.{Stops, is_spellable, charge, forked_in, are_few, IsScript, TakesScript, HasNoScript, AreScripts, TakesScripts, HasNoScripts}
 use Rattle.ule_scenario.proofs.Commands.{command_apart, script_line_apart, end_line_apart}
-use Rattle.ule_scenario.proofs.Distinct.{distinct_front}
+use Rattle.ule_types.proofs.Repeats.{distinct_front}
 use Rattle.ule_scenario.proofs.Parts.{first_line, first_word, other_lines}
 use Rattle.ule_scenario.proofs.Runs.{exact}
 use Rattle.ule_scenario.proofs.Declarations.{script_line_declares_none, end_line_declares_none}

@@ -5,7 +5,7 @@ use Rattle.ule_types.specs.Commands.{is_among}
 use Rattle.ule_types.specs.Rules.{is_distinct}
 use Rattle.ule_types.specs.declared.setup.ThreadSpec.{ThreadSpec}
 use Rattle.ule_scenario.specs.Cut.{Line}
-use Rattle.ule_scenario.specs.Scenario.{declaration_line, thread_in, unborn_in}
+use Rattle.ule_scenario.specs.Scenario.{declaration_line, queued_by, unborn_in}
 use Rattle.ule_scenario.specs.Sections.{is_declaration, ids_of, id_in, declared_by, with_declaration, Declares, RepeatsThread}
 use Rattle.ule_scenario.specs.declared.declaration.Declaration.{Declaration}
 use Rattle.ule_scenario.specs.declared.declaration.Declaration.TheVariants.{Queued, Unborn}
@@ -37,7 +37,7 @@ module _ (cpus : ℕ) (lines rest after : List Line) (declared : Declared) (d : 
   )
 
 -- one declaration more adds one thread at most
-pub queued-le : (threads : List ThreadSpec) (d : Declaration) → length (threads ++ thread_in d) ≤ length threads + 1
+pub queued-le : (threads : List ThreadSpec) (d : Declaration) → length (threads ++ queued_by d) ≤ length threads + 1
 queued-le threads (Queued spec) = omega (arith, length-append threads (spec ∷ []))
 queued-le threads (Unborn t) = omega (arith, length-append threads [])
 

@@ -118,9 +118,9 @@ declaration_line (Queued spec) = thread_line spec
 declaration_line (Unborn t) = codes "unborn" ∷ decimal t ∷ []
 
 -- the thread that a declaration queues at the start, if it does
-abbrev pub thread_in : Declaration → List ThreadSpec
-thread_in (Queued spec) = spec ∷ []
-thread_in (Unborn t) = []
+abbrev pub queued_by : Declaration → List ThreadSpec
+queued_by (Queued spec) = spec ∷ []
+queued_by (Unborn t) = []
 
 -- the unborn thread of a declaration, if it is of one
 abbrev pub unborn_in : Declaration → List ℕ
@@ -131,7 +131,7 @@ unborn_in (Unborn t) = t ∷ []
 pub record SpellsThreads (lines : List Line) (threads : List ThreadSpec) (unborn : List ℕ) : Type 0 where
   pub declarations : List Declaration
   pub each : lines ≡ map declaration_line declarations
-  pub queued : threads ≡ flat_map thread_in declarations
+  pub queued : threads ≡ flat_map queued_by declarations
   pub waiting : unborn ≡ flat_map unborn_in declarations
 
 -- the lines are the scripts of the workers of so many CPUs, each below its line

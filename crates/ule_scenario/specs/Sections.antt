@@ -11,7 +11,7 @@ use Rattle.ule_types.specs.declared.fault.ScenarioFault.{ScenarioFault}
 use Rattle.ule_types.specs.declared.fault.ScenarioFault.TheVariants.{Refused, Memory}
 use Rattle.ule_types.specs.declared.setup.ThreadSpec.{ThreadSpec}
 use Rattle.ule_scenario.specs.Cut.{Word, Line}
-use Rattle.ule_scenario.specs.Scenario.{GivenSettings, settings_of, setting_lines, set_line, header_line, jitter_line, cpus_line, declaration_line, thread_in, unborn_in, script_line, script_lines, command_line, end_line}
+use Rattle.ule_scenario.specs.Scenario.{GivenSettings, settings_of, setting_lines, set_line, header_line, jitter_line, cpus_line, declaration_line, queued_by, unborn_in, script_line, script_lines, command_line, end_line}
 use Rattle.ule_scenario.specs.declared.declaration.Declaration.{Declaration}
 use Rattle.ule_scenario.specs.declared.declaration.Declaration.TheVariants.{Queued, Unborn}
 use Rattle.ule_scenario.specs.declared.declaration.Declared.{Declared}
@@ -94,13 +94,13 @@ abbrev pub is_thread : ℕ → ThreadSpec → Bool
 is_thread cpus spec = is_bound_for cpus spec && is_in_range spec && is_spec cpus spec
 
 -- whether a line can declare an unborn thread so far, which wants one CPU
-abbrev pub is_unborn : ℕ → ℕ → Bool
-is_unborn cpus t = nat_lt t 256 && nat_lt cpus 2
+abbrev pub can_be_unborn : ℕ → ℕ → Bool
+can_be_unborn cpus t = nat_lt t 256 && nat_lt cpus 2
 
 -- whether a line can be a declaration so far
 abbrev pub is_declaration : ℕ → Declaration → Bool
 is_declaration cpus (Queued spec) = is_thread cpus spec
-is_declaration cpus (Unborn t) = is_unborn cpus t
+is_declaration cpus (Unborn t) = can_be_unborn cpus t
 
 -- no item has the first line, if another line follows
 abbrev pub Stops : {A : Type 0} → (A → Bool) → (A → Line) → List Line → Type 0
@@ -113,7 +113,7 @@ pub record Begins {A : Type 0} (is_item : A → Bool) (line_of : A → Line) (li
 
 -- what declarations declare
 abbrev pub declared_by : List Declaration → Declared
-declared_by ds = record { threads = flat_map thread_in ds; unborn = flat_map unborn_in ds }
+declared_by ds = record { threads = flat_map queued_by ds; unborn = flat_map unborn_in ds }
 
 -- the numbers of the threads that are declared
 abbrev pub ids_of : Declared → List ℕ
@@ -126,7 +126,7 @@ id_in (Unborn t) = t
 
 -- what is declared with one declaration more
 abbrev pub with_declaration : Declared → Declaration → Declared
-with_declaration declared d = record { threads = declared.threads ++ thread_in d; unborn = declared.unborn ++ unborn_in d }
+with_declaration declared d = record { threads = declared.threads ++ queued_by d; unborn = declared.unborn ++ unborn_in d }
 
 -- the lines begin with declarations of these threads, of which no two have one number
 pub record Declares (cpus : ℕ) (lines : List Line) (declared : Declared) (rest : List Line) : Type 0 where

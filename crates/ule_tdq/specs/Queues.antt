@@ -2,7 +2,7 @@
 use Rattle.std.specs.Prelude.{ℕ, ◌+◌, ◌/◌, false, true, ◌==◌, List, Option, if◌then◌else◌}
 use Rattle.ule_calendar.specs.Calendar.{Dial, with_ordinary, with_next, after_removal}
 use Rattle.ule_model.specs.CalendarIndexes.{calendar_bucket}
-use Rattle.ule_model.specs.CpuValue.{with_inserted, in_kind, first_of}
+use Rattle.ule_model.specs.CpuValue.{with_inserted, in_kind, first_choice}
 use Rattle.ule_model.specs.declared.insertion.Insertion.{Insertion}
 use Rattle.ule_model.specs.declared.insertion.Insertion.TheVariants.{Ordinary, Borrowing, Preempted}
 use Rattle.ule_prio.specs.Kind.{kind_at}
@@ -70,5 +70,5 @@ queues_without Idle t q = record q { idle = without t q.idle }
 
 -- the kind and the number of the thread whose turn comes first
 abbrev pub first_queued : QueuesValue → Option (Kind × ℕ)
-first_queued q = first_of (in_kind Real (first_from q.real 0))
-    (first_of (in_kind Batch (first_from q.batch.lists q.batch.ridx)) (in_kind Idle (first_from q.idle 0)))
+first_queued q = first_choice (in_kind Real (first_from q.real 0))
+    (first_choice (in_kind Batch (first_from q.batch.lists q.batch.ridx)) (in_kind Idle (first_from q.idle 0)))

@@ -5,7 +5,7 @@ use Rattle.std.proofs.lemmas.List.{drop_more, drop_all}
 use Rattle.std.proofs.lemmas.Option.{slice_get_within, get_or_from_slice_get}
 use Rattle.ule_score.specs.declared.record.CpuLine.{CpuLine}
 use Rattle.ule_trace.specs.Line.{line_text, lines_text}
-use Rattle.ule_trace.specs.FinalText.{thread_words, cpu_words}
+use Rattle.ule_trace.specs.FinalText.{final_words, cpu_words}
 use Rattle.ule_trace.specs.Trace.{entry_words, entry_lines, cpu_lines, closing_lines}
 use Rattle.ule_types.specs.declared.event.Entry.{Entry}
 use Rattle.ule_types.specs.declared.outcome.ThreadLine.{ThreadLine}
@@ -18,13 +18,13 @@ after_cpus o k = lines_text (cpu_lines k (drop k o.cpus) ++ closing_lines o.now 
 -- what follows the first k thread lines
 abbrev pub after_threads : OutcomeValue → ℕ → List ℕ
 after_threads o k =
-    lines_text (map thread_words (drop k o.threads) ++ (cpu_lines 0 o.cpus ++ closing_lines o.now (length o.entries)))
+    lines_text (map final_words (drop k o.threads) ++ (cpu_lines 0 o.cpus ++ closing_lines o.now (length o.entries)))
 
 -- what follows the first k entries
 abbrev pub after_entries : OutcomeValue → ℕ → List ℕ
 after_entries o k =
     lines_text (entry_lines (k + 1) (drop k o.entries) ++
-    (map thread_words o.threads ++ (cpu_lines 0 o.cpus ++ closing_lines o.now (length o.entries))))
+    (map final_words o.threads ++ (cpu_lines 0 o.cpus ++ closing_lines o.now (length o.entries))))
 
 -- the line of the next entry comes first of what is left
 pub entry_next : (o : OutcomeValue) (k : ℕ) (e : Entry) → slice_get o.entries k ≡ Some e → after_entries o k ≡ line_text (entry_words (k + 1) e) ++ after_entries o (k + 1)
@@ -35,7 +35,7 @@ pub entries_end : (o : OutcomeValue) (k : ℕ) → length o.entries ≤ k → af
 entries_end o k past = rw (drop_all k o.entries past) refl
 
 -- the next thread line comes first of what is left
-pub thread_next : (o : OutcomeValue) (k : ℕ) (l : ThreadLine) → k < length o.threads → l ≡ get_or o.threads k l → after_threads o k ≡ line_text (thread_words l) ++ after_threads o (k + 1)
+pub thread_next : (o : OutcomeValue) (k : ℕ) (l : ThreadLine) → k < length o.threads → l ≡ get_or o.threads k l → after_threads o k ≡ line_text (final_words l) ++ after_threads o (k + 1)
 thread_next o k l within read = rw (drop_more o.threads k l within, ← read) refl
 
 -- behind the last thread line come the CPU lines
