@@ -10,7 +10,7 @@ use Rattle.ule_score.specs.declared.record.Change.{Change}
 use Rattle.ule_score.specs.declared.record.ThreadRecord.{ThreadRecord}
 use Rattle.ule_types.specs.declared.event.Reply.{Reply}
 use Rattle.ule_types.specs.declared.event.Reply.TheVariants.{Changed, Nothing}
-use Rattle.ule_model.specs.CpuValue.{CpuValue, current_in, first_found, inserted, removed_from, takes_over_in, thread_in, with_thread_after}
+use Rattle.ule_model.specs.CpuValue.{CpuValue, first_found, inserted, removed_from, takes_over_in, thread_in, with_thread_after}
 use Rattle.ule_model.specs.Insertion.{Borrowing}
 use Rattle.ule_model.specs.Landing.{marked_if}
 
@@ -75,15 +75,20 @@ pub record ForkedFrom : Type 0 where
   pub child : ThreadRecord
   pub parent : Option ℕ
 
--- what a fork by the current thread comes to, which has this record
-abbrev pub value_forked_with : Option ThreadRecord → ℕ → ThreadRecord → CpuValue → ForkedFrom
-value_forked_with None now child v = record { value = v; child = child; parent = None }
-value_forked_with (Some r) now child v = record {
-  value = with_thread_after now r.id forks v;
+-- what a fork by the current thread t comes to, which has this record
+abbrev pub value_forked_with : Option ThreadRecord → ℕ → ℕ → ThreadRecord → CpuValue → ForkedFrom
+value_forked_with None t now child v = record { value = v; child = child; parent = None }
+value_forked_with (Some r) t now child v = record {
+  value = with_thread_after now t forks v;
   child = record_after v.settings now (forked r v.cpu v.load) child;
-  parent = Some r.id;
+  parent = Some t;
 }
+
+-- what a fork by the current thread comes to, if this says that there is one
+abbrev pub value_forked_from : Option ℕ → ℕ → ThreadRecord → CpuValue → ForkedFrom
+value_forked_from None now child v = record { value = v; child = child; parent = None }
+value_forked_from (Some t) now child v = value_forked_with (thread_in v t) t now child v
 
 -- what a fork by the current thread comes to, if there is one
 abbrev pub value_forked : ℕ → ThreadRecord → CpuValue → ForkedFrom
-value_forked now child v = value_forked_with (current_in v) now child v
+value_forked now child v = value_forked_from v.current now child v

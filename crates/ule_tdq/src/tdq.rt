@@ -2,9 +2,10 @@ ghost use Rattle.std.specs.Prelude.{◌≡◌, ℕ, ◌≤◌, ◌<◌, ◌^◌,
 ghost use Rattle.ule_score.specs.Settings.{are_settings};
 ghost use Rattle.std.specs.Option.{option_map};
 ghost use Rattle.ule_score.specs.Bounds.{KeepsBounds};
+ghost use Rattle.ule_score.specs.Changes.{forks};
 ghost use Rattle.ule_score.specs.Charges.{HasShortRun};
-ghost use Rattle.ule_model.specs.CpuChange.{kind_queued, value_changed, value_followed, value_recorded, value_removed_from, value_requeued};
-ghost use Rattle.ule_model.specs.CpuValue.{IsNoEarlier, chosen_next, current_in, takes_over_in, thread_in, value_added, value_clocked, value_laid, value_line, value_place, value_switched, value_taken, value_ticked, value_ticked_with, with_given_way, without_current, without_marks};
+ghost use Rattle.ule_model.specs.CpuChange.{kind_queued, value_changed, value_followed, value_forked, value_recorded, value_removed_from, value_requeued};
+ghost use Rattle.ule_model.specs.CpuValue.{IsNoEarlier, chosen_next, current_in, takes_over_in, thread_in, value_added, value_clocked, value_laid, value_line, value_place, value_switched, value_taken, value_ticked, value_ticked_with, with_given_way, with_thread_after, without_current, without_marks};
 ghost use Rattle.ule_model.specs.Places.{lock_of};
 ghost use Rattle.ule_model.specs.Switch.{started_reply};
 ghost use Rattle.ule_model.specs.CpuStart.{StartsAs};
@@ -25,8 +26,8 @@ use ule_io::Memory;
 use ule_model::Insertion;
 use ule_prio::{Cpu, Kind, LockId, Priority, ThreadId, kind_of, preempts};
 use ule_score::{
-    Change, Changed, CpuLine, Place, Settings, ThreadRecord, Why, after_change, after_running,
-    after_tick, before_running, placed_on,
+    Change, Changed, CpuLine, Place, Settings, ThreadRecord, Why, after_change, after_fork,
+    after_running, after_tick, before_running, child_of, placed_on,
 };
 use ule_threads::Threads;
 use ule_types::ThreadLine;
@@ -317,6 +318,32 @@ impl Tdq {
         r
     }
 
+    /// The current thread forks a child at `now`, a time in hz ticks of 20000 or more that is no
+    /// earlier than any CPU-use update of a thread here. After `sched_fork`.
+    ///
+    /// The child's record becomes one of its parent's child, but for its number; the parent is
+    /// charged the run time of a tick. The answer is the parent, and `None` exactly where there is
+    /// no current thread; then nothing changes.
+    pub fn fork_from(&mut self, child: &mut ThreadRecord, now: u64) -> Option<ThreadId>
+        requires begun { 20000 ≤ now }
+        requires bounded { now < 2 ^ 36 }
+        requires in_time { IsNoEarlier self.old now }
+        requires bounds { KeepsBounds child.old }
+        ensures value { self.new ≡ (value_forked now child.old self.old).value }
+        ensures child { child.new ≡ (value_forked now child.old self.old).child }
+        ensures parent { result ≡ (value_forked now child.old self.old).parent }
+        ensures current { result ≡ self.old.current }
+        ensures bounds { KeepsBounds child.new }
+        ensures kept { KeepsCpu self.new }
+        ensures no_earlier { IsNoEarlier self.new now }
+    {
+        let t = self.current?;
+        let born = self.born_of(t, now, *child);
+        self.charge_fork(now, t);
+        *child = born;
+        Some(t)
+    }
+
     /// The mark that asks for a switch.
     pub fn is_marked(&self) -> bool
         ensures { result ≡ self.now.line.resched }
@@ -506,6 +533,38 @@ impl Tdq {
             due,
             ended,
         }
+    }
+
+    /// The record of a child that the current thread forks.
+    fn born_of(&self, t: ThreadId, now: u64, hatched: ThreadRecord) -> ThreadRecord
+        requires begun { 20000 ≤ now }
+        requires bounded { now < 2 ^ 36 }
+        requires in_time { IsNoEarlier self.now now }
+        requires current { self.now.current ≡ Some t }
+        ensures child { result ≡ (value_forked now hatched self.now).child }
+        ensures parent { (value_forked now hatched self.now).parent ≡ Some t }
+        ensures value { (value_forked now hatched self.now).value ≡ with_thread_after now t forks self.now }
+        ensures bounds { KeepsBounds result }
+    {
+        let settings = self.settings;
+        let parent = self.threads.get(t).unwrap();
+        let _priority = hatched.priority; // so that the type of a record's field is known here
+        child_of(&settings, now, parent, self.cpu, self.load, hatched)
+    }
+
+    /// What a fork does to the current thread.
+    fn charge_fork(&mut self, now: u64, t: ThreadId)
+        requires begun { 20000 ≤ now }
+        requires bounded { now < 2 ^ 36 }
+        requires in_time { IsNoEarlier self.old now }
+        requires current { self.old.current ≡ Some t }
+        ensures value { self.new ≡ with_thread_after now t forks self.old }
+        ensures kept { KeepsCpu self.new }
+        ensures no_earlier { IsNoEarlier self.new now }
+    {
+        let settings = self.settings;
+        let after = after_fork(&settings, now, self.threads.get(t).unwrap());
+        self.threads.put(t, Some(after));
     }
 
     /// Lets the current thread go.
