@@ -1,5 +1,5 @@
--- What a change of a priority, the removal of a queued thread and a fork make of a CPU's value is what they make
--- of its side of a world.
+-- What a change of a priority and the removal of a queued thread make of a CPU's value is what they make of its
+-- side of a world.
 use Rattle.std.proofs.Common.{◌≡◌, ℕ, ◌==◌, ℤ, Bool, true, false, not, slice_set, if◌then◌else◌, Option, Some, None, ⊎_elim, refl, sym, ◌∙◌, ap, subst}
 use Rattle.std.specs.Prelude.{nat_lt}
 use Rattle.std.specs.Option.{option_map}
