@@ -139,7 +139,7 @@ none_from_ids None none = refl
 none_from_ids (Some m) none = cc
 
 -- taking a thread out of a queue leaves the CPU's number
-removed_cpu : (k : Kind) (t : ℕ) (v : CpuValue) → (removed_from k t v).cpu ≡ v.cpu
+pub removed_cpu : (k : Kind) (t : ℕ) (v : CpuValue) → (removed_from k t v).cpu ≡ v.cpu
 removed_cpu Real t v = refl
 removed_cpu Batch t v = refl
 removed_cpu Idle t v = refl

@@ -318,7 +318,7 @@ placed_stands now m v s stands made w off =
     joined = inserted_stands Ordinary n with_one changed_side within beside
 
 -- what a thread takes over, it takes over on the side
-takes_alike : (worker p : ℕ) (v : CpuValue) (s : Side) → StandsFor v s → IsWellMade s.members →
+pub takes_alike : (worker p : ℕ) (v : CpuValue) (s : Side) → StandsFor v s → IsWellMade s.members →
     takes_over_in p (not (worker == v.cpu)) v ≡ is_taking_over p v.cpu worker s
 takes_alike worker p v s stands made =
     ap (λ (o : Option ThreadRecord). takes_over p (current_priority o) (not (worker == v.cpu)) v.settings.preempt) (current_in_is v s stands made)

@@ -10,7 +10,8 @@ use Rattle.ule_runq.specs.Runq.{place_in}
 use Rattle.ule_score.specs.declared.place.Place.{Place}
 use Rattle.ule_score.specs.declared.place.Place.TheVariants.{Running, Queued, Asleep, Unborn, Gone, Hand}
 use Rattle.ule_score.specs.declared.record.ThreadRecord.{ThreadRecord}
-use Rattle.ule_model.specs.CpuValue.{CpuValue, StandsFor, current_place, first_found, queued_place, thread_in, thread_on, value_line, value_place}
+use Rattle.ule_model.specs.CpuChange.{kind_if, kind_queued}
+use Rattle.ule_model.specs.CpuValue.{CpuValue, StandsFor, current_place, first_found, queue_of, queued_place, thread_in, thread_on, value_line, value_place}
 use Rattle.ule_model.specs.Finals.{line_of, position_of, final_line}
 use Rattle.ule_model.specs.Places.{is_on, rank_of, runs_on, waits_on}
 use Rattle.ule_model.specs.Shows.{ShowsQueue}
@@ -167,6 +168,51 @@ place_somewhere v s m stands made w on =
     place_queued v s m at.0 at.1.0 stands made (has_within m.thread.id m s.members w) at.1.1 ∙
     ap (λ (p : Place). Some (p, position_of m.place m.order s.members)) (sym at.1.1))
     (or_cases (runs_on v.cpu m.place) (waits_on v.cpu m.place) on)
+
+-- ---- the queue that has a thread
+
+-- what a CPU's queues say of the kind of the one that has a thread
+abbrev kind_by_parts : Option (ℕ × ℕ) → Option (ℕ × ℕ) → Option (ℕ × ℕ) → Option Kind
+kind_by_parts real batch idle = first_found (kind_if Real real) (first_found (kind_if Batch batch) (kind_if Idle idle))
+
+-- equal parts say one kind
+kinds_alike : (r y b z i u : Option (ℕ × ℕ)) → r ≡ y → b ≡ z → i ≡ u → kind_by_parts r b i ≡ kind_by_parts y z u
+kinds_alike r y b z i u one two three =
+    ap (λ (o : Option (ℕ × ℕ)). kind_by_parts o b i) one ∙ ap (λ (o : Option (ℕ × ℕ)). kind_by_parts y o i) two ∙
+    ap (λ (o : Option (ℕ × ℕ)). kind_by_parts y z o) three
+
+-- the queue that has a queued thread is that of its kind
+pub kind_waiting : (v : CpuValue) (s : Side) (m : Member) (k : Kind) (b : ℕ) → StandsFor v s → IsWellMade s.members → Has m s.members →
+    m.place ≡ Queued v.cpu k b → kind_queued v m.thread.id ≡ Some k
+kind_waiting v s m Real b stands made has place =
+    kinds_alike (place_in v.real m.thread.id) (Some (b, position_of m.place m.order s.members)) (place_in v.batch m.thread.id) (place_in v.batch m.thread.id)
+    (place_in v.idle m.thread.id) (place_in v.idle m.thread.id)
+    (place_in_shown v.real v.cpu Real b m s.members (stands.queues Real) made has place) refl refl
+kind_waiting v s m Batch b stands made has place =
+    kinds_alike (place_in v.real m.thread.id) None (place_in v.batch m.thread.id) (Some (b, position_of m.place m.order s.members))
+    (place_in v.idle m.thread.id) (place_in v.idle m.thread.id)
+    (queued_not_other v.real v.cpu Real Batch b m s.members (stands.queues Real) made has place (λ e. cc))
+    (place_in_shown v.batch v.cpu Batch b m s.members (stands.queues Batch) made has place) refl
+kind_waiting v s m Idle b stands made has place =
+    kinds_alike (place_in v.real m.thread.id) None (place_in v.batch m.thread.id) None
+    (place_in v.idle m.thread.id) (Some (b, position_of m.place m.order s.members))
+    (queued_not_other v.real v.cpu Real Idle b m s.members (stands.queues Real) made has place (λ e. cc))
+    (queued_not_other v.batch v.cpu Batch Idle b m s.members (stands.queues Batch) made has place (λ e. cc))
+    (place_in_shown v.idle v.cpu Idle b m s.members (stands.queues Idle) made has place)
+
+-- no queue has a thread that runs
+pub kind_running : (v : CpuValue) (s : Side) (m : Member) → StandsFor v s → IsWellMade s.members → Has m s.members → runs_on v.cpu m.place ≡ true →
+    kind_queued v m.thread.id ≡ None
+kind_running v s m stands made has runs =
+    kinds_alike (place_in v.real m.thread.id) None (place_in v.batch m.thread.id) None (place_in v.idle m.thread.id) None
+    (lacks Real) (lacks Batch) (lacks Idle)
+  where
+    lacks : (k : Kind) → place_in (queue_of k v) m.thread.id ≡ None
+    lacks k =
+        place_in_lacks (queue_of k v) v.cpu k m.thread.id s.members (stands.queues k)
+        (λ n there number b place.
+        both_ways (runs_on v.cpu m.place)
+        (ap (λ (x : Member). runs_on v.cpu x.place) (sym (same_from_number n m s.members made there has number)) ∙ ap (runs_on v.cpu) place) runs)
 
 -- ---- what the value tells of a thread
 

@@ -11,6 +11,7 @@ pub mod Queueing
 pub mod ChoosingLaws
 pub mod CpuLaws
 pub mod CpuEvents
+pub mod CpuChanges
 pub mod CpuPlaces
 pub mod FrameLaws
 pub mod LockLaws
