@@ -14,9 +14,9 @@ use Rattle.ule_model.specs.CalendarIndexes.{ridx_after_removal}
 use Rattle.ule_model.specs.CpuValue.{CpuValue, StandsFor, queue_of, thread_in, thread_on, removed_from, with_queue}
 use Rattle.ule_model.specs.Places.{rank_of, is_kind, runs_on, waits_on, waits_in, is_on}
 use Rattle.ule_model.specs.Shows.{ShowsQueue}
-use Rattle.ule_model.specs.Switch.{after_batch_removal, after_leaving, after_removal, lifted}
+use Rattle.ule_model.specs.Switch.{after_batch_removal, after_leaving, after_queue_removal, lifted}
 use Rattle.ule_model.specs.Tick.{load_of}
-use Rattle.ule_model.specs.World.{Member, Side, current_of, is_thread, moved_to, others}
+use Rattle.ule_model.specs.World.{Member, Side, current_of, is_numbered, moved_to, others}
 use Rattle.ule_laws.proofs.Buckets.{IsOut, empty_shown, shows-changed, shows-others, shows-without}
 use Rattle.ule_laws.proofs.QueueKinds.{by_kind, each_queue, removed_whole}
 use Rattle.ule_laws.proofs.PlaceLaws.{waits_on_place}
@@ -75,8 +75,8 @@ beside_threads : (m : Member) (v : CpuValue) (s : Side) (w : Within m.thread.id 
 beside_threads m v s w stands u apart =
     stands.threads u ∙ ap (option_map (λ (n : Member). n.thread))
     (ap (thread_on v.cpu u) w.whole ∙
-    find_skips (λ n. is_thread u n && is_on v.cpu n.place) w.before m w.after
-    (and_left (is_thread u m) (is_on v.cpu m.place) (ne_eqb m.thread.id u (λ e. apart (sym e)))))
+    find_skips (λ n. is_numbered u n && is_on v.cpu n.place) w.before m w.after
+    (and_left (is_numbered u m) (is_on v.cpu m.place) (ne_eqb m.thread.id u (λ e. apart (sym e)))))
 
 -- the load counts the other threads, and this one where it is on the CPU
 beside_load : (m : Member) (v : CpuValue) (s : Side) (w : Within m.thread.id m s.members) (d : Bool) → StandsFor v s → is_on v.cpu m.place ≡ d →
@@ -128,7 +128,7 @@ running_lifted m v s w stands runs = record {
 
 -- the numbers of a CPU after a thread left its queue of a kind, by the others that are left
 removed_line : (k : Kind) (m : Member) (v : CpuValue) (s : Side) (w : Within m.thread.id m s.members) → StandsFor v s →
-    (removed_from k m.thread.id v).line ≡ after_removal k v.cpu s.line (w.before ++ w.after)
+    (removed_from k m.thread.id v).line ≡ after_queue_removal k v.cpu s.line (w.before ++ w.after)
 removed_line Real m v s w stands = stands.line
 removed_line Batch m v s w stands =
     ap (λ d. record v.line { ridx = ridx_after_removal v.line.idx v.line.ridx d })
@@ -181,10 +181,10 @@ lifted_stands k b m v s w stands place =
     on : is_on v.cpu m.place ≡ true
     on = or_right (runs_on v.cpu m.place) (waits_on v.cpu m.place) (waits_on_place v.cpu k b m.place place)
 
-    left_line : after_leaving m.place v.cpu s.line (others t s.members) ≡ after_removal k v.cpu s.line (w.before ++ w.after)
+    left_line : after_leaving m.place v.cpu s.line (others t s.members) ≡ after_queue_removal k v.cpu s.line (w.before ++ w.after)
     left_line =
         ap (λ (p : Place). after_leaving p v.cpu s.line (others t s.members)) place ∙
-        ap (after_removal k v.cpu s.line) (others_within t m s.members w)
+        ap (after_queue_removal k v.cpu s.line) (others_within t m s.members w)
 
     shown : (j : Kind) → ShowsQueue (queue_of j (with_queue k q v)) v.cpu j (w.before ++ w.after)
     shown =
@@ -239,8 +239,8 @@ put_threads m v s w beside place order on u = ⊎_elim same other (cases_eq u t)
     other apart =
         beside.threads u apart ∙ ap (option_map (λ (n : Member). n.thread))
         (sym (ap (thread_on v.cpu u) (changed_within t m s.members w (λ n. record n { place = place; order = order })) ∙
-        find_skips (λ n. is_thread u n && is_on v.cpu n.place) w.before (record m { place = place; order = order }) w.after
-        (and_left (is_thread u m) (is_on v.cpu place) (ne_eqb t u (λ e. apart (sym e))))))
+        find_skips (λ n. is_numbered u n && is_on v.cpu n.place) w.before (record m { place = place; order = order }) w.after
+        (and_left (is_numbered u m) (is_on v.cpu place) (ne_eqb t u (λ e. apart (sym e))))))
 
 -- the load once the thread stands at a place
 pub put_load : (m : Member) (v : CpuValue) (s : Side) (w : Within m.thread.id m s.members) (place : Place) (order : ℤ) (d : Bool) → is_on v.cpu place ≡ d →
@@ -333,8 +333,8 @@ gone_put m v s w beside place order off = record {
     other u apart =
         get_or-set_other v.threads t u None None apart ∙ beside.threads u apart ∙ ap (option_map (λ (n : Member). n.thread))
         (sym (ap (thread_on v.cpu u) (changed_within t m s.members w (λ n. record n { place = place; order = order })) ∙
-        find_skips (λ n. is_thread u n && is_on v.cpu n.place) w.before (record m { place = place; order = order }) w.after
-        (and_left (is_thread u m) (is_on v.cpu place) (ne_eqb t u (λ e. apart (sym e))))))
+        find_skips (λ n. is_numbered u n && is_on v.cpu n.place) w.before (record m { place = place; order = order }) w.after
+        (and_left (is_numbered u m) (is_on v.cpu place) (ne_eqb t u (λ e. apart (sym e))))))
 
     shown : (k : Kind) → ShowsQueue (queue_of k v) v.cpu k moved
     shown k = shows-changed (queue_of k v) v.cpu k t m s.members w (λ n. record n { place = place; order = order }) (off_out v.cpu k place off) (beside.queues k)

@@ -12,9 +12,9 @@ use Rattle.ule_score.specs.declared.place.Place.TheVariants.{Queued}
 use Rattle.ule_score.specs.declared.record.ThreadRecord.{ThreadRecord}
 use Rattle.ule_model.specs.Insertion.{members_in, tail_order, head_order}
 use Rattle.ule_model.specs.Places.{rank_of, waits_in}
-use Rattle.ule_model.specs.Shows.{ShowsQueue, by_order, ids_of, bucket_ids}
+use Rattle.ule_model.specs.Shows.{ShowsQueue, by_order, numbers_of, bucket_ids}
 use Rattle.ule_model.specs.WellMade.{AreApart}
-use Rattle.ule_model.specs.World.{Member, is_thread, moved_to, with_record}
+use Rattle.ule_model.specs.World.{Member, is_numbered, moved_to, with_record}
 use Rattle.ule_laws.proofs.Orders.{length-by_order, map-by_order, ids_lacking, ids_without, all-by_order, by_order_last, by_order_first}
 use Rattle.ule_members.proofs.Within.{Lacks, Within, changed, changed_within, all-append, all_front, all_back}
 use Rattle.ule_members.proofs.Apart.{all_from_map, head_order_below, orders_in, tail_order_above}
@@ -59,7 +59,7 @@ filter-map_kept p g kept (x ∷ xs) = rw (kept x) (step (p x) (filter-map_kept p
 -- a thread that isn't in a bucket adds nothing to it
 pub bucket_ids_out : (c : ℕ) (k : Kind) (b : ℕ) (before : List Member) (m : Member) (after : List Member) → waits_in c k b m.place ≡ false →
     bucket_ids c k b (before ++ m ∷ after) ≡ bucket_ids c k b (before ++ after)
-bucket_ids_out c k b before m after out = ap (λ ns. ids_of (by_order ns)) (filter_skips (λ n. waits_in c k b n.place) before m after out)
+bucket_ids_out c k b before m after out = ap (λ ns. numbers_of (by_order ns)) (filter_skips (λ n. waits_in c k b n.place) before m after out)
 
 -- what holds of each order in a bucket of two lists holds of the threads of each
 orders_front : (P : ℤ → Type 0) (c : ℕ) (k : Kind) (b : ℕ) (before after : List Member) → AllByRecursion P (orders_in c k b (before ++ after)) →
@@ -76,10 +76,10 @@ bucket_ids_last c k b before m after here order =
     let above : AllByRecursion (λ o. int_lt o m.order ≡ true) (orders_in c k b (before ++ after)) =
     subst (λ r. AllByRecursion (λ o. int_lt o r ≡ true) (orders_in c k b (before ++ after))) (sym order) (tail_order_above (orders_in c k b (before ++ after))) in
     let parts = orders_front (λ o. int_lt o m.order ≡ true) c k b before after above in
-    ap (λ ns. ids_of (by_order ns)) (filter_keeps (λ n. waits_in c k b n.place) before m after here) ∙
-    ap ids_of (by_order_last (members_in c k b before) m (members_in c k b after) parts.0 parts.1) ∙
+    ap (λ ns. numbers_of (by_order ns)) (filter_keeps (λ n. waits_in c k b n.place) before m after here) ∙
+    ap numbers_of (by_order_last (members_in c k b before) m (members_in c k b after) parts.0 parts.1) ∙
     map_push (λ n. n.thread.id) (by_order (members_in c k b before ++ members_in c k b after)) m ∙
-    ap (λ ns. ids_of (by_order ns) ++ m.thread.id ∷ []) (sym (filter-append (λ n. waits_in c k b n.place) before after))
+    ap (λ ns. numbers_of (by_order ns) ++ m.thread.id ∷ []) (sym (filter-append (λ n. waits_in c k b n.place) before after))
 
 -- a thread with the order of the head is first
 pub bucket_ids_first : (c : ℕ) (k : Kind) (b : ℕ) (before : List Member) (m : Member) (after : List Member) → waits_in c k b m.place ≡ true → m.order ≡ head_order (orders_in c k b (before ++ after)) →
@@ -88,9 +88,9 @@ bucket_ids_first c k b before m after here order =
     let below : AllByRecursion (λ o. int_lt m.order o ≡ true) (orders_in c k b (before ++ after)) =
     subst (λ r. AllByRecursion (λ o. int_lt r o ≡ true) (orders_in c k b (before ++ after))) (sym order) (head_order_below (orders_in c k b (before ++ after))) in
     let parts = orders_front (λ o. int_lt m.order o ≡ true) c k b before after below in
-    ap (λ ns. ids_of (by_order ns)) (filter_keeps (λ n. waits_in c k b n.place) before m after here) ∙
-    ap ids_of (by_order_first (members_in c k b before) m (members_in c k b after) parts.0 parts.1) ∙
-    ap (λ ns. m.thread.id ∷ ids_of (by_order ns)) (sym (filter-append (λ n. waits_in c k b n.place) before after))
+    ap (λ ns. numbers_of (by_order ns)) (filter_keeps (λ n. waits_in c k b n.place) before m after here) ∙
+    ap numbers_of (by_order_first (members_in c k b before) m (members_in c k b after) parts.0 parts.1) ∙
+    ap (λ ns. m.thread.id ∷ numbers_of (by_order ns)) (sym (filter-append (λ n. waits_in c k b n.place) before after))
 
 -- threads of one bucket that are apart have two orders
 orders_apart : (c : ℕ) (k : Kind) (b : ℕ) (m : Member) (ns : List Member) → waits_in c k b m.place ≡ true → AllByRecursion (AreApart m) ns →
@@ -110,25 +110,25 @@ bucket_ids_without c k b t m ms w =
     ap (λ ns. filter (λ u. not (u == t)) (bucket_ids c k b ns)) w.whole ∙ split (waits_in c k b m.place) refl
   where
     lacks : (ns : List Member) → Lacks t ns → Lacks t (members_in c k b ns)
-    lacks ns all = all-filter (λ n. waits_in c k b n.place) (λ n. is_thread t n ≡ false) ns all
+    lacks ns all = all-filter (λ n. waits_in c k b n.place) (λ n. is_numbered t n ≡ false) ns all
 
     split : (d : Bool) → waits_in c k b m.place ≡ d → filter (λ u. not (u == t)) (bucket_ids c k b (w.before ++ m ∷ w.after)) ≡ bucket_ids c k b (w.before ++ w.after)
     split true here =
-        ap (λ ns. filter (λ u. not (u == t)) (ids_of (by_order ns))) (filter_keeps (λ n. waits_in c k b n.place) w.before m w.after here) ∙
+        ap (λ ns. filter (λ u. not (u == t)) (numbers_of (by_order ns))) (filter_keeps (λ n. waits_in c k b n.place) w.before m w.after here) ∙
         ids_without t (members_in c k b w.before) m (members_in c k b w.after) (orders_apart c k b m w.before here w.apart_before) w.number (lacks w.before w.lacks_before) (lacks w.after w.lacks_after) ∙
-        ap (λ ns. ids_of (by_order ns)) (sym (filter-append (λ n. waits_in c k b n.place) w.before w.after))
+        ap (λ ns. numbers_of (by_order ns)) (sym (filter-append (λ n. waits_in c k b n.place) w.before w.after))
     split false out =
         ap (filter (λ u. not (u == t))) (bucket_ids_out c k b w.before m w.after out) ∙
         ids_lacking t (by_order (members_in c k b (w.before ++ w.after)))
-        (all-by_order (λ n. is_thread t n ≡ false) (members_in c k b (w.before ++ w.after)) (lacks (w.before ++ w.after) (all-append (λ n. is_thread t n ≡ false) w.before w.after w.lacks_before w.lacks_after)))
+        (all-by_order (λ n. is_numbered t n ≡ false) (members_in c k b (w.before ++ w.after)) (lacks (w.before ++ w.after) (all-append (λ n. is_numbered t n ≡ false) w.before w.after w.lacks_before w.lacks_after)))
 
 -- a thread as with_record leaves it
 abbrev recorded : ℕ → (ThreadRecord → ThreadRecord) → Member → Member
-recorded t change n = if is_thread t n then record n { thread = change n.thread } else n
+recorded t change n = if is_numbered t n then record n { thread = change n.thread } else n
 
 -- a thread whose record changes keeps its number where the change does
 recorded_id : (t : ℕ) (change : ThreadRecord → ThreadRecord) (n : Member) → ((r : ThreadRecord) → (change r).id ≡ r.id) → (recorded t change n).thread.id ≡ n.thread.id
-recorded_id t change n kept = step (is_thread t n)
+recorded_id t change n kept = step (is_numbered t n)
   where
     step : (d : Bool) → (if d then record n { thread = change n.thread } else n).thread.id ≡ n.thread.id
     step true = kept n.thread
@@ -138,8 +138,8 @@ recorded_id t change n kept = step (is_thread t n)
 pub bucket_ids-with_record : (c : ℕ) (k : Kind) (b : ℕ) (t : ℕ) (change : ThreadRecord → ThreadRecord) (ms : List Member) →
     ((r : ThreadRecord) → (change r).id ≡ r.id) → bucket_ids c k b (with_record t change ms) ≡ bucket_ids c k b ms
 bucket_ids-with_record c k b t change ms kept =
-    ap (λ ns. ids_of (by_order ns)) (filter-map_kept (λ n. waits_in c k b n.place) (recorded t change) (λ n. place_kept n (is_thread t n)) ms) ∙
-    ap ids_of (map-by_order (recorded t change) (λ n. order_kept n (is_thread t n)) (members_in c k b ms)) ∙
+    ap (λ ns. numbers_of (by_order ns)) (filter-map_kept (λ n. waits_in c k b n.place) (recorded t change) (λ n. place_kept n (is_numbered t n)) ms) ∙
+    ap numbers_of (map-by_order (recorded t change) (λ n. order_kept n (is_numbered t n)) (members_in c k b ms)) ∙
     ids_kept (by_order (members_in c k b ms))
   where
     place_kept : (n : Member) (d : Bool) → waits_in c k b (if d then record n { thread = change n.thread } else n).place ≡ waits_in c k b n.place
@@ -150,9 +150,9 @@ bucket_ids-with_record c k b t change ms kept =
     order_kept n true = refl
     order_kept n false = refl
 
-    ids_kept : (ns : List Member) → ids_of (map (recorded t change) ns) ≡ ids_of ns
+    ids_kept : (ns : List Member) → numbers_of (map (recorded t change) ns) ≡ numbers_of ns
     ids_kept [] = refl
-    ids_kept (n ∷ ns) = ap (λ u. u ∷ ids_of (map (recorded t change) ns)) (recorded_id t change n kept) ∙ ap (λ r. n.thread.id ∷ r) (ids_kept ns)
+    ids_kept (n ∷ ns) = ap (λ u. u ∷ numbers_of (map (recorded t change) ns)) (recorded_id t change n kept) ∙ ap (λ r. n.thread.id ∷ r) (ids_kept ns)
 
 -- ---- what the lists show
 

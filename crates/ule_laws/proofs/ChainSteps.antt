@@ -1,23 +1,36 @@
 -- The events of sleep chains and of limbo, on the value under their lock and on the world: a thread goes from
 -- a hand to its place there, or from there to a hand.
-use Rattle.std.proofs.Common.{◌≡◌, ℕ, ◌<◌, Bool, true, false, ◌==◌, pos, List, length, Option, Some, None, if◌then◌else◌, option_and_then, refl, sym, ◌∙◌, ap, subst}
+use Rattle.std.proofs.Common.{◌≡◌, ℕ, ◌<◌, Bool, true, false, ◌==◌, pos, List, length, Option, Some, None, if◌then◌else◌, option_and_then, refl, sym, ◌∙◌, ap, subst, ◌≢◌, ◌+◌, ◌%◌, ◌⊎◌, inl, inr, arith}
 use Rattle.std.specs.Option.{option_map}
 use Rattle.std.proofs.lemmas.Bool.{cond-true, eq-eqb}
 use Rattle.std.proofs.lemmas.Option.{none-some}
 use Rattle.ule_score.specs.declared.place.Place.{Place}
 use Rattle.ule_score.specs.declared.place.Place.TheVariants.{Running, Queued, Asleep, Unborn, Gone, Hand}
 use Rattle.ule_score.specs.declared.record.ThreadRecord.{ThreadRecord}
-use Rattle.ule_sleep.specs.Chain.{with_standing, without_standing}
+use Rattle.ule_sleep.specs.Chain.{with_standing, without_standing, ChainValue, standing_in}
 use Rattle.ule_threads.specs.declared.standing.Standing.{Standing}
 use Rattle.ule_model.specs.Events.{holder_of}
-use Rattle.ule_model.specs.Places.{hand_of, is_hand_of, is_under}
+use Rattle.ule_model.specs.Places.{hand_of, is_hand_of, is_under, is_number, lock_of}
 use Rattle.ule_model.specs.WellMade.{IsWellMade}
-use Rattle.ule_model.specs.World.{Member, moved_to, thread_of, with_record}
-use Rattle.ule_model.specs.WorldValue.{if_thread}
+use Rattle.ule_model.specs.World.{Member, moved_to, thread_of, with_record, World}
+use Rattle.ule_model.specs.WorldValue.{if_thread, IsAsleepOn, IsChainOf, IsLimboOf, Shows, StandsUnder, WorldValue, held_by, standing_of}
 use Rattle.ule_members.proofs.PlaceFinds.{thread_at_within}
 use Rattle.ule_members.proofs.Threads.{changed_further}
 use Rattle.ule_members.proofs.Within.{Within, changed, within_thread}
 use Rattle.ule_laws.proofs.LockLaws.{AreThese, IsThis, put_in, put_under, take_from_under, take_out_of}
+use Rattle.std.proofs.lemmas.List.{length-set}
+use Rattle.ule_score.specs.Changes.{record_after, woken}
+use Rattle.ule_score.proofs.ChangeLaws.{change_number}
+use Rattle.ule_sleep.specs.Limbo.{LimboValue}
+use Rattle.ule_types.specs.declared.event.Event.TheVariants.{Bed, Wake, Hatch, Return, Bury}
+use Rattle.ule_types.specs.declared.event.Reply.TheVariants.{Bedded, Buried, Hatched, NotAsleep, Returned}
+use Rattle.ule_model.specs.Frames.{thread_under}
+use Rattle.ule_model.specs.LockValue.{LockValue, chain, found_in, limbo, nothing, queue}
+use Rattle.ule_model.specs.Step.{chain_bedded, chain_woken, limbo_buried, limbo_hatched, limbo_returned, lock_step, not_asleep, step}
+use Rattle.ule_model.specs.Sleep.{put_in_hand, woken_reply, woken_thread}
+use Rattle.ule_laws.proofs.SeekLaws.{found_stands}
+use Rattle.ule_laws.proofs.WorldLaws.{IsMadeFor, at_some}
+use Rattle.ule_laws.proofs.StepFrom.{IsStepUnder, put_each, slot_of, take_each}
 
 -- ---- the thread in a hand
 
@@ -119,3 +132,121 @@ pub taken_up_is : (t worker : ℕ) (change : ThreadRecord → ThreadRecord) (ms 
     moved_to t (Hand worker) (pos 0) (with_record t change ms) ≡ changed t (taken_up worker change) ms
 taken_up_is t worker change ms number =
     changed_further t (λ n. record n { thread = change n.thread }) (placed_at (Hand worker)) ms (λ n. number n.thread)
+
+-- ---- the events of chains and limbo
+
+-- a bed
+pub bed_made : (v : WorldValue) (w : World) (worker t channel now : ℕ) (c : ChainValue) → Shows v w → IsChainOf w (16 + channel % 8) c → IsInHand w.members worker t (held_by v worker) →
+    IsStepUnder v w worker (Bed t channel) now (16 + channel % 8) (chain c)
+bed_made v w worker t channel now c shows is held =
+    let down : IsPutDown (moved_to t (Asleep channel) (pos 0) w.members) worker (16 + channel % 8) held.member.thread (Asleep channel) c.slots =
+    put_down w.members worker (16 + channel % 8) t (held_by v worker) (Asleep channel) c.slots held (shows.hands worker) is.under is.slots (eq-eqb (16 + channel % 8) (16 + channel % 8) refl) refl in
+    subst (λ (o : Option ThreadRecord). IsMadeFor (step w worker (Bed t channel) now).0 worker (16 + channel % 8) Bedded (chain_bedded channel o c)) (sym held.held_is)
+    (record {
+      value = record {
+        number = is.number;
+        small = is.small;
+        slots = length-set c.slots held.member.thread.id (Some (record { thread = held.member.thread; place = Asleep channel })) ∙ is.slots;
+        under = down.under;
+        asleep = put_each (IsAsleepOn c.number) c.slots held.member.thread.id (record { thread = held.member.thread; place = Asleep channel }) is.asleep (record { channel = channel; place = refl; chain = let e = is.number in omega arith });
+      };
+      hand = down.hand;
+      answer = refl;
+    })
+
+-- a return
+pub return_made : (v : WorldValue) (w : World) (worker t now : ℕ) (c : LimboValue) → Shows v w → IsLimboOf w 24 c → IsInHand w.members worker t (held_by v worker) →
+    IsStepUnder v w worker (Return t) now 24 (limbo c)
+return_made v w worker t now c shows is held =
+    let down : IsPutDown (moved_to t Unborn (pos 0) w.members) worker 24 held.member.thread Unborn c.slots =
+    put_down w.members worker 24 t (held_by v worker) Unborn c.slots held (shows.hands worker) is.under is.slots refl refl in
+    subst (λ (o : Option ThreadRecord). IsMadeFor (step w worker (Return t) now).0 worker 24 Returned (limbo_returned o c)) (sym held.held_is)
+    (record {
+      value = record {
+        number = refl;
+        slots = length-set c.slots held.member.thread.id (Some (record { thread = held.member.thread; place = Unborn })) ∙ is.slots;
+        under = down.under;
+        still = put_each (λ s. (s.place ≡ Unborn) ⊎ (s.place ≡ Gone)) c.slots held.member.thread.id (record { thread = held.member.thread; place = Unborn }) is.still (inl refl);
+      };
+      hand = down.hand;
+      answer = refl;
+    })
+
+-- a burial
+pub bury_made : (v : WorldValue) (w : World) (worker t now : ℕ) (c : LimboValue) → Shows v w → IsLimboOf w 24 c → IsInHand w.members worker t (held_by v worker) →
+    IsStepUnder v w worker (Bury t) now 24 (limbo c)
+bury_made v w worker t now c shows is held =
+    let down : IsPutDown (moved_to t Gone (pos 0) w.members) worker 24 held.member.thread Gone c.slots =
+    put_down w.members worker 24 t (held_by v worker) Gone c.slots held (shows.hands worker) is.under is.slots refl refl in
+    subst (λ (o : Option ThreadRecord). IsMadeFor (step w worker (Bury t) now).0 worker 24 Buried (limbo_buried o c)) (sym held.held_is)
+    (record {
+      value = record {
+        number = refl;
+        slots = length-set c.slots held.member.thread.id (Some (record { thread = held.member.thread; place = Gone })) ∙ is.slots;
+        under = down.under;
+        still = put_each (λ s. (s.place ≡ Unborn) ⊎ (s.place ≡ Gone)) c.slots held.member.thread.id (record { thread = held.member.thread; place = Gone }) is.still (inr refl);
+      };
+      hand = down.hand;
+      answer = refl;
+    })
+
+-- a hatch of this unborn thread
+pub hatch_made : (v : WorldValue) (w : World) (worker t now : ℕ) (m : Member) (c : LimboValue) → Shows v w → IsLimboOf w 24 c → held_by v worker ≡ None →
+    thread_of t w.members ≡ Some m → m.place ≡ Unborn → IsStepUnder v w worker (Hatch t) now 24 (limbo c)
+hatch_made v w worker t now m c shows is empty found place =
+    let within : Within t m w.members = within_thread t w.members m shows.made found in
+    let up : IsTakenUp (changed t (taken_up worker (λ r. r)) w.members) worker 24 t m.thread c.slots =
+    take_up w.members worker 24 t m (λ r. r) c.slots (λ r. refl) within (subst (IsThis worker w.members) empty (shows.hands worker)) is.under is.slots in
+    subst (λ (o : Option Standing). IsMadeFor (step w worker (Hatch t) now).0 worker 24 Hatched (limbo_hatched t (held_by v worker) o c)) (sym (slot_of w 24 t m c.slots is.under shows.made found (ap (is_under 24) place)))
+    (record {
+      value = record {
+        number = refl;
+        slots = length-set c.slots t None ∙ is.slots;
+        under = up.under;
+        still = take_each (λ s. (s.place ≡ Unborn) ⊎ (s.place ≡ Gone)) c.slots t is.still;
+      };
+      hand = up.hand;
+      answer = refl;
+    })
+
+-- a wake of this sleeper
+pub wake_made : (v : WorldValue) (w : World) (worker t now channel : ℕ) (m : Member) (c : ChainValue) → Shows v w → IsChainOf w (16 + channel % 8) c → held_by v worker ≡ None →
+    thread_of t w.members ≡ Some m → m.place ≡ Asleep channel →
+    IsMadeFor (record w { members = (woken_thread worker now w.settings m w.members).0 }) worker (16 + channel % 8) (woken_thread worker now w.settings m w.members).1 (lock_step v.settings worker (Wake t) now (held_by v worker) (chain c))
+wake_made v w worker t now channel m c shows is empty found place =
+    let within : Within t m w.members = within_thread t w.members m shows.made found in
+    let up : IsTakenUp (changed t (taken_up worker (record_after w.settings now woken)) w.members) worker (16 + channel % 8) t (record_after w.settings now woken m.thread) c.slots =
+    take_up w.members worker (16 + channel % 8) t m (record_after w.settings now woken) c.slots (change_number w.settings now woken) within (subst (IsThis worker w.members) empty (shows.hands worker)) is.under is.slots in
+    subst (λ (o : Option Standing). IsMadeFor (record w { members = (woken_thread worker now w.settings m w.members).0 }) worker (16 + channel % 8) (woken_thread worker now w.settings m w.members).1 (chain_woken v.settings now t (held_by v worker) o c))
+    (sym (slot_of w (16 + channel % 8) t m c.slots is.under shows.made found (ap (is_under (16 + channel % 8)) place ∙ eq-eqb (16 + channel % 8) (16 + channel % 8) refl)))
+    (subst (λ (i : ℕ). IsMadeFor (record w { members = put_in_hand w.settings now worker woken i w.members }) worker (16 + channel % 8) (woken_thread worker now w.settings m w.members).1 (chain_woken v.settings now t (held_by v worker) (Some (standing_of m)) c)) (sym within.number)
+    (subst (λ (ns : List Member). IsMadeFor (record w { members = ns }) worker (16 + channel % 8) (woken_thread worker now w.settings m w.members).1 (chain_woken v.settings now t (held_by v worker) (Some (standing_of m)) c)) (sym (taken_up_is t worker (record_after w.settings now woken) w.members (change_number w.settings now woken)))
+    (record {
+      value = record {
+        number = is.number;
+        small = is.small;
+        slots = length-set c.slots t None ∙ is.slots;
+        under = up.under;
+        asleep = take_each (IsAsleepOn c.number) c.slots t is.asleep;
+      };
+      hand = subst (λ s. IsThis worker (changed t (taken_up worker (record_after w.settings now woken)) w.members) (Some (record_after s now woken m.thread))) (sym shows.settings) up.hand;
+      answer = ap (λ s. woken_reply (record_after s now woken m.thread)) shows.settings;
+    })))
+
+-- a wake of a thread that doesn't sleep: it stays, and the reply tells its place
+pub stay_made : (v : WorldValue) (w : World) (worker t now l : ℕ) (m : Member) (value : LockValue) → Shows v w → StandsUnder w l value →
+    thread_of t w.members ≡ Some m → lock_of m.place ≡ Some l → ((channel : ℕ) → m.place ≢ Asleep channel) →
+    IsMadeFor w worker l (NotAsleep m.place) (lock_step v.settings worker (Wake t) now (held_by v worker) value)
+stay_made v w worker t now l m value shows stands found lock awake = at_value value stands (found_stands w l t value shows.made shows.cpus stands ∙ ap (option_map standing_of) here)
+  where
+    here : thread_under l t w.members ≡ Some m
+    here =
+        thread_at_within (is_under l) t m w.members (within_thread t w.members m shows.made found) ∙
+        cond-true (is_under l m.place) (Some m) None (ap (is_number l) lock ∙ eq-eqb l l refl)
+
+    at_value : (x : LockValue) → StandsUnder w l x → found_in x t ≡ Some (standing_of m) → IsMadeFor w worker l (NotAsleep m.place) (lock_step v.settings worker (Wake t) now (held_by v worker) x)
+    at_value (queue u) is finds = record { value = is; hand = shows.hands worker; answer = ap not_asleep finds }
+    at_value (chain c) is finds =
+        let asleep : IsAsleepOn c.number (standing_of m) = at_some (IsAsleepOn c.number) (standing_in c.slots t) (standing_of m) (is.asleep t) finds in absurd (awake asleep.channel asleep.place)
+    at_value (limbo c) is finds = record { value = is; hand = shows.hands worker; answer = ap not_asleep finds }
+    at_value nothing is finds = absurd (none-some (standing_of m) finds)

@@ -12,10 +12,10 @@ use Rattle.ule_score.specs.declared.place.Place.{Place}
 use Rattle.ule_score.specs.declared.place.Place.TheVariants.{Queued}
 use Rattle.ule_score.specs.declared.record.CpuLine.{CpuLine}
 use Rattle.ule_model.specs.Choice.{Turn, turn_at, turn_of, comes_before, sooner, least, choice_of, depth_of}
-use Rattle.ule_model.specs.CpuValue.{CpuValue, StandsFor, first_in, first_of, in_kind}
+use Rattle.ule_model.specs.CpuValue.{CpuValue, StandsFor, first_in, first_choice, in_kind}
 use Rattle.ule_model.specs.Insertion.{members_in}
 use Rattle.ule_model.specs.Places.{rank_of, waits_in, waits_on}
-use Rattle.ule_model.specs.Shows.{ShowsQueue, by_order, ids_of}
+use Rattle.ule_model.specs.Shows.{ShowsQueue, by_order, numbers_of}
 use Rattle.ule_model.specs.WellMade.{IsMade, IsPlace, IsWellMade}
 use Rattle.ule_model.specs.World.{Member, Side, thread_of}
 use Rattle.ule_members.proofs.Membership.{Has, all_has, all_from_has, has-filter, has_filtered, has_none, same_from_order, thread_of_has}
@@ -184,7 +184,7 @@ empty_from_shown : (lists : List (List ℕ)) (c : ℕ) (k : Kind) (ms : List Mem
 empty_from_shown lists c k ms shows b within empty =
     none_from_has (members_in c k b ms) (λ m has. no_ids m (by_order (members_in c k b ms)) (sym (shows.each b within) ∙ empty) (by_order_has m (members_in c k b ms) has))
   where
-    no_ids : (m : Member) (ns : List Member) → ids_of ns ≡ [] → Has m ns → ⊥
+    no_ids : (m : Member) (ns : List Member) → numbers_of ns ≡ [] → Has m ns → ⊥
     no_ids m [] none has = has
     no_ids m (n ∷ ns) none has = cc
 
@@ -269,7 +269,7 @@ chosen_from_first ridx c k b t m ms small made first =
 
 -- three queues that show a CPU have the first thread that is its choice
 choice_agrees : (real batch idle : List (List ℕ)) (ridx c : ℕ) (ms : List Member) → ShowsQueue real c Real ms → ShowsQueue batch c Batch ms → ShowsQueue idle c Idle ms → IsWellMade ms → ridx < 64 →
-    Agrees c ms (first_of (in_kind Real (first_from real 0)) (first_of (in_kind Batch (first_from batch ridx)) (in_kind Idle (first_from idle 0)))) (choice_of c ridx ms)
+    Agrees c ms (first_choice (in_kind Real (first_from real 0)) (first_choice (in_kind Batch (first_from batch ridx)) (in_kind Idle (first_from idle 0)))) (choice_of c ridx ms)
 choice_agrees real batch idle ridx c ms shows_real shows_batch shows_idle made small =
     look (first_from real 0) (first_from batch ridx) (first_from idle 0) refl refl refl
   where
@@ -289,7 +289,7 @@ choice_agrees real batch idle ridx c ms shows_real shows_batch shows_idle made s
     all_empty is_r is_b is_i Idle = none_from_first idle c Idle 0 ms shows_idle (omega arith) is_i
 
     look : (r b i : Option (ℕ × ℕ)) → first_from real 0 ≡ r → first_from batch ridx ≡ b → first_from idle 0 ≡ i →
-        Agrees c ms (first_of (in_kind Real r) (first_of (in_kind Batch b) (in_kind Idle i))) (choice_of c ridx ms)
+        Agrees c ms (first_choice (in_kind Real r) (first_choice (in_kind Batch b) (in_kind Idle i))) (choice_of c ridx ms)
     look (Some r) b i is_r is_b is_i =
         let first = next_from_first real ridx c Real r.0 r.1 ms shows_real small is_r (λ j less. absurd (omega arith)) in
         chosen_from_first ridx c Real r.0 r.1 first.0 ms small made first.1

@@ -17,7 +17,7 @@ use Rattle.ule_model.specs.Places.{is_on, runs_on}
 use Rattle.ule_model.specs.Shows.{ShowsQueue}
 use Rattle.ule_model.specs.Switch.{choosing_next, lifted, put_running, running_chosen}
 use Rattle.ule_model.specs.WellMade.{IsWellMade}
-use Rattle.ule_model.specs.World.{Member, Side, current_of, is_thread, moved_to, thread_of, with_change, with_record}
+use Rattle.ule_model.specs.World.{Member, Side, current_of, is_numbered, moved_to, thread_of, with_change, with_record}
 use Rattle.ule_laws.proofs.Beside.{StandsBeside, lifted_stands, running_put}
 use Rattle.ule_laws.proofs.Buckets.{shows-with_record}
 use Rattle.ule_laws.proofs.ChoiceLaws.{Agrees, choices_agree}
@@ -43,10 +43,10 @@ find-map_kept p g kept (x ∷ xs) = rw (kept x) (step p g x xs (p x) (find-map_k
 current_recorded : (c t : ℕ) (change : ThreadRecord → ThreadRecord) (ms : List Member) → ((r : ThreadRecord) → (change r).id ≡ r.id) →
     option_map (λ n. n.thread.id) (current_of c ms) ≡ option_map (λ n. n.thread.id) (current_of c (with_record t change ms))
 current_recorded c t change ms kept =
-    sym (ap (option_map (λ (n : Member). n.thread.id)) (find-map_kept (λ n. runs_on c n.place) one (λ n. place_kept n (is_thread t n)) ms) ∙ ids_kept (current_of c ms))
+    sym (ap (option_map (λ (n : Member). n.thread.id)) (find-map_kept (λ n. runs_on c n.place) one (λ n. place_kept n (is_numbered t n)) ms) ∙ ids_kept (current_of c ms))
   where
     one : Member → Member
-    one n = if is_thread t n then record n { thread = change n.thread } else n
+    one n = if is_numbered t n then record n { thread = change n.thread } else n
 
     place_kept : (n : Member) (d : Bool) → runs_on c (if d then record n { thread = change n.thread } else n).place ≡ runs_on c n.place
     place_kept n true = refl
@@ -58,7 +58,7 @@ current_recorded c t change ms kept =
 
     ids_kept : (o : Option Member) → option_map (λ n. n.thread.id) (option_map one o) ≡ option_map (λ n. n.thread.id) o
     ids_kept None = refl
-    ids_kept (Some n) = ap (λ (u : ℕ). Some u) (id_kept n (is_thread t n))
+    ids_kept (Some n) = ap (λ (u : ℕ). Some u) (id_kept n (is_numbered t n))
 
 -- the records of a CPU's threads, one of them changed
 threads_recorded : (c t : ℕ) (change : ThreadRecord → ThreadRecord) (m : Member) (ms : List Member) (threads : List (Option ThreadRecord)) →
@@ -139,7 +139,7 @@ none_from_ids None none = refl
 none_from_ids (Some m) none = cc
 
 -- taking a thread out of a queue leaves the CPU's number
-removed_cpu : (k : Kind) (t : ℕ) (v : CpuValue) → (removed_from k t v).cpu ≡ v.cpu
+pub removed_cpu : (k : Kind) (t : ℕ) (v : CpuValue) → (removed_from k t v).cpu ≡ v.cpu
 removed_cpu Real t v = refl
 removed_cpu Batch t v = refl
 removed_cpu Idle t v = refl

@@ -1,5 +1,6 @@
--- What a tick, a drop and a landing make of a CPU's value is what they make of its side of a world.
-use Rattle.std.proofs.Common.{◌≡◌, ℕ, ◌+◌, ◌-◌, ◌%◌, ◌<◌, ◌==◌, Bool, true, false, not, ◌&&◌, pos, List, ◌++◌, length, slice_set, if◌then◌else◌, Option, Some, None, ⊎_elim, refl, sym, ◌∙◌, ap, subst, arith, set-set}
+-- What a tick, a switch, a drop, an exit and a landing make of a CPU's value and of the worker's hand is what they make of its
+-- side of a world.
+use Rattle.std.proofs.Common.{◌≡◌, ℕ, ◌+◌, ◌-◌, ◌%◌, ◌<◌, ◌==◌, Bool, true, false, not, ◌&&◌, pos, List, ◌++◌, length, slice_set, if◌then◌else◌, Option, Some, None, ⊎_elim, refl, sym, ◌∙◌, ap, subst, arith, set-set, option_and_then}
 use Rattle.std.specs.Prelude.{nat_le, option_and_then}
 use Rattle.std.specs.Option.{option_map}
 use Rattle.std.proofs.lemmas.Bool.{cases_eq, ne_eqb, or_left}
@@ -8,34 +9,52 @@ use Rattle.ule_prio.specs.Preemption.{takes_over}
 use Rattle.ule_prio.specs.declared.kind.Kind.TheVariants.{Real, Batch, Idle}
 use Rattle.ule_runq.specs.Runq.{is_empty_at}
 use Rattle.ule_score.proofs.ChangeLaws.{change_number}
-use Rattle.ule_score.specs.Changes.{IsSoundChange, RecordChange, after_tick, placed, placed_on, record_after, sleeps, ticked as tick_of}
+use Rattle.ule_score.specs.Changes.{IsSoundChange, RecordChange, after_tick, placed, placed_on, ran, record_after, sleeps, ticked as tick_of}
 use Rattle.ule_score.specs.declared.place.Place.TheVariants.{Hand}
 use Rattle.ule_score.specs.declared.record.CpuLine.{CpuLine}
 use Rattle.ule_score.specs.declared.record.Settings.{Settings}
 use Rattle.ule_score.specs.declared.record.ThreadRecord.{ThreadRecord}
 use Rattle.ule_types.specs.declared.event.Reply.{Reply}
 use Rattle.ule_types.specs.declared.event.Reply.TheVariants.{Dropped, Landed, Nothing, Ticked}
-use Rattle.ule_model.specs.CpuValue.{CpuValue, StandsFor, Taken, chosen_next, current_in, queue_of, takes_over_in, thread_in, value_added, value_clocked, value_laid, value_taken, value_taken_from, value_taken_with, value_ticked, value_ticked_with, with_thread_after, without_current}
+use Rattle.ule_model.specs.CpuValue.{CpuValue, StandsFor, Taken, chosen_next, current_in, queue_of, takes_over_in, thread_in, value_added, value_clocked, value_laid, value_taken, value_taken_from, value_taken_with, value_ticked, value_ticked_with, with_thread_after, without_current, value_switched}
 use Rattle.ule_model.specs.Insertion.{bucket_of, members_in, queued}
 use Rattle.ule_model.specs.declared.insertion.Insertion.TheVariants.{Ordinary}
 use Rattle.ule_model.specs.Landing.{current_priority, current_record, is_taking_over, landed, landed_with, marked_if}
 use Rattle.ule_model.specs.Places.{is_on, runs_on, waits_on}
 use Rattle.ule_model.specs.Shows.{ShowsQueue}
+use Rattle.ule_model.specs.Birth.{exited, exited_reply, exited_with}
 use Rattle.ule_model.specs.Sleep.{dropped, dropped_with, taken}
 use Rattle.ule_model.specs.Start.{balance_count, stepped_word}
-use Rattle.ule_model.specs.Switch.{choosing_next, one_more}
+use Rattle.ule_model.specs.Switch.{choosing_next, one_more, switched}
 use Rattle.ule_model.specs.Tick.{balance_after_tick, clocked, is_due, line_after_tick, load_of, marked_at_end, ticked, ticked_with, word_after_tick}
 use Rattle.ule_model.specs.WellMade.{IsWellMade}
-use Rattle.ule_model.specs.World.{Member, Side, current_of, moved_to, thread_of, with_change}
+use Rattle.ule_model.specs.World.{Member, Side, current_of, moved_to, thread_of, with_change, World, fresh_line, side_of, with_side}
 use Rattle.ule_laws.proofs.Beside.{StandsBeside, absent_lifted, gone_put, running_lifted}
 use Rattle.ule_laws.proofs.Buckets.{empty_shown}
 use Rattle.ule_laws.proofs.ChoosingLaws.{AreChosen, changed_stands, choosing_stands}
-use Rattle.ule_laws.proofs.CpuLaws.{ActsAlike, with_line_stands}
+use Rattle.ule_laws.proofs.CpuLaws.{ActsAlike, with_line_stands, switched_stands}
 use Rattle.ule_laws.proofs.QueueKinds.{by_kind}
 use Rattle.ule_laws.proofs.Queueing.{IsJoined, inserted_stands}
 use Rattle.ule_laws.proofs.WellMade.{well_made-with_change, well_made_off}
-use Rattle.ule_members.proofs.Threads.{current_runs, thread_of-changed, thread_on_within, within_current}
+use Rattle.ule_members.proofs.Threads.{current_runs, thread_of-changed, thread_on_within, within_current, thread_of_within}
 use Rattle.ule_members.proofs.Within.{Within, within_thread}
+use Rattle.std.proofs.lemmas.List.{get_or-set_same, length-set}
+use Rattle.std.proofs.lemmas.Option.{none-some, same_Some}
+use Rattle.ule_score.specs.declared.record.Why.{Why}
+use Rattle.ule_types.specs.declared.event.Event.{Event}
+use Rattle.ule_types.specs.declared.event.Event.TheVariants.{Tick, Switch, Drop, Land, Exit}
+use Rattle.ule_model.specs.Frames.{thread_in_hand}
+use Rattle.ule_model.specs.LockValue.{queue}
+use Rattle.ule_model.specs.Step.{Stepped, kept, queue_dropped, queue_exited, queue_landed, step}
+use Rattle.ule_model.specs.Words.{WordChange, block, change_of}
+use Rattle.ule_model.specs.WorldValue.{IsQueueOf, WorldValue, held_by}
+use Rattle.ule_laws.proofs.ChainSteps.{IsInHand}
+use Rattle.ule_members.proofs.Done.{held_member, in_hand_after, in_hand_kept, taken_member, taken_record}
+use Rattle.ule_members.proofs.Rest.{choosing_kept}
+use Rattle.ule_members.proofs.Steps.{ticked_kept, switched_kept, landed_kept}
+use Rattle.ule_laws.proofs.LockLaws.{IsThis}
+use Rattle.ule_laws.proofs.WorldLaws.{IsMadeFor}
+use Rattle.ule_laws.proofs.StepFrom.{IsAtEvent, IsStepUnder, hand_gives, hand_stays, hand_takes, own_hand}
 
 -- ---- the current thread's record
 
@@ -201,70 +220,113 @@ taken_stands worker now change m v s sound stands made found = (
         (record s { members = moved_to u (Hand worker) (pos 0) changed_side.members })) same
         (gone_put n (record changed_value { current = None }) changed_side within beside (Hand worker) (pos 0) refl)
 
--- ---- a drop
+-- ---- a thread that leaves its CPU
 
--- what a drop replies, by what left the CPU
-abbrev pub dropped_reply : Option Taken → Reply
-dropped_reply None = Nothing
-dropped_reply (Some left) = Dropped left.thread.id left.into
+-- what is answered by what left the CPU, if a thread left
+abbrev pub reply_left : (ThreadRecord → Option ℕ → Reply) → Option Taken → Reply
+reply_left reply None = Nothing
+reply_left reply (Some out) = reply out.thread out.into
 
--- the record of a thread that leaves to sleep, if one leaves
-abbrev pub record_dropped : Settings → ℕ → Option Member → Option ThreadRecord
-record_dropped settings now o = option_map (λ m. record_after settings now sleeps m.thread) o
+-- the record of a thread that leaves through a change, if one leaves
+abbrev pub record_left : RecordChange → Settings → ℕ → Option Member → Option ThreadRecord
+record_left change settings now o = option_map (λ m. record_after settings now change m.thread) o
 
--- what a drop gives, on the value and on the side: what left is the current thread, if there is one
-pub record AreDropped (now : ℕ) (v : CpuValue) (s : Side) (made : CpuValue × Option Taken) (meant : Side × Reply) : Type 0 where
+-- the side of CPU c whose current thread, if this says that there is one, left to a worker's hand through a change
+abbrev pub side_left : RecordChange → (ThreadRecord → Option ℕ → Reply) → Option Member → ℕ → ℕ → ℕ → Side → Side × Reply
+side_left change reply None c worker now s = (s, Nothing)
+side_left change reply (Some m) c worker now s =
+    let next = choosing_next c now (taken worker now change m.thread.id s) in
+    (next.0, reply (record_after s.settings now change m.thread) next.1)
+
+-- what an event gives by which the current thread leaves, on the value and on the side: what left is that thread, if
+-- there is one
+pub record AreLeft (change : RecordChange) (reply : ThreadRecord → Option ℕ → Reply) (now : ℕ) (v : CpuValue) (s : Side)
+    (made : CpuValue × Option Taken) (meant : Side × Reply) : Type 0 where
   pub stands : StandsFor made.0 meant.0
-  pub answer : meant.1 ≡ dropped_reply made.1
-  pub left : option_map (λ x. x.thread) made.1 ≡ record_dropped s.settings now (current_of v.cpu s.members)
+  pub answer : meant.1 ≡ reply_left reply made.1
+  pub left : option_map (λ x. x.thread) made.1 ≡ record_left change s.settings now (current_of v.cpu s.members)
   pub well_made : IsWellMade meant.0.members
   pub cpu : made.0.cpu ≡ v.cpu
+  pub settings : meant.0.settings ≡ s.settings
 
 -- the number of the current thread in the value
 current_number : (m : Member) (v : CpuValue) (s : Side) → StandsFor v s → current_of v.cpu s.members ≡ Some m → v.current ≡ Some m.thread.id
 current_number m v s stands found = stands.current ∙ ap (option_map (λ (n : Member). n.thread.id)) found
 
--- a drop where thread m ran
-dropped_thread : (worker now : ℕ) (m : Member) (v : CpuValue) (s : Side) → StandsFor v s → IsWellMade s.members → current_of v.cpu s.members ≡ Some m →
-    AreDropped now v s (value_taken_with (Some m.thread) sleeps now m.thread.id v) (dropped_with (Some m) v.cpu worker now s)
-dropped_thread worker now m v s stands made runs = record {
+-- thread m, which ran, leaves
+left_thread : (change : RecordChange) (reply : ThreadRecord → Option ℕ → Reply) (worker now : ℕ) (m : Member) (v : CpuValue) (s : Side) →
+    IsSoundChange now change → StandsFor v s → IsWellMade s.members → current_of v.cpu s.members ≡ Some m →
+    AreLeft change reply now v s (value_taken_with (Some m.thread) change now m.thread.id v) (side_left change reply (Some m) v.cpu worker now s)
+left_thread change reply worker now m v s sound stands made runs = record {
   stands = next.stands;
-  answer = ap (λ (o : Option ℕ). Dropped m.thread.id o) (sym next.answer);
+  answer =
+      ap (λ (settings : Settings). reply (record_after settings now change m.thread) (choosing_next v.cpu now side).1) (sym stands.settings) ∙
+      ap (reply (record_after v.settings now change m.thread)) (sym next.answer);
   left =
-      ap (λ (settings : Settings). Some (record_after settings now sleeps m.thread)) stands.settings ∙
-      ap (record_dropped s.settings now) (sym runs);
+      ap (λ (settings : Settings). Some (record_after settings now change m.thread)) stands.settings ∙
+      ap (record_left change s.settings now) (sym runs);
   well_made = next.well_made;
   cpu = next.cpu;
+  settings = (choosing_kept v.cpu now side).settings_are;
 }
   where
     left : CpuValue
     left = without_current m.thread.id v
 
     side : Side
-    side = taken worker now sleeps m.thread.id s
+    side = taken worker now change m.thread.id s
 
     next : AreChosen left (chosen_next now left) (choosing_next v.cpu now side)
-    next = let gone = taken_stands worker now sleeps m v s tt stands made runs in choosing_stands now left side gone.0 gone.1 refl
+    next = let gone = taken_stands worker now change m v s sound stands made runs in choosing_stands now left side gone.0 gone.1 refl
 
--- the step of a drop
-pub dropped_stands : (worker now : ℕ) (v : CpuValue) (s : Side) → StandsFor v s → IsWellMade s.members →
-    AreDropped now v s (value_taken sleeps now v) (dropped v.cpu worker now s)
-dropped_stands worker now v s stands made = split (current_of v.cpu s.members) refl
+-- the current thread, if there is one, leaves
+pub left_stands : (change : RecordChange) (reply : ThreadRecord → Option ℕ → Reply) (worker now : ℕ) (v : CpuValue) (s : Side) →
+    IsSoundChange now change → StandsFor v s → IsWellMade s.members →
+    AreLeft change reply now v s (value_taken change now v) (side_left change reply (current_of v.cpu s.members) v.cpu worker now s)
+left_stands change reply worker now v s sound stands made = split (current_of v.cpu s.members) refl
   where
-    split : (o : Option Member) → current_of v.cpu s.members ≡ o → AreDropped now v s (value_taken sleeps now v) (dropped_with o v.cpu worker now s)
+    split : (o : Option Member) → current_of v.cpu s.members ≡ o → AreLeft change reply now v s (value_taken change now v) (side_left change reply o v.cpu worker now s)
     split None none =
-        subst (λ (o : Option ℕ). AreDropped now v s (value_taken_from o sleeps now v) (s, Nothing))
+        subst (λ (o : Option ℕ). AreLeft change reply now v s (value_taken_from o change now v) (s, Nothing))
         (sym (stands.current ∙ ap (option_map (λ (n : Member). n.thread.id)) none))
-        (record { stands = stands; answer = refl; left = ap (record_dropped s.settings now) (sym none); well_made = made; cpu = refl })
+        (record { stands = stands; answer = refl; left = ap (record_left change s.settings now) (sym none); well_made = made; cpu = refl; settings = refl })
     split (Some m) runs =
-        subst (λ (o : Option ℕ). AreDropped now v s (value_taken_from o sleeps now v) (dropped_with (Some m) v.cpu worker now s)) (sym (current_number m v s stands runs))
-        (subst (λ (o : Option ThreadRecord). AreDropped now v s (value_taken_with o sleeps now m.thread.id v) (dropped_with (Some m) v.cpu worker now s)) (sym (record_is m runs))
-        (dropped_thread worker now m v s stands made runs))
+        subst (λ (o : Option ℕ). AreLeft change reply now v s (value_taken_from o change now v) (side_left change reply (Some m) v.cpu worker now s)) (sym (current_number m v s stands runs))
+        (subst (λ (o : Option ThreadRecord). AreLeft change reply now v s (value_taken_with o change now m.thread.id v) (side_left change reply (Some m) v.cpu worker now s)) (sym (record_is m runs))
+        (left_thread change reply worker now m v s sound stands made runs))
       where
         record_is : (m : Member) → current_of v.cpu s.members ≡ Some m → thread_in v m.thread.id ≡ Some m.thread
         record_is m runs =
             ap (λ (o : Option ℕ). option_and_then (thread_in v) o) (sym (current_number m v s stands runs)) ∙
             current_in_is v s stands made ∙ ap (option_map (λ (n : Member). n.thread)) runs
+
+-- what a drop replies where a thread left
+abbrev pub dropped_reply : ThreadRecord → Option ℕ → Reply
+dropped_reply r into = Dropped r.id into
+
+-- a drop is such a leaving
+dropped_is : (o : Option Member) (c worker now : ℕ) (s : Side) → side_left sleeps dropped_reply o c worker now s ≡ dropped_with o c worker now s
+dropped_is None c worker now s = refl
+dropped_is (Some m) c worker now s = refl
+
+-- an exit is such a leaving
+exited_is : (o : Option Member) (c worker now : ℕ) (s : Side) → side_left ran exited_reply o c worker now s ≡ exited_with o c worker now s
+exited_is None c worker now s = refl
+exited_is (Some m) c worker now s = refl
+
+-- the step of a drop
+pub dropped_stands : (worker now : ℕ) (v : CpuValue) (s : Side) → StandsFor v s → IsWellMade s.members →
+    AreLeft sleeps dropped_reply now v s (value_taken sleeps now v) (dropped v.cpu worker now s)
+dropped_stands worker now v s stands made =
+    subst (AreLeft sleeps dropped_reply now v s (value_taken sleeps now v)) (dropped_is (current_of v.cpu s.members) v.cpu worker now s)
+    (left_stands sleeps dropped_reply worker now v s tt stands made)
+
+-- the step of an exit
+pub exited_stands : (worker now : ℕ) (v : CpuValue) (s : Side) → StandsFor v s → IsWellMade s.members →
+    AreLeft ran exited_reply now v s (value_taken ran now v) (exited v.cpu worker now s)
+exited_stands worker now v s stands made =
+    subst (AreLeft ran exited_reply now v s (value_taken ran now v)) (exited_is (current_of v.cpu s.members) v.cpu worker now s)
+    (left_stands ran exited_reply worker now v s tt stands made)
 
 -- ---- a landing
 
@@ -318,7 +380,7 @@ placed_stands now m v s stands made w off =
     joined = inserted_stands Ordinary n with_one changed_side within beside
 
 -- what a thread takes over, it takes over on the side
-takes_alike : (worker p : ℕ) (v : CpuValue) (s : Side) → StandsFor v s → IsWellMade s.members →
+pub takes_alike : (worker p : ℕ) (v : CpuValue) (s : Side) → StandsFor v s → IsWellMade s.members →
     takes_over_in p (not (worker == v.cpu)) v ≡ is_taking_over p v.cpu worker s
 takes_alike worker p v s stands made =
     ap (λ (o : Option ThreadRecord). takes_over p (current_priority o) (not (worker == v.cpu)) v.settings.preempt) (current_in_is v s stands made)
@@ -352,3 +414,222 @@ landed_stands worker now m v s stands made found off =
 
     joined : IsJoined v (value_laid (placed_on v.cpu m.thread) v) next
     joined = placed_stands now m v s stands made (within_thread m.thread.id s.members m made found) off
+
+-- ---- the events on a CPU, and the hand
+
+-- the side of a CPU in a world that was given it
+side_own : (c : ℕ) (s : Side) (w : World) → c < length w.lines → s.settings ≡ w.settings → side_of c (with_side c s w) ≡ s
+side_own c s w within settings =
+    ap (λ (line : CpuLine). record { settings = w.settings; members = s.members; line = line; balance_word = s.balance_word }) (get_or-set_same w.lines c s.line fresh_line within) ∙
+    ap (λ x. record { settings = x; members = s.members; line = s.line; balance_word = s.balance_word }) (sym settings)
+
+-- the value of CPU c, by its own number
+own_queue : (w : World) (c : ℕ) (u : CpuValue) → IsQueueOf w c u → IsQueueOf w u.cpu u
+own_queue w c u is = subst (λ (d : ℕ). IsQueueOf w d u) (sym is.cpu) is
+
+-- an event of CPU c, on its value and on its side, is what stands under its lock afterwards
+pub queue_stands : (w : World) (c : ℕ) (v new : CpuValue) (made : Side) → IsQueueOf w c v → StandsFor new made → new.cpu ≡ v.cpu → made.settings ≡ w.settings →
+    IsQueueOf (with_side c made w) c new
+queue_stands w c v new made is stands cpu settings = record {
+  cpu = cpu ∙ is.cpu;
+  there = subst (λ (i : ℕ). c < i) (sym (length-set w.lines c made.line)) is.there;
+  stands = subst (StandsFor new) (sym (side_own c made w is.there settings)) stands;
+}
+
+-- the value of CPU c stands for the side of its own number
+pub own_side : (w : World) (c : ℕ) (u : CpuValue) → IsQueueOf w c u → StandsFor u (side_of u.cpu w)
+own_side w c u is = subst (λ (d : ℕ). StandsFor u (side_of d w)) (sym is.cpu) is.stands
+
+-- a tick
+pub tick_made : (v : WorldValue) (w : World) (worker c now : ℕ) (u : CpuValue) → IsAtEvent v w worker (Tick c) now → IsQueueOf w c u → IsStepUnder v w worker (Tick c) now c (queue u)
+tick_made v w worker c now u at is = record { value = value; hand = hand_stays v w worker (Tick c) now at (λ old. refl) refl; answer = answer }
+  where
+    both : ActsAlike u (value_ticked now u) (ticked c now (side_of c w))
+    both = subst (λ (d : ℕ). ActsAlike u (value_ticked now u) (ticked d now (side_of d w))) is.cpu (ticked_stands now u (side_of u.cpu w) (own_side w c u is) at.shows.made)
+
+    value : IsQueueOf (with_side c (ticked c now (side_of c w)).0 w) c (value_ticked now u).0
+    value = queue_stands w c u (value_ticked now u).0 (ticked c now (side_of c w)).0 is both.stands both.cpu (ticked_kept c now (side_of c w)).settings_are
+
+    answer : (value_ticked now u).1 ≡ (ticked c now (side_of c w)).1
+    answer = both.answer
+
+-- a switch
+pub switch_made : (v : WorldValue) (w : World) (worker c : ℕ) (why : Why) (now : ℕ) (u : CpuValue) → IsAtEvent v w worker (Switch c why) now → IsQueueOf w c u →
+    IsStepUnder v w worker (Switch c why) now c (queue u)
+switch_made v w worker c why now u at is = record { value = value; hand = hand_stays v w worker (Switch c why) now at (λ old. refl) refl; answer = both.answer }
+  where
+    both : ActsAlike u (value_switched why now u) (switched c why now (side_of c w))
+    both = subst (λ (d : ℕ). ActsAlike u (value_switched why now u) (switched d why now (side_of d w))) is.cpu (switched_stands why now u (side_of u.cpu w) (own_side w c u is) at.shows.made)
+
+    value : IsQueueOf (with_side c (switched c why now (side_of c w)).0 w) c (value_switched why now u).0
+    value = queue_stands w c u (value_switched why now u).0 (switched c why now (side_of c w)).0 is both.stands both.cpu (switched_kept c why now (side_of c w)).settings_are
+
+-- the thread that left, if one did, goes to the hand, and it is answered so
+abbrev pub stepped_left : (ThreadRecord → Option ℕ → Reply) → Option ThreadRecord → CpuValue → Option Taken → Stepped
+stepped_left reply hand made None = kept hand (queue made) Nothing
+stepped_left reply hand made (Some out) = record { hand = Some out.thread; value = queue made; reply = reply out.thread out.into }
+
+-- an event of CPU c by which the current thread leaves: what it makes of the world, how it changes words, that it leaves the hand
+-- where it changes none, and the record with which the thread comes to the hand
+pub record IsLeaving (w : World) (worker c : ℕ) (e : Event) (now : ℕ) (change : RecordChange) (reply : ThreadRecord → Option ℕ → Reply)
+    (made : Side × Reply) : Type 0 where
+  pub step_is : step w worker e now ≡ (with_side c made.0 w, made.1)
+  pub none : change_of e Nothing ≡ None
+  pub keeps : (old : Option Member) → in_hand_kept w now e old ≡ old
+  pub words : (r : ThreadRecord) (into : Option ℕ) → change_of e (reply r into) ≡ Some (block r.id)
+  pub record_is : (r : ThreadRecord) → taken_record w.settings now e r ≡ record_after w.settings now change r
+
+-- this thread, which left with this record, is in the hand
+leaving_hand : (v : WorldValue) (w : World) (worker c : ℕ) (e : Event) (now : ℕ) (change : RecordChange) (reply : ThreadRecord → Option ℕ → Reply)
+    (made : Side × Reply) (m : Member) (r : ThreadRecord) (into : Option ℕ) → IsAtEvent v w worker e now →
+    IsLeaving w worker c e now change reply made → held_by v worker ≡ None → current_of c w.members ≡ Some m →
+    r ≡ record_after w.settings now change m.thread → (step w worker e now).1 ≡ reply r into → IsThis worker (step w worker e now).0.members (Some r)
+leaving_hand v w worker c e now change reply made m r into at leaving empty runs record_is answer =
+    hand_takes worker r.id n.members w.members held r after (sym record_is) refl (subst (IsThis worker w.members) empty (at.shows.hands worker))
+  where
+    n : World
+    n = (step w worker e now).0
+
+    held : Member
+    held = held_member worker (record_after w.settings now change m.thread)
+
+    number : r.id ≡ m.thread.id
+    number = ap (λ (x : ThreadRecord). x.id) record_is ∙ change_number w.settings now change m.thread
+
+    found : thread_of r.id w.members ≡ Some m
+    found = ap (λ (t : ℕ). thread_of t w.members) number ∙ thread_of_within m.thread.id m w.members (within_current c w.members m at.shows.made runs)
+
+    taken_is : taken_member w worker e now r.id ≡ Some held
+    taken_is =
+        ap (option_map (λ (y : Member). held_member worker (taken_record w.settings now e y.thread))) found ∙
+        ap (λ (x : ThreadRecord). Some (held_member worker x)) (leaving.record_is m.thread)
+
+    after : (y : ℕ) → thread_in_hand worker y n.members ≡ (if y == r.id then Some held else thread_in_hand worker y w.members)
+    after y =
+        own_hand v w worker e now at y ∙
+        ap (λ (o : Option WordChange). in_hand_after w worker e now o y (thread_in_hand worker y w.members)) (ap (change_of e) answer ∙ leaving.words r into) ∙
+        ap (λ (o : Option Member). if y == r.id then o else thread_in_hand worker y w.members) taken_is
+
+-- what left goes to the hand
+leave_made : (v : WorldValue) (w : World) (worker c : ℕ) (e : Event) (now : ℕ) (u : CpuValue) (change : RecordChange)
+    (reply : ThreadRecord → Option ℕ → Reply) (made : Side × Reply) → IsAtEvent v w worker e now →
+    IsLeaving w worker c e now change reply made → IsQueueOf w c u → held_by v worker ≡ None →
+    AreLeft change reply now u (side_of c w) (value_taken change now u) made →
+    IsMadeFor (step w worker e now).0 worker c (step w worker e now).1
+    (stepped_left reply (held_by v worker) (value_taken change now u).0 (value_taken change now u).1)
+leave_made v w worker c e now u change reply made at leaving is empty both = split (current_of c w.members) refl (value_taken change now u).1 refl
+  where
+    n : World
+    n = (step w worker e now).0
+
+    left : CpuValue
+    left = (value_taken change now u).0
+
+    value : IsQueueOf n c left
+    value =
+        subst (λ (x : World). IsQueueOf x c left) (sym (ap (λ (d : World × Reply). d.0) leaving.step_is))
+        (queue_stands w c u left made.0 is both.stands both.cpu both.settings)
+
+    answer : (o : Option Taken) → (value_taken change now u).1 ≡ o → (step w worker e now).1 ≡ reply_left reply o
+    answer o out = ap (λ (d : World × Reply). d.1) leaving.step_is ∙ both.answer ∙ ap (reply_left reply) out
+
+    left_is : option_map (λ x. x.thread) (value_taken change now u).1 ≡ record_left change w.settings now (current_of c w.members)
+    left_is = both.left ∙ ap (λ (d : ℕ). record_left change w.settings now (current_of d w.members)) is.cpu
+
+    meant : Option Taken → Type 0
+    meant o = IsMadeFor n worker c (step w worker e now).1 (stepped_left reply (held_by v worker) left o)
+
+    -- no thread left
+    none_left : (value_taken change now u).1 ≡ None → meant None
+    none_left out = record {
+      value = value;
+      hand = hand_stays v w worker e now at leaving.keeps (ap (change_of e) (answer None out) ∙ leaving.none);
+      answer = sym (answer None out);
+    }
+
+    -- this thread left, which is the current one
+    some_left : (x : Taken) (m : Member) → (value_taken change now u).1 ≡ Some x → current_of c w.members ≡ Some m →
+        x.thread ≡ record_after w.settings now change m.thread → meant (Some x)
+    some_left x m out runs record_is = record {
+      value = value;
+      hand = leaving_hand v w worker c e now change reply made m x.thread x.into at leaving empty runs record_is (answer (Some x) out);
+      answer = sym (answer (Some x) out);
+    }
+
+    split : (m : Option Member) → current_of c w.members ≡ m → (o : Option Taken) → (value_taken change now u).1 ≡ o → meant (value_taken change now u).1
+    split m runs None out = subst meant (sym out) (none_left out)
+    split None idle (Some x) out =
+        absurd (none-some x.thread (sym (ap (option_map (λ (y : Taken). y.thread)) (sym out) ∙ left_is ∙ ap (record_left change w.settings now) idle)))
+    split (Some m) runs (Some x) out =
+        subst meant (sym out)
+        (some_left x m out runs
+        (same_Some x.thread (record_after w.settings now change m.thread) (ap (option_map (λ (y : Taken). y.thread)) (sym out) ∙ left_is ∙ ap (record_left change w.settings now) runs)))
+
+-- a drop
+pub drop_made : (v : WorldValue) (w : World) (worker c channel now : ℕ) (u : CpuValue) → IsAtEvent v w worker (Drop c channel) now → IsQueueOf w c u →
+    held_by v worker ≡ None → IsStepUnder v w worker (Drop c channel) now c (queue u)
+drop_made v w worker c channel now u at is empty =
+    subst (IsMadeFor (step w worker (Drop c channel) now).0 worker c (step w worker (Drop c channel) now).1) (stepped (value_taken sleeps now u))
+    (leave_made v w worker c (Drop c channel) now u sleeps dropped_reply (dropped c worker now (side_of c w)) at
+    (record { step_is = refl; none = refl; keeps = λ old. refl; words = λ r into. refl; record_is = λ r. refl }) is empty both)
+  where
+    both : AreLeft sleeps dropped_reply now u (side_of c w) (value_taken sleeps now u) (dropped c worker now (side_of c w))
+    both =
+        subst (λ (d : ℕ). AreLeft sleeps dropped_reply now u (side_of d w) (value_taken sleeps now u) (dropped d worker now (side_of d w))) is.cpu
+        (dropped_stands worker now u (side_of u.cpu w) (own_side w c u is) at.shows.made)
+
+    stepped : (x : CpuValue × Option Taken) → stepped_left dropped_reply (held_by v worker) x.0 x.1 ≡ queue_dropped (held_by v worker) x
+    stepped (made, None) = refl
+    stepped (made, Some out) = refl
+
+-- an exit
+pub exit_made : (v : WorldValue) (w : World) (worker c now : ℕ) (u : CpuValue) → IsAtEvent v w worker (Exit c) now → IsQueueOf w c u →
+    held_by v worker ≡ None → IsStepUnder v w worker (Exit c) now c (queue u)
+exit_made v w worker c now u at is empty =
+    subst (IsMadeFor (step w worker (Exit c) now).0 worker c (step w worker (Exit c) now).1) (stepped (value_taken ran now u))
+    (leave_made v w worker c (Exit c) now u ran exited_reply (exited c worker now (side_of c w)) at
+    (record { step_is = refl; none = refl; keeps = λ old. refl; words = λ r into. refl; record_is = λ r. refl }) is empty both)
+  where
+    both : AreLeft ran exited_reply now u (side_of c w) (value_taken ran now u) (exited c worker now (side_of c w))
+    both =
+        subst (λ (d : ℕ). AreLeft ran exited_reply now u (side_of d w) (value_taken ran now u) (exited d worker now (side_of d w))) is.cpu
+        (exited_stands worker now u (side_of u.cpu w) (own_side w c u is) at.shows.made)
+
+    stepped : (x : CpuValue × Option Taken) → stepped_left exited_reply (held_by v worker) x.0 x.1 ≡ queue_exited (held_by v worker) x
+    stepped (made, None) = refl
+    stepped (made, Some out) = refl
+
+-- a landing of the thread in the hand
+pub land_made : (v : WorldValue) (w : World) (worker c t now : ℕ) (u : CpuValue) → IsAtEvent v w worker (Land t c) now → IsQueueOf w c u →
+    IsInHand w.members worker t (held_by v worker) → IsStepUnder v w worker (Land t c) now c (queue u)
+land_made v w worker c t now u at is held =
+    subst (λ (o : Option ThreadRecord). IsMadeFor (with_side c made.0 w) worker c made.1 (queue_landed worker o u)) (sym held.held_is)
+    (record { value = value; hand = hand; answer = answer })
+  where
+    m : Member
+    m = held.member
+
+    made : Side × Reply
+    made = landed t c worker now (side_of c w)
+
+    found : thread_of m.thread.id w.members ≡ Some m
+    found = subst (λ (i : ℕ). thread_of i w.members ≡ Some m) (sym held.within.number) (thread_of_within t m w.members held.within)
+
+    own : AreLanded m (not (worker == u.cpu)) u (landed m.thread.id u.cpu worker now (side_of u.cpu w))
+    own = landed_stands worker now m u (side_of u.cpu w) (own_side w c u is) at.shows.made found (ap (is_on u.cpu) held.place)
+
+    both : AreLanded m (not (worker == u.cpu)) u made
+    both =
+        subst (λ (i : ℕ). AreLanded m (not (worker == u.cpu)) u (landed i c worker now (side_of c w))) held.within.number
+        (subst (λ (d : ℕ). AreLanded m (not (worker == u.cpu)) u (landed m.thread.id d worker now (side_of d w))) is.cpu own)
+
+    value : IsQueueOf (with_side c made.0 w) c (value_added m.thread (not (worker == u.cpu)) u)
+    value = queue_stands w c u (value_added m.thread (not (worker == u.cpu)) u) made.0 is both.stands both.cpu (landed_kept t c worker now (side_of c w)).settings_are
+
+    answer : Landed (kind_at m.thread.priority) (bucket_of (kind_at m.thread.priority) Ordinary u.line m.thread.priority) (takes_over_in m.thread.priority (not (worker == u.cpu)) u) ≡ made.1
+    answer = sym both.answer
+
+    hand : IsThis worker made.0.members None
+    hand =
+        hand_gives worker t made.0.members w.members m.thread (own_hand v w worker (Land t c) now at) held.within.number
+        (subst (IsThis worker w.members) held.held_is (at.shows.hands worker))

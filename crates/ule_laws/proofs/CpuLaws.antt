@@ -18,7 +18,7 @@ use Rattle.ule_model.specs.Shows.{ShowsQueue}
 use Rattle.ule_model.specs.Start.{laid_on, unborn_member}
 use Rattle.ule_model.specs.Switch.{choosing_next, counted, given_way, insertion_of, is_preemption, is_unasked, one_more, started_reply, switched, switched_from, unmarked}
 use Rattle.ule_model.specs.WellMade.{IsWellMade}
-use Rattle.ule_model.specs.World.{Member, Side, current_of, is_thread, thread_of, with_change}
+use Rattle.ule_model.specs.World.{Member, Side, current_of, is_numbered, thread_of, with_change}
 use Rattle.ule_laws.proofs.Beside.{StandsBeside, absent_lifted, off_out, running_lifted}
 use Rattle.ule_laws.proofs.Buckets.{shows-appended}
 use Rattle.ule_laws.proofs.ChoosingLaws.{AreChosen, changed_stands, choosing_stands}
@@ -114,7 +114,7 @@ appended_stands n v s stands off = record {
   slots = stands.slots;
   threads = λ t.
       stands.threads t ∙ ap (option_map (λ (m : Member). m.thread))
-      (sym (find-appended (λ m. is_thread t m && is_on v.cpu m.place) s.members n (and_right (is_thread t n) (is_on v.cpu n.place) off)));
+      (sym (find-appended (λ m. is_numbered t m && is_on v.cpu m.place) s.members n (and_right (is_numbered t n) (is_on v.cpu n.place) off)));
   queues = λ k. shows-appended (queue_of k v) v.cpu k s.members n (off_out v.cpu k n.place off) (stands.queues k);
   index = stands.index;
 }
@@ -135,7 +135,7 @@ laid_stands r v s stands made numbers new =
     within : Within r.id n more.members
     within =
         within_thread r.id more.members n (well_made_appended s.members n made (record { numbers = numbers; place = tt }) (λ c. refl) new)
-        (find-appended_new (is_thread r.id) s.members n new (eq-eqb r.id r.id refl))
+        (find-appended_new (is_numbered r.id) s.members n new (eq-eqb r.id r.id refl))
 
 -- ---- the switch
 

@@ -10,12 +10,13 @@ use Rattle.ule_runq.specs.Runq.{place_in}
 use Rattle.ule_score.specs.declared.place.Place.{Place}
 use Rattle.ule_score.specs.declared.place.Place.TheVariants.{Running, Queued, Asleep, Unborn, Gone, Hand}
 use Rattle.ule_score.specs.declared.record.ThreadRecord.{ThreadRecord}
-use Rattle.ule_model.specs.CpuValue.{CpuValue, StandsFor, current_place, first_found, queued_place, thread_in, thread_on, value_line, value_place}
-use Rattle.ule_model.specs.Finals.{line_of, position_of, thread_line}
+use Rattle.ule_model.specs.CpuChange.{kind_if, kind_queued}
+use Rattle.ule_model.specs.CpuValue.{CpuValue, StandsFor, current_place, first_found, queue_of, queued_place, thread_in, thread_on, value_line, value_place}
+use Rattle.ule_model.specs.Finals.{line_of, position_of, final_line}
 use Rattle.ule_model.specs.Places.{is_on, rank_of, runs_on, waits_on}
 use Rattle.ule_model.specs.Shows.{ShowsQueue}
 use Rattle.ule_model.specs.WellMade.{IsWellMade}
-use Rattle.ule_model.specs.World.{Member, Side, current_of, is_thread}
+use Rattle.ule_model.specs.World.{Member, Side, current_of, is_numbered}
 use Rattle.ule_laws.proofs.PlaceLaws.{place_from_runs_on, place_from_waits_on, waits_on_place}
 use Rattle.ule_laws.proofs.Positions.{place_in_lacks, place_in_shown}
 use Rattle.ule_members.proofs.Membership.{Has, all_has, has_within, same_from_number}
@@ -66,9 +67,9 @@ runner_of_current v s stands made u is = split (current_of v.cpu s.members) refl
 -- a thread whose number finds none on a CPU doesn't stand there
 none_stands_on : (c t : ℕ) (ms : List Member) → thread_on c t ms ≡ None → (n : Member) → Has n ms → n.thread.id ≡ t → is_on c n.place ≡ true → ⊥
 none_stands_on c t ms none n has number on =
-    both_ways (is_thread t n && is_on c n.place)
-    (all_has (λ x. (is_thread t x && is_on c x.place) ≡ false) n ms (none_passes (λ x. is_thread t x && is_on c x.place) ms none) has)
-    (and_from (is_thread t n) (is_on c n.place) (eq-eqb n.thread.id t number) on)
+    both_ways (is_numbered t n && is_on c n.place)
+    (all_has (λ x. (is_numbered t x && is_on c x.place) ≡ false) n ms (none_passes (λ x. is_numbered t x && is_on c x.place) ms none) has)
+    (and_from (is_numbered t n) (is_on c n.place) (eq-eqb n.thread.id t number) on)
 
 -- a queue of a CPU lacks a thread that isn't there
 queue_lacks : (lists : List (List ℕ)) (c : ℕ) (k : Kind) (t : ℕ) (ms : List Member) → ShowsQueue lists c k ms → thread_on c t ms ≡ None →
@@ -168,6 +169,51 @@ place_somewhere v s m stands made w on =
     ap (λ (p : Place). Some (p, position_of m.place m.order s.members)) (sym at.1.1))
     (or_cases (runs_on v.cpu m.place) (waits_on v.cpu m.place) on)
 
+-- ---- the queue that has a thread
+
+-- what a CPU's queues say of the kind of the one that has a thread
+abbrev kind_by_parts : Option (ℕ × ℕ) → Option (ℕ × ℕ) → Option (ℕ × ℕ) → Option Kind
+kind_by_parts real batch idle = first_found (kind_if Real real) (first_found (kind_if Batch batch) (kind_if Idle idle))
+
+-- equal parts say one kind
+kinds_alike : (r y b z i u : Option (ℕ × ℕ)) → r ≡ y → b ≡ z → i ≡ u → kind_by_parts r b i ≡ kind_by_parts y z u
+kinds_alike r y b z i u one two three =
+    ap (λ (o : Option (ℕ × ℕ)). kind_by_parts o b i) one ∙ ap (λ (o : Option (ℕ × ℕ)). kind_by_parts y o i) two ∙
+    ap (λ (o : Option (ℕ × ℕ)). kind_by_parts y z o) three
+
+-- the queue that has a queued thread is that of its kind
+pub kind_waiting : (v : CpuValue) (s : Side) (m : Member) (k : Kind) (b : ℕ) → StandsFor v s → IsWellMade s.members → Has m s.members →
+    m.place ≡ Queued v.cpu k b → kind_queued v m.thread.id ≡ Some k
+kind_waiting v s m Real b stands made has place =
+    kinds_alike (place_in v.real m.thread.id) (Some (b, position_of m.place m.order s.members)) (place_in v.batch m.thread.id) (place_in v.batch m.thread.id)
+    (place_in v.idle m.thread.id) (place_in v.idle m.thread.id)
+    (place_in_shown v.real v.cpu Real b m s.members (stands.queues Real) made has place) refl refl
+kind_waiting v s m Batch b stands made has place =
+    kinds_alike (place_in v.real m.thread.id) None (place_in v.batch m.thread.id) (Some (b, position_of m.place m.order s.members))
+    (place_in v.idle m.thread.id) (place_in v.idle m.thread.id)
+    (queued_not_other v.real v.cpu Real Batch b m s.members (stands.queues Real) made has place (λ e. cc))
+    (place_in_shown v.batch v.cpu Batch b m s.members (stands.queues Batch) made has place) refl
+kind_waiting v s m Idle b stands made has place =
+    kinds_alike (place_in v.real m.thread.id) None (place_in v.batch m.thread.id) None
+    (place_in v.idle m.thread.id) (Some (b, position_of m.place m.order s.members))
+    (queued_not_other v.real v.cpu Real Idle b m s.members (stands.queues Real) made has place (λ e. cc))
+    (queued_not_other v.batch v.cpu Batch Idle b m s.members (stands.queues Batch) made has place (λ e. cc))
+    (place_in_shown v.idle v.cpu Idle b m s.members (stands.queues Idle) made has place)
+
+-- no queue has a thread that runs
+pub kind_running : (v : CpuValue) (s : Side) (m : Member) → StandsFor v s → IsWellMade s.members → Has m s.members → runs_on v.cpu m.place ≡ true →
+    kind_queued v m.thread.id ≡ None
+kind_running v s m stands made has runs =
+    kinds_alike (place_in v.real m.thread.id) None (place_in v.batch m.thread.id) None (place_in v.idle m.thread.id) None
+    (lacks Real) (lacks Batch) (lacks Idle)
+  where
+    lacks : (k : Kind) → place_in (queue_of k v) m.thread.id ≡ None
+    lacks k =
+        place_in_lacks (queue_of k v) v.cpu k m.thread.id s.members (stands.queues k)
+        (λ n there number b place.
+        both_ways (runs_on v.cpu m.place)
+        (ap (λ (x : Member). runs_on v.cpu x.place) (sym (same_from_number n m s.members made there has number)) ∙ ap (runs_on v.cpu) place) runs)
+
 -- ---- what the value tells of a thread
 
 -- a thread found on the CPU has the number by which it was found
@@ -200,7 +246,7 @@ place_stands v s stands made t =
 
 -- the line that the value tells of a thread is that of the side
 pub line_stands : (v : CpuValue) (s : Side) → StandsFor v s → IsWellMade s.members → (t : ℕ) →
-    value_line v t ≡ option_map (thread_line s.members) (thread_on v.cpu t s.members)
+    value_line v t ≡ option_map (final_line s.members) (thread_on v.cpu t s.members)
 line_stands v s stands made t =
     ap (λ (at : Option (Place × ℕ)). option_and_then (λ (r : ThreadRecord). option_map (λ (p : Place × ℕ). line_of r p.0 p.1) at) (thread_in v t)) (positions_stand v s stands made t) ∙
     ap (λ (o : Option ThreadRecord). option_and_then (λ (r : ThreadRecord). option_map (λ (p : Place × ℕ). line_of r p.0 p.1) (placed_at (thread_on v.cpu t s.members))) o) (stands.threads t) ∙
@@ -210,6 +256,6 @@ line_stands v s stands made t =
     placed_at o = option_map (λ m. (m.place, position_of m.place m.order s.members)) o
 
     split : (o : Option Member) →
-        option_and_then (λ (r : ThreadRecord). option_map (λ (p : Place × ℕ). line_of r p.0 p.1) (placed_at o)) (option_map (λ m. m.thread) o) ≡ option_map (thread_line s.members) o
+        option_and_then (λ (r : ThreadRecord). option_map (λ (p : Place × ℕ). line_of r p.0 p.1) (placed_at o)) (option_map (λ m. m.thread) o) ≡ option_map (final_line s.members) o
     split None = refl
     split (Some m) = refl

@@ -11,12 +11,12 @@ use Rattle.ule_model.specs.Events.{is_reached, locks_of}
 use Rattle.ule_model.specs.Frames.{LeavesRest}
 use Rattle.ule_model.specs.Insertion.{members_in}
 use Rattle.ule_model.specs.Places.{is_on, runs_on, waits_in, waits_on}
-use Rattle.ule_model.specs.Shows.{by_order, ids_of}
+use Rattle.ule_model.specs.Shows.{by_order, numbers_of}
 use Rattle.ule_model.specs.Step.{step}
 use Rattle.ule_model.specs.WellMade.{IsWellMadeWorld}
-use Rattle.ule_model.specs.World.{Member, World, is_thread, side_of}
+use Rattle.ule_model.specs.World.{Member, World, is_numbered, side_of}
 use Rattle.ule_members.proofs.Apart.{waits_on_where}
-use Rattle.ule_members.proofs.Rest.{step_leaves_rest}
+use Rattle.ule_members.proofs.Steps.{step_leaves_rest}
 use Rattle.ule_members.proofs.Untouched.{SeesNone, reached_off, step_count_by, step_filter, step_find}
 
 -- the value of a CPU whose lock an event doesn't take stands for the CPU's side afterwards
@@ -31,8 +31,8 @@ elsewhere_stands w worker e now made possible v none stands = record {
   slots = stands.slots;
   threads = λ t.
       stands.threads t ∙ ap (option_map (λ m. m.thread))
-      (sym (step_find w worker e now made possible (λ m. is_thread t m && is_on v.cpu m.place) (λ m here. and_right (is_thread t m) (is_on v.cpu m.place) (off m here))));
-  queues = λ k. record { buckets = (stands.queues k).buckets; each = λ b small. (stands.queues k).each b small ∙ ap (λ ms. ids_of (by_order ms)) (sym (bucket k b)) };
+      (sym (step_find w worker e now made possible (λ m. is_numbered t m && is_on v.cpu m.place) (λ m here. and_right (is_numbered t m) (is_on v.cpu m.place) (off m here))));
+  queues = λ k. record { buckets = (stands.queues k).buckets; each = λ b small. (stands.queues k).each b small ∙ ap (λ ms. numbers_of (by_order ms)) (sym (bucket k b)) };
   index = stands.index;
 }
   where

@@ -3,8 +3,8 @@ use Rattle.std.proofs.Common.{◌≡◌, ◌≢◌, ℕ, suc, ◌==◌, ℤ, Boo
 use Rattle.std.specs.List.{AllByRecursion}
 use Rattle.std.proofs.lemmas.Bool.{eq-eqb}
 use Rattle.std.proofs.lemmas.Int.{ints}
-use Rattle.ule_model.specs.Shows.{with_ordered, by_order, ids_of}
-use Rattle.ule_model.specs.World.{Member, is_thread}
+use Rattle.ule_model.specs.Shows.{with_ordered, by_order, numbers_of}
+use Rattle.ule_model.specs.World.{Member, is_numbered}
 use Rattle.ule_members.proofs.Within.{Lacks, all-append, all_along}
 use Rattle.ule_members.proofs.Apart.{lt_apart}
 
@@ -136,30 +136,30 @@ filter_passed p [] all = refl
 filter_passed p (x ∷ xs) all = let passes : p x ≡ true = all.0 in rw passes (ap (λ r. x ∷ r) (filter_passed p xs all.1))
 
 -- the numbers without t are the numbers of the threads that are not t
-pub filter-ids_of : (t : ℕ) (ms : List Member) → filter (λ u. not (u == t)) (ids_of ms) ≡ ids_of (filter (λ m. not (is_thread t m)) ms)
+pub filter-ids_of : (t : ℕ) (ms : List Member) → filter (λ u. not (u == t)) (numbers_of ms) ≡ numbers_of (filter (λ m. not (is_numbered t m)) ms)
 filter-ids_of t [] = refl
-filter-ids_of t (m ∷ ms) = step (not (is_thread t m)) (filter-ids_of t ms)
+filter-ids_of t (m ∷ ms) = step (not (is_numbered t m)) (filter-ids_of t ms)
   where
-    step : (b : Bool) → filter (λ u. not (u == t)) (ids_of ms) ≡ ids_of (filter (λ m. not (is_thread t m)) ms) →
-        (if b then m.thread.id ∷ filter (λ u. not (u == t)) (ids_of ms) else filter (λ u. not (u == t)) (ids_of ms)) ≡ ids_of (if b then m ∷ filter (λ m. not (is_thread t m)) ms else filter (λ m. not (is_thread t m)) ms)
+    step : (b : Bool) → filter (λ u. not (u == t)) (numbers_of ms) ≡ numbers_of (filter (λ m. not (is_numbered t m)) ms) →
+        (if b then m.thread.id ∷ filter (λ u. not (u == t)) (numbers_of ms) else filter (λ u. not (u == t)) (numbers_of ms)) ≡ numbers_of (if b then m ∷ filter (λ m. not (is_numbered t m)) ms else filter (λ m. not (is_numbered t m)) ms)
     step true rest = ap (λ r. m.thread.id ∷ r) rest
     step false rest = rest
 
 -- numbers without t where none is t
-pub ids_lacking : (t : ℕ) (ms : List Member) → Lacks t ms → filter (λ u. not (u == t)) (ids_of ms) ≡ ids_of ms
+pub ids_lacking : (t : ℕ) (ms : List Member) → Lacks t ms → filter (λ u. not (u == t)) (numbers_of ms) ≡ numbers_of ms
 ids_lacking t ms lacks =
-    filter-ids_of t ms ∙ ap ids_of (filter_passed (λ m. not (is_thread t m)) ms (all_along (λ m. is_thread t m ≡ false) (λ m. not (is_thread t m) ≡ true) ms (λ m h. ap not h) lacks))
+    filter-ids_of t ms ∙ ap numbers_of (filter_passed (λ m. not (is_numbered t m)) ms (all_along (λ m. is_numbered t m ≡ false) (λ m. not (is_numbered t m) ≡ true) ms (λ m h. ap not h) lacks))
 
 -- the numbers in order without t are those of the others in order
 pub ids_without : (t : ℕ) (before : List Member) (m : Member) (after : List Member) → AllByRecursion (λ n. n.order ≢ m.order) before → m.thread.id ≡ t → Lacks t before → Lacks t after →
-    filter (λ u. not (u == t)) (ids_of (by_order (before ++ m ∷ after))) ≡ ids_of (by_order (before ++ after))
+    filter (λ u. not (u == t)) (numbers_of (by_order (before ++ m ∷ after))) ≡ numbers_of (by_order (before ++ after))
 ids_without t before m after apart number front back =
-    let lacks : Lacks t (before ++ after) = all-append (λ n. is_thread t n ≡ false) before after front back in
-    ap (λ ns. filter (λ u. not (u == t)) (ids_of ns)) (by_order-between before m after apart) ∙
+    let lacks : Lacks t (before ++ after) = all-append (λ n. is_numbered t n ≡ false) before after front back in
+    ap (λ ns. filter (λ u. not (u == t)) (numbers_of ns)) (by_order-between before m after apart) ∙
     filter-ids_of t (with_ordered m (by_order (before ++ after))) ∙
-    ap ids_of (filter-with_ordered (λ n. not (is_thread t n)) m (by_order (before ++ after)) (ap not (eq-eqb m.thread.id t number))) ∙
+    ap numbers_of (filter-with_ordered (λ n. not (is_numbered t n)) m (by_order (before ++ after)) (ap not (eq-eqb m.thread.id t number))) ∙
     sym (filter-ids_of t (by_order (before ++ after))) ∙
-    ids_lacking t (by_order (before ++ after)) (all-by_order (λ n. is_thread t n ≡ false) (before ++ after) lacks)
+    ids_lacking t (by_order (before ++ after)) (all-by_order (λ n. is_numbered t n ≡ false) (before ++ after) lacks)
 
 -- ---- one above or below all the others
 

@@ -14,7 +14,7 @@ use Rattle.ule_score.specs.declared.place.Place.TheVariants.{Queued}
 use Rattle.ule_model.specs.Finals.{position_of}
 use Rattle.ule_model.specs.Insertion.{members_in}
 use Rattle.ule_model.specs.Places.{waits_in}
-use Rattle.ule_model.specs.Shows.{ShowsQueue, with_ordered, by_order, ids_of, bucket_ids}
+use Rattle.ule_model.specs.Shows.{ShowsQueue, with_ordered, by_order, numbers_of, bucket_ids}
 use Rattle.ule_model.specs.WellMade.{IsWellMade}
 use Rattle.ule_model.specs.World.{Member}
 use Rattle.ule_laws.proofs.ChoiceLaws.{bucket_within}
@@ -72,21 +72,21 @@ IsOrDiffers m n = (n ≡ m) ⊎ ((n.thread.id ≡ m.thread.id → ⊥) × (n.ord
 
 -- a thread's index in a rising list is how many have a smaller order
 index_in_rising : (m : Member) (ns : List Member) → IsRising ns → Has m ns → AllByRecursion (IsOrDiffers m) ns →
-    position_or_len (λ u. u == m.thread.id) (ids_of ns) ≡ count_by (λ n. int_lt n.order m.order) ns
+    position_or_len (λ u. u == m.thread.id) (numbers_of ns) ≡ count_by (λ n. int_lt n.order m.order) ns
 index_in_rising m [] rising has all = absurd has
 index_in_rising m (n ∷ ns) rising has all =
     let parts : count_by (λ z. int_lt z.order m.order) (n ∷ ns) ≡ cond (int_lt n.order m.order) 1 0 + count_by (λ z. int_lt z.order m.order) ns = sum_by-cons (λ z. cond (int_lt z.order m.order) 1 0) n ns in
     ⊎_elim
     (λ (same : n ≡ m).
-    let head : position_or_len (λ u. u == m.thread.id) (ids_of (n ∷ ns)) ≡ 0 =
-    ap (λ b. cond (not b) (1 + position_or_len (λ u. u == m.thread.id) (ids_of ns)) 0) (eq-eqb n.thread.id m.thread.id (ap (λ z. z.thread.id) same)) in
+    let head : position_or_len (λ u. u == m.thread.id) (numbers_of (n ∷ ns)) ≡ 0 =
+    ap (λ b. cond (not b) (1 + position_or_len (λ u. u == m.thread.id) (numbers_of ns)) 0) (eq-eqb n.thread.id m.thread.id (ap (λ z. z.thread.id) same)) in
     let none : count_by (λ z. int_lt z.order m.order) ns ≡ 0 = count_none (λ z. int_lt z.order m.order) ns (subst (λ (y : Member). AllByRecursion (λ z. int_lt z.order y.order ≡ false) ns) same rising.0) in
     let here : cond {A = ℕ} (int_lt n.order m.order) 1 0 ≡ 0 = ap (λ b. cond {A = ℕ} b 1 0) (ap (λ (z : Member). int_lt z.order m.order) same ∙ int_lt_same m.order) in
     omega arith)
     (λ (apart : (n.thread.id ≡ m.thread.id → ⊥) × (n.order ≡ m.order → ⊥)).
     let rest : Has m ns = ⊎_elim (λ (one : n ≡ m). absurd (apart.0 (ap (λ z. z.thread.id) one))) (λ (h : Has m ns). h) has in
-    let step : position_or_len (λ u. u == m.thread.id) (ids_of (n ∷ ns)) ≡ 1 + position_or_len (λ u. u == m.thread.id) (ids_of ns) =
-    ap (λ b. cond (not b) (1 + position_or_len (λ u. u == m.thread.id) (ids_of ns)) 0) (ne_eqb n.thread.id m.thread.id apart.0) in
+    let step : position_or_len (λ u. u == m.thread.id) (numbers_of (n ∷ ns)) ≡ 1 + position_or_len (λ u. u == m.thread.id) (numbers_of ns) =
+    ap (λ b. cond (not b) (1 + position_or_len (λ u. u == m.thread.id) (numbers_of ns)) 0) (ne_eqb n.thread.id m.thread.id apart.0) in
     let less : int_lt n.order m.order ≡ true = int_lt_other m.order n.order (all_has (λ z. int_lt z.order n.order ≡ false) m ns rising.0 rest) apart.1 in
     let one : cond {A = ℕ} (int_lt n.order m.order) 1 0 ≡ 1 = ap (λ b. cond {A = ℕ} b 1 0) less in
     let behind = index_in_rising m ns rising.1 rest all.1 in
@@ -118,19 +118,19 @@ position_is_index c k b m ms made has place =
 -- ---- the place in a queue
 
 -- a thread's number is among the numbers of the list in which it stands
-has_number : (m : Member) (ns : List Member) → Has m ns → list_any (λ u. u == m.thread.id) (ids_of ns) ≡ true
+has_number : (m : Member) (ns : List Member) → Has m ns → list_any (λ u. u == m.thread.id) (numbers_of ns) ≡ true
 has_number m [] has = absurd has
 has_number m (n ∷ ns) has =
     ⊎_elim
-    (λ (same : n ≡ m). or_left (n.thread.id == m.thread.id) (list_any (λ u. u == m.thread.id) (ids_of ns)) (eq-eqb n.thread.id m.thread.id (ap (λ z. z.thread.id) same)))
-    (λ (rest : Has m ns). or_right (n.thread.id == m.thread.id) (list_any (λ u. u == m.thread.id) (ids_of ns)) (has_number m ns rest))
+    (λ (same : n ≡ m). or_left (n.thread.id == m.thread.id) (list_any (λ u. u == m.thread.id) (numbers_of ns)) (eq-eqb n.thread.id m.thread.id (ap (λ z. z.thread.id) same)))
+    (λ (rest : Has m ns). or_right (n.thread.id == m.thread.id) (list_any (λ u. u == m.thread.id) (numbers_of ns)) (has_number m ns rest))
     has
 
 -- a number that no thread of a list has isn't among their numbers
-lacks_number : (t : ℕ) (ns : List Member) → ((n : Member) → Has n ns → n.thread.id ≡ t → ⊥) → list_any (λ u. u == t) (ids_of ns) ≡ false
+lacks_number : (t : ℕ) (ns : List Member) → ((n : Member) → Has n ns → n.thread.id ≡ t → ⊥) → list_any (λ u. u == t) (numbers_of ns) ≡ false
 lacks_number t [] lacks = refl
 lacks_number t (n ∷ ns) lacks =
-    or_from (n.thread.id == t) (list_any (λ u. u == t) (ids_of ns)) (ne_eqb n.thread.id t (lacks n (inl refl))) (lacks_number t ns (λ z has. lacks z (inr has)))
+    or_from (n.thread.id == t) (list_any (λ u. u == t) (numbers_of ns)) (ne_eqb n.thread.id t (lacks n (inl refl))) (lacks_number t ns (λ z has. lacks z (inr has)))
 
 -- a number that no thread of a bucket has isn't in the list that shows it
 lacks_in_bucket : (lists : List (List ℕ)) (c : ℕ) (k : Kind) (ms : List Member) → ShowsQueue lists c k ms → (t b : ℕ) → b < 64 →

@@ -86,7 +86,7 @@ pub record IsJoined (v new : CpuValue) (s : Side) : Type 0 where
   pub line : new.line ≡ v.line
 
 -- an insertion leaves the CPU's number
-inserted_cpu : (k : Kind) (how : Insertion) (b t : ℕ) (v : CpuValue) → (inserted_in k how b t v).cpu ≡ v.cpu
+pub inserted_cpu : (k : Kind) (how : Insertion) (b t : ℕ) (v : CpuValue) → (inserted_in k how b t v).cpu ≡ v.cpu
 inserted_cpu Real how b t v = refl
 inserted_cpu Batch how b t v = refl
 inserted_cpu Idle how b t v = refl

@@ -5,7 +5,7 @@ use Rattle.std.specs.List.{AllByRecursion}
 use Rattle.std.proofs.lemmas.Bool.{true_from_ne_false}
 use Rattle.std.proofs.lemmas.Int.{ints}
 use Rattle.std.proofs.lemmas.Option.{slice_get-map, same_Some, none-some}
-use Rattle.ule_model.specs.Shows.{with_ordered, by_order, ids_of}
+use Rattle.ule_model.specs.Shows.{with_ordered, by_order, numbers_of}
 use Rattle.ule_model.specs.World.{Member}
 use Rattle.ule_laws.proofs.Orders.{lt_not_back}
 use Rattle.ule_members.proofs.Membership.{Has, all_has, all_from_has}
@@ -115,7 +115,7 @@ rising_head m (x ∷ xs) rising head = subst (λ (z : Member). IsLeastOf z (x �
 })
 
 -- the head of the numbers of ordered threads is the number of the least of them
-pub head_by_order : (t : ℕ) (ms : List Member) → slice_get (ids_of (by_order ms)) 0 ≡ Some t → (m : Member) × (m.thread.id ≡ t) × IsLeastOf m ms
+pub head_by_order : (t : ℕ) (ms : List Member) → slice_get (numbers_of (by_order ms)) 0 ≡ Some t → (m : Member) × (m.thread.id ≡ t) × IsLeastOf m ms
 head_by_order t ms head = step (slice_get (by_order ms) 0) refl (sym (slice_get-map (λ (m : Member). m.thread.id) (by_order ms) 0) ∙ head)
   where
     step : (o : Option Member) → slice_get (by_order ms) 0 ≡ o → option_map (λ (m : Member). m.thread.id) o ≡ Some t → (m : Member) × (m.thread.id ≡ t) × IsLeastOf m ms

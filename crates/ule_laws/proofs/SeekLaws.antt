@@ -14,7 +14,7 @@ use Rattle.ule_model.specs.LockValue.{LockValue, chain, found_in, found_on, has_
 use Rattle.ule_model.specs.Places.{is_number, is_on, is_under, lock_of}
 use Rattle.ule_model.specs.WellMade.{IsWellMade}
 use Rattle.ule_runq.proofs.Counts.{position-at}
-use Rattle.ule_model.specs.World.{Member, Side, World, is_thread, side_of, thread_of}
+use Rattle.ule_model.specs.World.{Member, Side, World, is_numbered, side_of, thread_of}
 use Rattle.ule_model.specs.WorldValue.{Shows, StandsUnder, WorldValue, lock_with, standing_of}
 use Rattle.ule_members.proofs.PlaceFinds.{thread_at, thread_at_within}
 use Rattle.ule_members.proofs.Within.{within_thread}
@@ -44,8 +44,8 @@ is_under_queue c (Hand w) small = refl
 find_alike : (p q : Place → Bool) (t : ℕ) (ms : List Member) → ((place : Place) → p place ≡ q place) → thread_at p t ms ≡ thread_at q t ms
 find_alike p q t [] alike = refl
 find_alike p q t (m ∷ ms) alike =
-    ap (λ (b : Bool). if is_thread t m && b then Some m else thread_at p t ms) (alike m.place) ∙
-    ap (λ (o : Option Member). if is_thread t m && q m.place then Some m else o) (find_alike p q t ms alike)
+    ap (λ (b : Bool). if is_numbered t m && b then Some m else thread_at p t ms) (alike m.place) ∙
+    ap (λ (o : Option Member). if is_numbered t m && q m.place then Some m else o) (find_alike p q t ms alike)
 
 -- thread t on CPU c is thread t under its queue lock
 pub on_is_under : (c t : ℕ) (ms : List Member) → c < 16 → thread_on c t ms ≡ thread_under c t ms

@@ -23,9 +23,9 @@ use Rattle.ule_model.specs.CpuValue.{CpuValue, StandsFor, thread_in, value_laid}
 use Rattle.ule_model.specs.Frames.{thread_under}
 use Rattle.ule_model.specs.LockValue.{LockValue, chain, limbo, nothing, queue}
 use Rattle.ule_model.specs.Places.{hand_of, is_hand_of, is_number, is_on, is_under}
-use Rattle.ule_model.specs.Start.{balance_count, empty_world, first_balance_word, first_line, laid, laid_on, record_of, unborn_member, unborn_record, with_unborn, world_at_start}
+use Rattle.ule_model.specs.Start.{balance_count, empty_world, first_balance_word, start_line, laid, laid_on, record_of, unborn_member, unborn_record, with_unborn, world_at_start}
 use Rattle.ule_model.specs.WellMade.{IsWellMade}
-use Rattle.ule_model.specs.World.{Member, Side, World, fresh_line, is_thread, side_of, thread_of}
+use Rattle.ule_model.specs.World.{Member, Side, World, fresh_line, is_numbered, side_of, thread_of}
 use Rattle.ule_model.specs.WorldValue.{HasNoneUnder, IsAsleepOn, IsChainOf, IsHandOf, IsLimboOf, IsNothingOf, IsQueueOf, Shows, StandsUnder, WorldValue, held_by, standing_of}
 use Rattle.ule_members.proofs.PlaceFinds.{thread_at_none}
 use Rattle.ule_members.proofs.Setups.{setup_scripts}
@@ -40,7 +40,7 @@ use Rattle.ule_laws.proofs.Queueing.{IsJoined}
 
 -- a look-up under another lock finds what it found
 pub under-appended : (l t : ℕ) (m : Member) (ms : List Member) → is_under l m.place ≡ false → thread_under l t (ms ++ m ∷ []) ≡ thread_under l t ms
-under-appended l t m ms off = find-appended (λ n. is_thread t n && is_under l n.place) ms m (and_right (is_thread t m) (is_under l m.place) off)
+under-appended l t m ms off = find-appended (λ n. is_numbered t n && is_under l n.place) ms m (and_right (is_numbered t m) (is_under l m.place) off)
 
 -- a place that doesn't lie under a CPU's lock is not on the CPU
 pub off_from_under : (c : ℕ) (place : Place) → is_under c place ≡ false → is_on c place ≡ false
@@ -143,7 +143,7 @@ unborn_here w t v new small is = record {
 
     found_there : thread_under 24 t members ≡ Some m
     found_there =
-        find-appended_new (λ n. is_thread t n && is_under 24 n.place) w.members m (thread_at_none (is_under 24) t w.members new)
+        find-appended_new (λ n. is_numbered t n && is_under 24 n.place) w.members m (thread_at_none (is_under 24) t w.members new)
         (ap (λ b. b && true) (eq-eqb t t refl))
 
     own : (u : ℕ) → u ≡ t → standing_in slots u ≡ option_map standing_of (thread_under 24 u members)
@@ -152,7 +152,7 @@ unborn_here w t v new small is = record {
     rest : (u : ℕ) → (u ≡ t → ⊥) → standing_in slots u ≡ option_map standing_of (thread_under 24 u members)
     rest u other =
         kept u other ∙ is.under u ∙
-        ap (option_map standing_of) (sym (find-appended (λ n. is_thread u n && is_under 24 n.place) w.members m (and_left (is_thread u m) (is_under 24 m.place) (ne_eqb t u (λ e. other (sym e))))))
+        ap (option_map standing_of) (sym (find-appended (λ n. is_numbered u n && is_under 24 n.place) w.members m (and_left (is_numbered u m) (is_under 24 m.place) (ne_eqb t u (λ e. other (sym e))))))
 
     own_still : (u : ℕ) → u ≡ t → IfSome (standing_in slots u) (λ s. (s.place ≡ Unborn) ⊎ (s.place ≡ Gone))
     own_still u same = subst (λ (o : Option Standing). IfSome o (λ s. (s.place ≡ Unborn) ⊎ (s.place ≡ Gone))) (sym (found u same)) (inl refl)
@@ -183,8 +183,8 @@ start_off cpus l (Hand w) past other is = absurd is
 -- threads of which none lies under a lock have none there
 pub none_under : (l : ℕ) (ms : List Member) → AllByRecursion (λ m. is_under l m.place ≡ false) ms → (t : ℕ) → thread_under l t ms ≡ None
 none_under l ms off t =
-    find_nowhere (λ m. is_thread t m && is_under l m.place) ms
-    (all_along (λ m. is_under l m.place ≡ false) (λ m. (is_thread t m && is_under l m.place) ≡ false) ms (λ m fails. and_right (is_thread t m) (is_under l m.place) fails) off)
+    find_nowhere (λ m. is_numbered t m && is_under l m.place) ms
+    (all_along (λ m. is_under l m.place ≡ false) (λ m. (is_numbered t m && is_under l m.place) ≡ false) ms (λ m fails. and_right (is_numbered t m) (is_under l m.place) fails) off)
 
 -- at the start no thread is under a lock from the number of CPUs on but limbo's
 pub start_none_under : (s : Setup) (l : ℕ) → IsOfForm s → s.cpus ≤ l → l ≢ 24 → HasNoneUnder (world_at_start s) l
@@ -195,9 +195,9 @@ start_none_under s l form past other =
 -- at the start no thread is in a hand
 pub start_no_hand : (s : Setup) (h : ℕ) → IsOfForm s → IsHandOf (world_at_start s) h None
 start_no_hand s h form t =
-    sym (ap (option_map (λ m. m.thread)) (find_nowhere (λ m. is_thread t m && is_hand_of h m.place) (world_at_start s).members
-    (all_along (λ m. hand_of m.place ≡ None) (λ m. (is_thread t m && is_hand_of h m.place) ≡ false) (world_at_start s).members
-    (λ m free. and_right (is_thread t m) (is_hand_of h m.place) (ap (is_number h) free)) (start_free s form))))
+    sym (ap (option_map (λ m. m.thread)) (find_nowhere (λ m. is_numbered t m && is_hand_of h m.place) (world_at_start s).members
+    (all_along (λ m. hand_of m.place ≡ None) (λ m. (is_numbered t m && is_hand_of h m.place) ≡ false) (world_at_start s).members
+    (λ m free. and_right (is_numbered t m) (is_hand_of h m.place) (ap (is_number h) free)) (start_free s form))))
 
 -- ---- a queue lock, thread by thread
 
@@ -211,10 +211,10 @@ empty_line s c within =
     ⊎_elim
     (λ (same : c ≡ 0).
     ap (λ (i : ℕ). slice_index_or (empty_world s).lines i fresh_line) same ∙
-    get_or-set_same (replicate s.cpus fresh_line) 0 (first_line s.jitter) fresh_line (let long = length-replicate s.cpus fresh_line in omega arith) ∙
+    get_or-set_same (replicate s.cpus fresh_line) 0 (start_line s.jitter) fresh_line (let long = length-replicate s.cpus fresh_line in omega arith) ∙
     ap (λ (d : Bool). record fresh_line { balance = if d then balance_count (first_balance_word s.jitter) else 0 }) (sym (eq-eqb c 0 same)))
     (λ (other : c ≡ 0 → ⊥).
-    get_or-set_other (replicate s.cpus fresh_line) 0 c (first_line s.jitter) fresh_line other ∙
+    get_or-set_other (replicate s.cpus fresh_line) 0 c (start_line s.jitter) fresh_line other ∙
     get_or-replicate s.cpus c fresh_line fresh_line within ∙
     ap (λ (d : Bool). record fresh_line { balance = if d then balance_count (first_balance_word s.jitter) else 0 }) (sym (ne_eqb c 0 other)))
     (cases_eq c 0)
@@ -223,7 +223,7 @@ empty_line s c within =
 pub queue_before : (s : Setup) (c : ℕ) (v : CpuValue) (word : ℕ) → c < s.cpus → word ≡ starting_word s → StartsAs v c s.settings word → IsQueueOf (laid_first s 0) c v
 queue_before s c v word within is begins = record {
   cpu = starts.cpu;
-  there = let long = length-set (replicate s.cpus fresh_line) 0 (first_line s.jitter) in let as_long = length-replicate s.cpus fresh_line in omega arith;
+  there = let long = length-set (replicate s.cpus fresh_line) 0 (start_line s.jitter) in let as_long = length-replicate s.cpus fresh_line in omega arith;
   stands =
       start_stands v (side_of c (empty_world s)) c (starting_word s) starts refl (empty_line s c within)
       (λ zero. sym (ap (λ (d : Bool). if d then first_balance_word s.jitter else starting_word s) (eq-eqb c 0 (sym starts.cpu ∙ zero))));

@@ -27,7 +27,8 @@ use Rattle.ule_members.proofs.Membership.{all_has, has_within}
 use Rattle.ule_members.proofs.PlaceFinds.{thread_at_stands, thread_at_within, within_thread_at}
 use Rattle.ule_laws.proofs.ChainSteps.{place_from_hand_of}
 use Rattle.ule_laws.proofs.SeekLaws.{on_is_under}
-use Rattle.ule_laws.proofs.StepLaws.{IsAtEvent, IsSought, few_queues, slot_of, sought_stands, unborn_stands}
+use Rattle.ule_laws.proofs.StepFrom.{IsAtEvent, slot_of}
+use Rattle.ule_laws.proofs.StepLaws.{IsSought, few_queues, sought_stands, unborn_stands}
 use Rattle.ule_laws.proofs.WorldLaws.{HasValue, if_some, value_at}
 
 -- ---- reach
@@ -77,6 +78,7 @@ can_step_at v w worker e now l (queue u) at locks is = record {
   time = record { begun = at.possible.begun; bounded = at.possible.bounded };
   in_time = λ t. subst (λ (o : Option ThreadRecord). IfSome o (λ r. r.usage.ltick ≤ now)) (sym (is.stands.threads t)) (on t (thread_on u.cpu t w.members) refl);
   absent = if_some (λ (r : ThreadRecord). thread_in u r.id ≡ None) (held_by v worker) (λ r held. is.stands.threads r.id ∙ ap (option_map (λ (m : Member). m.thread)) (under r.id ∙ not_under v w worker l r at.shows held));
+  numbers = at.possible.numbers;
   cpu = λ t c same. is.cpu ∙ sym (one_number c l (sym (ap (locks_of w) same) ∙ locks));
 }
   where
@@ -90,6 +92,7 @@ can_step_at v w worker e now l (chain c) at locks is = record {
   time = record { begun = at.possible.begun; bounded = at.possible.bounded };
   in_time = λ t. subst (λ (o : Option Standing). IfSome o (λ s. IsBy now s.thread)) (sym (is.under t)) (on t (thread_under l t w.members) refl);
   absent = if_some (λ (r : ThreadRecord). standing_in c.slots r.id ≡ None) (held_by v worker) (λ r held. is.under r.id ∙ ap (option_map standing_of) (not_under v w worker l r at.shows held));
+  numbers = at.possible.numbers;
   channel = λ t channel same. let number = is.number in let lock : 16 + channel % 8 ≡ l = one_number (16 + channel % 8) l (sym (ap (locks_of w) same) ∙ locks) in omega arith;
 }
   where
@@ -98,6 +101,7 @@ can_step_at v w worker e now l (chain c) at locks is = record {
     on t (Some m) found = by_now w worker e now l t m at.shows.made at.possible locks found
 can_step_at v w worker e now l (limbo c) at locks is = record {
   absent = if_some (λ (r : ThreadRecord). standing_in c.slots r.id ≡ None) (held_by v worker) (λ r held. is.under r.id ∙ ap (option_map standing_of) (not_under v w worker l r at.shows held));
+  numbers = at.possible.numbers;
   unborn = λ t same. hatched t same;
 }
   where

@@ -13,7 +13,7 @@ use Rattle.ule_threads.specs.declared.standing.Standing.{Standing}
 use Rattle.ule_types.specs.declared.outcome.ThreadLine.{ThreadLine}
 use Rattle.ule_model.specs.CpuValue.{first_found}
 use Rattle.ule_model.specs.Events.{holder_of}
-use Rattle.ule_model.specs.Finals.{line_of, position_of, thread_line, thread_lines}
+use Rattle.ule_model.specs.Finals.{line_of, position_of, final_line, thread_lines}
 use Rattle.ule_model.specs.Frames.{thread_in_hand, thread_under}
 use Rattle.ule_model.specs.LockValue.{LockValue, chain, limbo, line_under, nothing, queue, standing_line}
 use Rattle.ule_model.specs.Places.{hand_of, is_hand_of, is_number, is_under, lock_of}
@@ -128,15 +128,15 @@ told_one g v w t h m shows found place =
 -- ---- a thread's place
 
 -- a thread that isn't there, that stands under a lock, or that is in a hand
-pub data StandsAt (w : World) (t : ℕ) : Type 0 where
-  nowhere : thread_of t w.members ≡ None → StandsAt w t
-  under : (m : Member) (l : ℕ) → thread_of t w.members ≡ Some m → lock_of m.place ≡ Some l → hand_of m.place ≡ None → StandsAt w t
-  in_hand : (m : Member) (h : ℕ) → thread_of t w.members ≡ Some m → m.place ≡ Hand h → StandsAt w t
+pub data IsSomewhere (w : World) (t : ℕ) : Type 0 where
+  nowhere : thread_of t w.members ≡ None → IsSomewhere w t
+  under : (m : Member) (l : ℕ) → thread_of t w.members ≡ Some m → lock_of m.place ≡ Some l → hand_of m.place ≡ None → IsSomewhere w t
+  in_hand : (m : Member) (h : ℕ) → thread_of t w.members ≡ Some m → m.place ≡ Hand h → IsSomewhere w t
 
-pub stands_at : (w : World) (t : ℕ) → StandsAt w t
+pub stands_at : (w : World) (t : ℕ) → IsSomewhere w t
 stands_at w t = at_thread (thread_of t w.members) refl
   where
-    at_place : (m : Member) (p : Place) → thread_of t w.members ≡ Some m → m.place ≡ p → StandsAt w t
+    at_place : (m : Member) (p : Place) → thread_of t w.members ≡ Some m → m.place ≡ p → IsSomewhere w t
     at_place m (Running c) found place = under m c found (ap lock_of place) (ap hand_of place)
     at_place m (Queued c k b) found place = under m c found (ap lock_of place) (ap hand_of place)
     at_place m (Asleep channel) found place = under m (16 + channel % 8) found (ap lock_of place) (ap hand_of place)
@@ -144,7 +144,7 @@ stands_at w t = at_thread (thread_of t w.members) refl
     at_place m Gone found place = under m 24 found (ap lock_of place) (ap hand_of place)
     at_place m (Hand h) found place = in_hand m h found place
 
-    at_thread : (o : Option Member) → thread_of t w.members ≡ o → StandsAt w t
+    at_thread : (o : Option Member) → thread_of t w.members ≡ o → IsSomewhere w t
     at_thread None found = nowhere found
     at_thread (Some m) found = at_place m m.place found refl
 
@@ -157,7 +157,7 @@ no_hand w t h m made found none =
 pub holder_shown : (v : WorldValue) (w : World) (t : ℕ) → Shows v w → holder_in v t ≡ holder_of w.members t
 holder_shown v w t shows = holder_is_first 0 v.hands t ∙ at (stands_at w t)
   where
-    at : StandsAt w t → first_among (told_in (λ h r. h) t) 0 v.hands ≡ holder_of w.members t
+    at : IsSomewhere w t → first_among (told_in (λ h r. h) t) 0 v.hands ≡ holder_of w.members t
     at (nowhere found) = told_none (λ h r. h) v w t shows (λ h. thread_at_none (is_hand_of h) t w.members found) ∙ sym (ap (option_and_then (λ (m : Member). hand_of m.place)) found)
     at (under m l found lock none) = told_none (λ h r. h) v w t shows (λ h. no_hand w t h m shows.made found none) ∙ sym (ap (option_and_then (λ (n : Member). hand_of n.place)) found ∙ none)
     at (in_hand m h found place) = told_one (λ h r. h) v w t h m shows found place ∙ sym (ap (option_and_then (λ (n : Member). hand_of n.place)) found ∙ ap hand_of place)
@@ -166,26 +166,28 @@ holder_shown v w t shows = holder_is_first 0 v.hands t ∙ at (stands_at w t)
 
 -- a value's line of a thread is the world's, if the thread stands under the lock
 pub line_under_is : (w : World) (l t : ℕ) (value : LockValue) → IsWellMade w.members → length w.lines ≤ 16 → StandsUnder w l value →
-    line_under value t ≡ option_map (thread_line w.members) (thread_under l t w.members)
+    line_under value t ≡ option_map (final_line w.members) (thread_under l t w.members)
 line_under_is w l t (queue v) made few stands =
     line_stands v (side_of l w) stands.stands made t ∙
-    ap (option_map (thread_line w.members)) (on_is_under v.cpu t w.members (omega (arith, stands.cpu, stands.there)) ∙ ap (λ (c : ℕ). thread_under c t w.members) stands.cpu)
+    ap (option_map (final_line w.members)) (on_is_under v.cpu t w.members (omega (arith, stands.cpu, stands.there)) ∙ ap (λ (c : ℕ). thread_under c t w.members) stands.cpu)
 line_under_is w l t (chain v) made few stands = split (thread_under l t w.members) (stands.under t) (stands.asleep t)
   where
-    split : (o : Option Member) → standing_in v.slots t ≡ option_map standing_of o → IfSome (standing_in v.slots t) (IsAsleepOn v.number) → option_map standing_line (standing_in v.slots t) ≡ option_map (thread_line w.members) o
+    split : (o : Option Member) → standing_in v.slots t ≡ option_map standing_of o → IfSome (standing_in v.slots t) (IsAsleepOn v.number) →
+        option_map standing_line (standing_in v.slots t) ≡ option_map (final_line w.members) o
     split None is asleep = ap (option_map standing_line) is
     split (Some m) is asleep =
         let at : IsAsleepOn v.number (standing_of m) = at_some (IsAsleepOn v.number) (standing_in v.slots t) (standing_of m) asleep is in
         ap (option_map standing_line) is ∙ ap (λ (i : ℕ). Some (line_of m.thread m.place i)) (sym (ap (λ (p : Place). position_of p m.order w.members) at.place))
 line_under_is w l t (limbo v) made few stands = split (thread_under l t w.members) (stands.under t) (stands.still t)
   where
-    split : (o : Option Member) → standing_in v.slots t ≡ option_map standing_of o → IfSome (standing_in v.slots t) (λ s. (s.place ≡ Unborn) ⊎ (s.place ≡ Gone)) → option_map standing_line (standing_in v.slots t) ≡ option_map (thread_line w.members) o
+    split : (o : Option Member) → standing_in v.slots t ≡ option_map standing_of o → IfSome (standing_in v.slots t) (λ s. (s.place ≡ Unborn) ⊎ (s.place ≡ Gone)) →
+        option_map standing_line (standing_in v.slots t) ≡ option_map (final_line w.members) o
     split None is still = ap (option_map standing_line) is
     split (Some m) is still =
         ap (option_map standing_line) is ∙ ap (λ (i : ℕ). Some (line_of m.thread m.place i))
         (⊎_elim (λ (e : m.place ≡ Unborn). sym (ap (λ (p : Place). position_of p m.order w.members) e)) (λ (e : m.place ≡ Gone). sym (ap (λ (p : Place). position_of p m.order w.members) e))
         (at_some (λ (s : Standing). (s.place ≡ Unborn) ⊎ (s.place ≡ Gone)) (standing_in v.slots t) (standing_of m) still is))
-line_under_is w l t nothing made few stands = sym (ap (option_map (thread_line w.members)) (stands.none t))
+line_under_is w l t nothing made few stands = sym (ap (option_map (final_line w.members)) (stands.none t))
 
 -- the line under the first lock that has the thread
 among_is_first : (n : ℕ) (values : List LockValue) (t : ℕ) → line_among values t ≡ first_among (λ (i : ℕ) x. line_under x t) n values
@@ -193,7 +195,7 @@ among_is_first n [] t = refl
 among_is_first n (x ∷ xs) t = ap (first_found (line_under x t)) (among_is_first (suc n) xs t)
 
 -- the line that a scheduler tells of a thread is the world's
-pub line_shown : (v : WorldValue) (w : World) (t : ℕ) → Shows v w → line_at v t ≡ option_map (thread_line w.members) (thread_of t w.members)
+pub line_shown : (v : WorldValue) (w : World) (t : ℕ) → Shows v w → line_at v t ≡ option_map (final_line w.members) (thread_of t w.members)
 line_shown v w t shows =
     ap (λ (o : Option ThreadLine). first_found o (line_in_hands 0 v.hands t)) (among_is_first 0 v.values t) ∙
     ap (first_found (first_among (λ (i : ℕ) x. line_under x t) 0 v.values)) (lines_are_first 0 v.hands t) ∙ at (stands_at w t)
@@ -201,36 +203,37 @@ line_shown v w t shows =
     g : ℕ → ThreadRecord → ThreadLine
     g h r = line_of r (Hand h) 0
 
-    each : (k : ℕ) (x : LockValue) → slice_get v.values k ≡ Some x → line_under x t ≡ option_map (thread_line w.members) (thread_under k t w.members)
+    each : (k : ℕ) (x : LockValue) → slice_get v.values k ≡ Some x → line_under x t ≡ option_map (final_line w.members) (thread_under k t w.members)
     each k x got = line_under_is w k t x shows.made shows.cpus (at_some (StandsUnder w k) (slice_get v.values k) x (shows.under k) got)
 
     none_among : ((k : ℕ) → thread_under k t w.members ≡ None) → first_among (λ (i : ℕ) x. line_under x t) 0 v.values ≡ None
-    none_among none = first_none (λ (i : ℕ) x. line_under x t) 0 v.values (λ k x got. each k x got ∙ ap (option_map (thread_line w.members)) (none k))
+    none_among none = first_none (λ (i : ℕ) x. line_under x t) 0 v.values (λ k x got. each k x got ∙ ap (option_map (final_line w.members)) (none k))
 
-    at : StandsAt w t → first_found (first_among (λ (i : ℕ) x. line_under x t) 0 v.values) (first_among (told_in (λ h r. line_of r (Hand h) 0) t) 0 v.hands) ≡ option_map (thread_line w.members) (thread_of t w.members)
+    at : IsSomewhere w t →
+        first_found (first_among (λ (i : ℕ) x. line_under x t) 0 v.values) (first_among (told_in (λ h r. line_of r (Hand h) 0) t) 0 v.hands) ≡ option_map (final_line w.members) (thread_of t w.members)
     at (nowhere found) =
         ap (λ (o : Option ThreadLine). first_found o (first_among (told_in (λ h r. line_of r (Hand h) 0) t) 0 v.hands)) (none_among (λ k. thread_at_none (is_under k) t w.members found)) ∙
-        told_none (λ h r. line_of r (Hand h) 0) v w t shows (λ h. thread_at_none (is_hand_of h) t w.members found) ∙ sym (ap (option_map (thread_line w.members)) found)
+        told_none (λ h r. line_of r (Hand h) 0) v w t shows (λ h. thread_at_none (is_hand_of h) t w.members found) ∙ sym (ap (option_map (final_line w.members)) found)
     at (under m l found lock none) =
         let is = lock_found v w t l m shows found lock in
         let has : HasValue v w l = value_at v w l shows is.0 in
         ap (λ (o : Option ThreadLine). first_found o (first_among (told_in (λ h r. line_of r (Hand h) 0) t) 0 v.hands))
-        (first_one (λ (i : ℕ) x. line_under x t) 0 v.values l has.value (thread_line w.members m) has.found
-        (each l has.value has.found ∙ ap (option_map (thread_line w.members)) (thread_at_within (is_under l) t m w.members (within_thread t w.members m shows.made found) ∙ cond-true (is_under l m.place) (Some m) None (ap (is_number l) lock ∙ eq-eqb l l refl)))
-        (λ k z below got. each k z got ∙ ap (option_map (thread_line w.members)) (one_lock w l k t m shows.made found lock (λ (e : k ≡ l). omega arith)))) ∙
-        sym (ap (option_map (thread_line w.members)) found)
+        (first_one (λ (i : ℕ) x. line_under x t) 0 v.values l has.value (final_line w.members m) has.found
+        (each l has.value has.found ∙ ap (option_map (final_line w.members)) (thread_at_within (is_under l) t m w.members (within_thread t w.members m shows.made found) ∙ cond-true (is_under l m.place) (Some m) None (ap (is_number l) lock ∙ eq-eqb l l refl)))
+        (λ k z below got. each k z got ∙ ap (option_map (final_line w.members)) (one_lock w l k t m shows.made found lock (λ (e : k ≡ l). omega arith)))) ∙
+        sym (ap (option_map (final_line w.members)) found)
     at (in_hand m h found place) =
         ap (λ (o : Option ThreadLine). first_found o (first_among (told_in (λ h r. line_of r (Hand h) 0) t) 0 v.hands))
         (none_among (λ k. thread_at_within (is_under k) t m w.members (within_thread t w.members m shows.made found) ∙ cond-false (is_under k m.place) (Some m) None (ap (is_under k) place))) ∙
         told_one (λ h r. line_of r (Hand h) 0) v w t h m shows found place ∙
-        sym (ap (option_map (thread_line w.members)) found ∙ ap (λ (p : Place). Some (line_of m.thread p (position_of p m.order w.members))) place)
+        sym (ap (option_map (final_line w.members)) found ∙ ap (λ (p : Place). Some (line_of m.thread p (position_of p m.order w.members))) place)
 
 -- the final lines of a scheduler are the world's
 pub lines_shown : (v : WorldValue) (w : World) → Shows v w → value_lines v ≡ thread_lines w.members
 lines_shown v w shows = lines_of (range_with_len 0 256)
   where
-    lines_of : (ts : List ℕ) → filter_map (line_at v) ts ≡ filter_map (λ t. option_map (thread_line w.members) (thread_of t w.members)) ts
+    lines_of : (ts : List ℕ) → filter_map (line_at v) ts ≡ filter_map (λ t. option_map (final_line w.members) (thread_of t w.members)) ts
     lines_of [] = refl
     lines_of (t ∷ ts) =
         ap (λ (o : Option ThreadLine). cons_option o (filter_map (line_at v) ts)) (line_shown v w t shows) ∙
-        ap (cons_option (option_map (thread_line w.members) (thread_of t w.members))) (lines_of ts)
+        ap (cons_option (option_map (final_line w.members) (thread_of t w.members))) (lines_of ts)

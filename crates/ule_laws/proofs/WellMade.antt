@@ -14,7 +14,7 @@ use Rattle.ule_model.specs.Insertion.{members_in, order_of}
 use Rattle.ule_model.specs.declared.insertion.Insertion.{Insertion}
 use Rattle.ule_model.specs.Places.{runs_on, waits_in, is_on}
 use Rattle.ule_model.specs.WellMade.{IsPlace, IsMade, AreApart, AllApart, IsWellMade}
-use Rattle.ule_model.specs.World.{Member, is_thread, thread_of, current_of, moved_to, with_change, with_record}
+use Rattle.ule_model.specs.World.{Member, is_numbered, thread_of, current_of, moved_to, with_change, with_record}
 use Rattle.ule_members.proofs.Threads.{none_passes}
 use Rattle.ule_members.proofs.Within.{Within, all_along, all_back, all_both, all_front, well_made_between, well_made_within}
 use Rattle.ule_members.proofs.Apart.{all_from_filter, all_from_map, apart_off, apart_queued, apart_running, order_of_apart, orders_in}
@@ -44,12 +44,12 @@ all_apart-map g step (m ∷ ms) all = (all-map g (AreApart m) (AreApart (g m)) (
 pub well_made-with_record : (t : ℕ) (change : ThreadRecord → ThreadRecord) (ms : List Member) → ((r : ThreadRecord) → (change r).id ≡ r.id) →
     ((r : ThreadRecord) → HasNumbers r → HasNumbers (change r)) → IsWellMade ms → IsWellMade (with_record t change ms)
 well_made-with_record t change ms kept within made = record {
-  each = all-map one IsMade IsMade (λ n h. made_still n h (is_thread t n)) ms made.each;
-  apart = all_apart-map one (λ m n h. apart_alike one (λ n. id_kept n (is_thread t n)) (λ n. place_kept n (is_thread t n)) (λ n. order_kept n (is_thread t n)) m n h) ms made.apart;
+  each = all-map one IsMade IsMade (λ n h. made_still n h (is_numbered t n)) ms made.each;
+  apart = all_apart-map one (λ m n h. apart_alike one (λ n. id_kept n (is_numbered t n)) (λ n. place_kept n (is_numbered t n)) (λ n. order_kept n (is_numbered t n)) m n h) ms made.apart;
 }
   where
     one : Member → Member
-    one n = if is_thread t n then record n { thread = change n.thread } else n
+    one n = if is_numbered t n then record n { thread = change n.thread } else n
 
     made_still : (n : Member) → IsMade n → (d : Bool) → IsMade (if d then record n { thread = change n.thread } else n)
     made_still n h true = record { numbers = within n.thread h.numbers; place = h.place }
@@ -126,4 +126,4 @@ well_made_joined how c k b t m ms w small =
 pub well_made_appended : (ms : List Member) (n : Member) → IsWellMade ms → IsMade n → ((c : ℕ) → is_on c n.place ≡ false) → thread_of n.thread.id ms ≡ None → IsWellMade (ms ++ n ∷ [])
 well_made_appended ms n made is off new =
     well_made_between ms n [] (subst IsWellMade (sym (append-nil ms)) made) is
-    (all_along (λ x. is_thread n.thread.id x ≡ false) (AreApart n) ms (λ x other. apart_off n x (λ e. eqb-false x.thread.id n.thread.id other (sym e)) off) (none_passes (is_thread n.thread.id) ms new)) tt
+    (all_along (λ x. is_numbered n.thread.id x ≡ false) (AreApart n) ms (λ x other. apart_off n x (λ e. eqb-false x.thread.id n.thread.id other (sym e)) off) (none_passes (is_numbered n.thread.id) ms new)) tt

@@ -12,7 +12,8 @@ use Rattle.ule_types.specs.declared.event.Reply.{Reply}
 use Rattle.ule_model.specs.CpuValue.{CpuValue, StandsFor}
 use Rattle.ule_model.specs.Events.{locks_of}
 use Rattle.ule_model.specs.Frames.{LeavesRest, thread_in_hand, thread_under}
-use Rattle.ule_model.specs.LockValue.{LockValue, Stepped, chain, limbo, nothing, queue}
+use Rattle.ule_model.specs.LockValue.{LockValue, chain, limbo, nothing, queue}
+use Rattle.ule_model.specs.Step.{Stepped}
 use Rattle.ule_model.specs.WellMade.{HaveIndexes, IsWellMade}
 use Rattle.ule_model.specs.World.{World, side_of}
 use Rattle.ule_model.specs.WorldValue.{IsHandOf, Shows, StandsUnder, WorldValue, held_by, put_back, standing_of}

@@ -5,10 +5,12 @@ use Rattle.ule_types.specs.declared.event.Event.{Event}
 use Rattle.ule_types.specs.declared.event.Reply.{Reply}
 use Rattle.ule_types.specs.declared.event.Reply.TheVariants.{Nothing}
 use Rattle.ule_model.specs.Events.{locking}
-use Rattle.ule_model.specs.LockValue.{LockValue, Stepped, lock_step}
+use Rattle.ule_model.specs.LockValue.{LockValue}
+use Rattle.ule_model.specs.Step.{Stepped, lock_step}
 use Rattle.ule_model.specs.Step.{step}
 use Rattle.ule_model.specs.WorldValue.{CanStep, IsShown, Steps, WorldValue, held_by, lock_for, put_back, value_step, value_step_at}
-use Rattle.ule_laws.proofs.StepLaws.{Agrees, step_shows}
+use Rattle.ule_laws.proofs.StepFrom.{ShowsWithReply}
+use Rattle.ule_laws.proofs.StepLaws.{step_shows}
 
 -- what an event makes of a lock's value
 abbrev pub made_of : WorldValue → ℕ → Event → ℕ → LockValue → Stepped
@@ -35,7 +37,7 @@ none_is_step v worker e now none = ap (λ (o : Option ℕ). value_step_at o work
 -- what the step of a scheduler comes to is a step of each world that it shows
 pub value_step_steps : (v : WorldValue) (worker : ℕ) (e : Event) (now : ℕ) (done : WorldValue × Reply) → done ≡ value_step v worker e now → Steps v worker e now done.0 done.1
 value_step_steps v worker e now done is w shows possible =
-    subst (λ (x : WorldValue × Reply). Agrees (step w worker e now).0 (step w worker e now).1 x) (sym is) (step_shows v w worker e now (record { shows = shows; possible = possible }))
+    subst (λ (x : WorldValue × Reply). ShowsWithReply (step w worker e now).0 (step w worker e now).1 x) (sym is) (step_shows v w worker e now (record { shows = shows; possible = possible }))
 
 -- a scheduler shows a world after a step that it could perform
 pub value_step_shown : (v : WorldValue) (worker : ℕ) (e : Event) (now : ℕ) (done : WorldValue × Reply) → done ≡ value_step v worker e now → CanStep v worker e now → IsShown done.0

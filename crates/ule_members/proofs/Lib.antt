@@ -12,10 +12,11 @@ pub mod MadeWell
 pub mod Reach
 pub mod Done
 pub mod EventParts
-pub mod EventsDone
 pub mod Rest
 pub mod Steps
 pub mod Untouched
 pub mod Numbered
+pub mod Parents
 pub mod Setups
 pub mod Starts
+pub mod Unborn

@@ -6,7 +6,7 @@ use Rattle.ule_score.specs.declared.place.Place.{Place}
 use Rattle.ule_score.specs.declared.record.ThreadRecord.{ThreadRecord}
 use Rattle.ule_model.specs.Places.{is_on}
 use Rattle.ule_model.specs.Tick.{load_of}
-use Rattle.ule_model.specs.World.{Member, is_thread, with_record}
+use Rattle.ule_model.specs.World.{Member, is_numbered, with_record}
 use Rattle.ule_members.proofs.Within.{Within, changed, changed_within}
 
 -- what a thread at this place adds to the load of CPU c
@@ -43,8 +43,8 @@ load-changed_kept c t m ms w f same =
 pub load-with_record : (c t : ℕ) (change : ThreadRecord → ThreadRecord) (ms : List Member) → load_of c (with_record t change ms) ≡ load_of c ms
 load-with_record c t change [] = refl
 load-with_record c t change (m ∷ ms) =
-    load-cons c (one (is_thread t m)) (with_record t change ms) ∙ ap (λ n. load_at c (one (is_thread t m)).place + n) (load-with_record c t change ms)
-    ∙ ap (λ place. load_at c place + load_of c ms) (place_kept (is_thread t m)) ∙ sym (load-cons c m ms)
+    load-cons c (one (is_numbered t m)) (with_record t change ms) ∙ ap (λ n. load_at c (one (is_numbered t m)).place + n) (load-with_record c t change ms)
+    ∙ ap (λ place. load_at c place + load_of c ms) (place_kept (is_numbered t m)) ∙ sym (load-cons c m ms)
   where
     one : Bool → Member
     one d = if d then record m { thread = change m.thread } else m

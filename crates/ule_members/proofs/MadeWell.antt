@@ -9,7 +9,7 @@ use Rattle.ule_model.specs.Insertion.{bucket_of, order_of, order_of_insertion, p
 use Rattle.ule_model.specs.declared.insertion.Insertion.{Insertion}
 use Rattle.ule_model.specs.Places.{is_on, runs_on, waits_in}
 use Rattle.ule_model.specs.WellMade.{AreApart, IsMade, IsWellMade}
-use Rattle.ule_model.specs.World.{Member, Side, current_of, is_thread, moved_to, thread_of}
+use Rattle.ule_model.specs.World.{Member, Side, current_of, is_numbered, moved_to, thread_of}
 use Rattle.ule_members.proofs.Apart.{all_from_filter, all_from_map, apart_kept, apart_off, apart_queued, apart_running, order_of_apart, orders_in}
 use Rattle.ule_members.proofs.Moves.{bucket_small, moved_between, others_within, queued_member}
 use Rattle.ule_members.proofs.Threads.{none_passes}
@@ -97,4 +97,4 @@ queued_made how c t s made index = split (thread_of t s.members) refl
 
     split : (o : Option Member) → thread_of t s.members ≡ o → IsWellMade (with_queued how c o s).members
     split None found = made
-    split (Some m) found = one m (within_found (is_thread t) s.members m made found)
+    split (Some m) found = one m (within_found (is_numbered t) s.members m made found)

@@ -6,7 +6,7 @@ use Rattle.std.proofs.lemmas.Bool.{eqb-true, both_ways, eq-eqb, ne_eqb, cond-tru
 use Rattle.ule_prio.specs.declared.kind.Kind.{Kind}
 use Rattle.ule_model.specs.Places.{waits_in}
 use Rattle.ule_model.specs.WellMade.{AreApart, AllApart, IsWellMade}
-use Rattle.ule_model.specs.World.{Member, is_thread, thread_of}
+use Rattle.ule_model.specs.World.{Member, is_numbered, thread_of}
 use Rattle.ule_members.proofs.Within.{Within}
 
 -- x stands in the list
@@ -78,16 +78,16 @@ pub thread_of_has : (m : Member) (ms : List Member) → AllApart ms → Has m ms
 thread_of_has m [] apart has = absurd has
 thread_of_has m (x ∷ xs) apart has =
     ⊎_elim
-    (λ (same : x ≡ m). cond-true (is_thread m.thread.id x) (Some x) (thread_of m.thread.id xs) (eq-eqb x.thread.id m.thread.id (ap (λ z. z.thread.id) same)) ∙ ap (λ (z : Member). Some z) same)
-    (λ (rest : Has m xs). cond-false (is_thread m.thread.id x) (Some x) (thread_of m.thread.id xs) (ne_eqb x.thread.id m.thread.id (all_has (AreApart x) m xs apart.0 rest).numbers) ∙ thread_of_has m xs apart.1 rest)
+    (λ (same : x ≡ m). cond-true (is_numbered m.thread.id x) (Some x) (thread_of m.thread.id xs) (eq-eqb x.thread.id m.thread.id (ap (λ z. z.thread.id) same)) ∙ ap (λ (z : Member). Some z) same)
+    (λ (rest : Has m xs). cond-false (is_numbered m.thread.id x) (Some x) (thread_of m.thread.id xs) (ne_eqb x.thread.id m.thread.id (all_has (AreApart x) m xs apart.0 rest).numbers) ∙ thread_of_has m xs apart.1 rest)
     has
 
 -- the thread that a number finds stands in the world, and has it
 pub has_thread_of : (t : ℕ) (m : Member) (ms : List Member) → thread_of t ms ≡ Some m → Has m ms × (m.thread.id ≡ t)
 has_thread_of t m [] found = absurd (none-some m found)
-has_thread_of t m (x ∷ xs) found = step t m x xs (is_thread t x) refl (has_thread_of t m xs) found
+has_thread_of t m (x ∷ xs) found = step t m x xs (is_numbered t x) refl (has_thread_of t m xs) found
   where
-    step : (t : ℕ) (m x : Member) (xs : List Member) (b : Bool) → is_thread t x ≡ b → (thread_of t xs ≡ Some m → Has m xs × (m.thread.id ≡ t)) →
+    step : (t : ℕ) (m x : Member) (xs : List Member) (b : Bool) → is_numbered t x ≡ b → (thread_of t xs ≡ Some m → Has m xs × (m.thread.id ≡ t)) →
         cond b (Some x) (thread_of t xs) ≡ Some m → (Has m (x ∷ xs)) × (m.thread.id ≡ t)
     step t m x xs true is rest found =
         let same : x ≡ m = same_Some x m found in

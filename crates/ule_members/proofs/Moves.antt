@@ -17,7 +17,7 @@ use Rattle.ule_model.specs.declared.insertion.Insertion.{Insertion}
 use Rattle.ule_model.specs.declared.insertion.Insertion.TheVariants.{Ordinary, Borrowing, Preempted}
 use Rattle.ule_model.specs.Places.{runs_on, waits_on}
 use Rattle.ule_model.specs.WellMade.{IsWellMade}
-use Rattle.ule_model.specs.World.{Member, Side, current_of, is_thread, moved_to, others, thread_of, with_change}
+use Rattle.ule_model.specs.World.{Member, Side, current_of, is_numbered, moved_to, others, thread_of, with_change}
 use Rattle.ule_members.proofs.Membership.{Has, has_filtered, thread_of_has}
 use Rattle.ule_score.proofs.ChangeLaws.{change_number}
 use Rattle.ule_members.proofs.Threads.{changed_further, find_nowhere, no_other_runs, thread_of-changed_same, thread_of_within}
@@ -29,15 +29,15 @@ use Rattle.ule_members.proofs.Within.{Lacks, Within, all-append, changed_within,
 pub others_lacking : (t : ℕ) (ms : List Member) → Lacks t ms → others t ms ≡ ms
 others_lacking t [] lacks = refl
 others_lacking t (m ∷ ms) lacks =
-    cond-true (not (is_thread t m)) (m ∷ others t ms) (others t ms) (ap not lacks.0) ∙ ap (λ ns. m ∷ ns) (others_lacking t ms lacks.1)
+    cond-true (not (is_numbered t m)) (m ∷ others t ms) (others t ms) (ap not lacks.0) ∙ ap (λ ns. m ∷ ns) (others_lacking t ms lacks.1)
 
 -- the others of a list with one thread t are those before it and those after it
 pub others_between : (t : ℕ) (before : List Member) (m : Member) (after : List Member) → Lacks t before → m.thread.id ≡ t → Lacks t after →
     others t (before ++ m ∷ after) ≡ before ++ after
 others_between t [] m after front number back =
-    cond-false (not (is_thread t m)) (m ∷ others t after) (others t after) (ap not (eq-eqb m.thread.id t number)) ∙ others_lacking t after back
+    cond-false (not (is_numbered t m)) (m ∷ others t after) (others t after) (ap not (eq-eqb m.thread.id t number)) ∙ others_lacking t after back
 others_between t (b ∷ bs) m after front number back =
-    cond-true (not (is_thread t b)) (b ∷ others t (bs ++ m ∷ after)) (others t (bs ++ m ∷ after)) (ap not front.0) ∙
+    cond-true (not (is_numbered t b)) (b ∷ others t (bs ++ m ∷ after)) (others t (bs ++ m ∷ after)) (ap not front.0) ∙
     ap (λ ns. b ∷ ns) (others_between t bs m after front.1 number back)
 
 -- the others of a thread within a list are those before it and those after it

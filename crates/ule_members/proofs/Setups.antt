@@ -1,5 +1,5 @@
 -- What the rules of a setup say.
-use Rattle.std.proofs.Common.{◌≡◌, ℕ, zero, suc, ◌+◌, ◌≤◌, ◌&&◌, ◌==◌, Bool, true, nat_le, nat_lt, List, [], ◌∷◌, drop, flat_map, length, take, refl, ap, arith}
+use Rattle.std.proofs.Common.{◌≡◌, ℕ, zero, suc, ◌+◌, ◌≤◌, ◌&&◌, ◌==◌, ◌^◌, Bool, true, nat_le, nat_lt, List, [], ◌∷◌, drop, flat_map, length, take, refl, ap, arith}
 use Rattle.std.specs.List.{AllByRecursion, list_all}
 use Rattle.std.proofs.lemmas.Bool.{and_parts, eqb-true, leb-true}
 use Rattle.std.proofs.lemmas.List.{nil_from_length}
@@ -16,15 +16,16 @@ use Rattle.ule_model.specs.Start.{starting_time}
 
 -- ---- the rules
 
--- five of the seven rules: the settings, the number of CPUs, the threads, their numbers, and the scripts
-pub rules_parts : (a b c d e f g : Bool) → (a && b && c && d && e && f && g) ≡ true → (a ≡ true) × (b ≡ true) × (d ≡ true) × (e ≡ true) × (f ≡ true)
-rules_parts a b c d e f g all =
-    let six = (and_parts (a && b && c && d && e && f) g all).0 in
-    let five = and_parts (a && b && c && d && e) f six in
-    let four = and_parts (a && b && c && d) e five.0 in
-    let three = and_parts (a && b && c) d four.0 in
-    let two = and_parts a b (and_parts (a && b) c three.0).0 in
-    (two.0, two.1, three.1, four.1, five.1)
+-- five of the eight rules: the settings, the number of CPUs, the threads, their numbers, and the scripts
+pub rules_parts : (a j b c d e f g : Bool) → (a && j && b && c && d && e && f && g) ≡ true → (a ≡ true) × (b ≡ true) × (d ≡ true) × (e ≡ true) × (f ≡ true)
+rules_parts a j b c d e f g all =
+    let seven = (and_parts (a && j && b && c && d && e && f) g all).0 in
+    let six = and_parts (a && j && b && c && d && e) f seven in
+    let five = and_parts (a && j && b && c && d) e six.0 in
+    let four = and_parts (a && j && b && c) d five.0 in
+    let three = and_parts (a && j) b (and_parts (a && j && b) c four.0).0 in
+    let two = and_parts a j three.0 in
+    (two.0, three.1, four.1, five.1, six.1)
 
 -- four of the six rules of scripts: how many there are, that those of no CPU are empty, the commands, and the budget
 pub scripts_parts : (a b c d e f : Bool) → (a && b && c && d && e && f) ≡ true → (a ≡ true) × (b ≡ true) × (c ≡ true) × (f ≡ true)
@@ -64,7 +65,7 @@ pub record HasRules (s : Setup) : Type 0 where
 pub setup_rules : (s : Setup) → HasRules s
 setup_rules s =
     let ids = declared_ids s.threads s.unborn in
-    let parts = rules_parts (are_settings s.settings) (is_within 1 16 s.cpus) (length s.groups == 0) (list_all (is_spec s.cpus) s.threads) (are_numbers ids)
+    let parts = rules_parts (are_settings s.settings) (nat_lt s.jitter (2 ^ 32)) (is_within 1 16 s.cpus) (length s.groups == 0) (list_all (is_spec s.cpus) s.threads) (are_numbers ids)
     (are_scripts s.cpus ids s.unborn s.scripts) (are_turns s.cpus s.turns) s.rules in
     record { settings = parts.0; cpus = parts.1; specs = parts.2; numbers = parts.3; scripts = parts.4 }
 
@@ -79,8 +80,11 @@ setup_specs s =
 pub setup_slice : (s : Setup) → HasSlice s.settings
 setup_slice s =
     let rules = setup_rules s in
-    let ends = and_parts (is_within 1 100 s.settings.interact && is_within 6 1000 s.settings.slice) (is_within 1 64 s.settings.steal) rules.settings in
-    let slice = and_parts (is_within 1 100 s.settings.interact) (is_within 6 1000 s.settings.slice) ends.0 in
+    let interact = is_within 1 100 s.settings.interact in
+    let length_of = is_within 6 1000 s.settings.slice in
+    let three = and_parts (interact && length_of && is_within 0 255 s.settings.preempt) (is_within 1 64 s.settings.steal) rules.settings in
+    let two = and_parts (interact && length_of) (is_within 0 255 s.settings.preempt) three.0 in
+    let slice = and_parts interact length_of two.0 in
     let both = and_parts (nat_le 6 s.settings.slice) (nat_le s.settings.slice 1000) slice.1 in
     record { low = leb-true 6 s.settings.slice both.0; high = leb-true s.settings.slice 1000 both.1 }
 

@@ -1,10 +1,13 @@
 -- The world at the start of a setup: the numbers, records and places of its threads, while they are laid and after.
-use Rattle.std.proofs.Common.{◌≡◌, ℕ, ◌<◌, ◌≤◌, ◌==◌, ◌||◌, Bool, true, false, not, ℤ, pos, negsuc, nat_lt, List, [], ◌∷◌, ◌++◌, zero, suc, ◌+◌, drop, fold, length, map, replicate, slice_get, take, Some, None, IfSome, refl, sym, ◌∙◌, ap, subst, arith}
+use Rattle.std.proofs.Common.{◌≡◌, ℕ, ◌<◌, ◌≤◌, ◌==◌, ◌||◌, Bool, true, false, not, ℤ, pos, negsuc, nat_le, nat_lt, List, [], ◌∷◌, ◌++◌, zero, suc, ◌+◌, drop, fold, length, map, replicate, slice_get, take, Some, None, IfSome, refl, sym, ◌∙◌, ap, subst, arith}
 use Rattle.std.specs.List.{AllByRecursion, list_all}
-use Rattle.std.proofs.lemmas.Bool.{and_from, and_parts, both_ways, cond-false, cond_both, eq-eqb, false≢true, leb-true, ltb-true, not-true, or_from, or_parts, ne_eqb}
+use Rattle.std.proofs.lemmas.Bool.{and_parts, both_ways, cond-false, cond_both, eq-eqb, false≢true, leb-true, ltb-true, not-true, or_parts, ne_eqb}
 use Rattle.std.proofs.lemmas.Int.{ints}
 use Rattle.std.proofs.lemmas.List.{append-nil, append_assoc, length-replicate, length-set, map-append, map-id, set-get_or, take-append-drop}
 use Rattle.std.proofs.lemmas.List.Folds.{list_all-append}
+use Rattle.ule_prio.specs.Class.{is_base_of, is_within}
+use Rattle.ule_prio.specs.declared.class.Class.{Class}
+use Rattle.ule_prio.specs.declared.class.Class.TheVariants as class
 use Rattle.ule_score.proofs.TimesharePriorityLemmas.{timeshare_priority-bounds}
 use Rattle.ule_score.specs.Bounds.{KeepsBounds}
 use Rattle.ule_score.specs.Changes.{HasNumbers, IsBy}
@@ -16,7 +19,8 @@ use Rattle.ule_score.specs.declared.record.Settings.{Settings}
 use Rattle.ule_score.specs.declared.record.ThreadRecord.{ThreadRecord}
 use Rattle.ule_prio.specs.declared.class.Class.TheVariants as class
 use Rattle.ule_types.specs.Commands.{is_among}
-use Rattle.ule_types.specs.Form.{IsOfForm, is_plain, is_timeshare}
+use Rattle.ule_types.proofs.Repeats.{distinct_front}
+use Rattle.ule_types.specs.Form.{IsOfForm}
 use Rattle.ule_types.specs.Rules.{declared_ids, is_distinct, is_form, is_nice, is_spec}
 use Rattle.ule_types.specs.declared.setup.Form.{Form}
 use Rattle.ule_types.specs.declared.setup.Form.TheVariants.{Ts, Ithd, Rt, Fifo, Idle}
@@ -25,10 +29,10 @@ use Rattle.ule_types.specs.declared.setup.ThreadSpec.{ThreadSpec}
 use Rattle.ule_model.specs.declared.insertion.Insertion.TheVariants.{Ordinary}
 use Rattle.ule_model.specs.Insertion.{order_of_insertion, place_of_insertion, with_queued}
 use Rattle.ule_model.specs.Places.{hand_of}
-use Rattle.ule_model.specs.Shows.{ids_of}
-use Rattle.ule_model.specs.Start.{base_of, class_of, empty_world, first_line, fresh_history, fresh_use, laid, laid_on, nice_of, record_of, starting_time, unborn_member, unborn_record, with_unborn, world_at_start}
+use Rattle.ule_model.specs.Shows.{numbers_of}
+use Rattle.ule_model.specs.Start.{base_of, class_of, empty_world, start_line, fresh_history, fresh_use, laid, laid_on, nice_of, record_of, starting_time, unborn_member, unborn_record, with_unborn, world_at_start}
 use Rattle.ule_model.specs.WellMade.{AreApart, IsWellMade, IsWellMadeWorld}
-use Rattle.ule_model.specs.World.{Member, Side, World, fresh_line, is_thread, others, side_of, thread_of, with_side}
+use Rattle.ule_model.specs.World.{Member, Side, World, fresh_line, is_numbered, others, side_of, thread_of, with_side}
 use Rattle.ule_members.proofs.Lists.{drop_at}
 use Rattle.ule_members.proofs.MadeWell.{queued_made}
 use Rattle.ule_members.proofs.Rest.{all_at, all_set}
@@ -43,37 +47,52 @@ pub nice_is : (n : ℤ) → is_nice n ≡ true → IsNice n
 nice_is (pos n) is = let within : n ≤ 20 = leb-true n 20 is in (omega (arith, ints), omega (arith, ints))
 nice_is (negsuc n) is = let within : n < 20 = ltb-true n 20 is in (omega (arith, ints), omega (arith, ints))
 
--- the priority that a thread is declared with is a byte; a timeshare thread is declared with none
-abbrev pub HasByte : Form → Type 0
-HasByte (Ts n) = Unit {0}
-HasByte (Ithd p) = p < 256
-HasByte (Rt p) = p < 256
-HasByte (Fifo p) = p < 256
-HasByte (Idle p) = p < 256
-
--- the nice value and the base priority of a declared thread are in their ranges
-pub record IsInRange (settings : Settings) (f : Form) : Type 0 where
+-- what holds of the class, the nice value and the base priority that a thread is declared with
+pub record HasFormBounds (settings : Settings) (f : Form) : Type 0 where
   pub nice : IsNice (nice_of f)
-  pub base : base_of settings f < 256
+  pub byte : base_of settings f < 256
   pub low : class_of f ≡ class.Ts → 120 ≤ base_of settings f
   pub high : class_of f ≡ class.Ts → base_of settings f ≤ 223
 
--- a declared thread has its nice value and base priority in their ranges
-pub form_bounds : (settings : Settings) (f : Form) → is_form f ≡ true → HasByte f → IsInRange settings f
-form_bounds settings (Ts n) valid byte =
+-- whether a class is the timeshare class
+abbrev is_timeshare_class : Class → Bool
+is_timeshare_class class.Ithd = false
+is_timeshare_class class.Rt = false
+is_timeshare_class class.Fifo = false
+is_timeshare_class class.Ts = true
+is_timeshare_class class.Idle = false
+
+-- a class that isn't the timeshare class claims nothing of base priorities
+class_apart : (k : Class) (P : Type 0) → is_timeshare_class k ≡ false → k ≡ class.Ts → P
+class_apart k P other is = absurd (false≢true (sym other ∙ ap is_timeshare_class is))
+
+-- a declared base priority of another class than timeshare is below 256
+declared_bounds : (settings : Settings) (f : Form) (p : ℕ) → nice_of f ≡ pos 0 → base_of settings f ≡ p → is_timeshare_class (class_of f) ≡ false → p < 256 → HasFormBounds settings f
+declared_bounds settings f p nice base other small = record {
+  nice = subst IsNice (sym nice) (nice_is (pos 0) refl);
+  byte = omega (arith, base, small);
+  low = class_apart (class_of f) (120 ≤ base_of settings f) other;
+  high = class_apart (class_of f) (base_of settings f ≤ 223) other;
+}
+
+-- a number that lies in a range which ends below 256 is below 256
+pub within_byte : (low high p : ℕ) → high < 256 → is_within low high p ≡ true → p < 256
+within_byte low high p small within = omega (arith, small, leb-true p high (and_parts (nat_le low p) (nat_le p high) within).1)
+
+-- the nice value and the base priority that a thread is declared with are in the ranges of its class
+pub form_bounds : (settings : Settings) (f : Form) → is_form f ≡ true → HasFormBounds settings f
+form_bounds settings (Ts n) valid =
     let nice : IsNice n = nice_is n valid in
     let bounds = timeshare_priority-bounds fresh_history fresh_use n settings.interact nice in
-    record { nice = nice; base = omega (arith, bounds.1); low = λ is. bounds.0; high = λ is. bounds.1 }
-form_bounds settings (Ithd p) valid byte = record { nice = nice_is (pos 0) refl; base = byte; low = λ is. absurd cc; high = λ is. absurd cc }
-form_bounds settings (Rt p) valid byte = record { nice = nice_is (pos 0) refl; base = byte; low = λ is. absurd cc; high = λ is. absurd cc }
-form_bounds settings (Fifo p) valid byte = record { nice = nice_is (pos 0) refl; base = byte; low = λ is. absurd cc; high = λ is. absurd cc }
-form_bounds settings (Idle p) valid byte = record { nice = nice_is (pos 0) refl; base = byte; low = λ is. absurd cc; high = λ is. absurd cc }
+    record { nice = nice; byte = omega (arith, bounds.1); low = λ is. bounds.0; high = λ is. bounds.1 }
+form_bounds settings (Ithd p) valid = declared_bounds settings (Ithd p) p refl refl refl (within_byte 0 47 p (omega arith) valid)
+form_bounds settings (Rt p) valid = declared_bounds settings (Rt p) p refl refl refl (within_byte 48 79 p (omega arith) valid)
+form_bounds settings (Fifo p) valid = declared_bounds settings (Fifo p) p refl refl refl (within_byte 48 79 p (omega arith) valid)
+form_bounds settings (Idle p) valid = declared_bounds settings (Idle p) p refl refl refl (ltb-true p 256 (and_parts (is_base_of class.Idle p) (nat_lt p 256) valid).1)
 
--- what holds of each thread that a setup declares
-pub record IsGood (cpus : ℕ) (spec : ThreadSpec) : Type 0 where
-  pub valid : is_spec cpus spec ≡ true
-  pub number : spec.id < 256
-  pub priority : HasByte spec.form
+-- what holds of the threads that a setup can declare
+abbrev pub IsGood : ℕ → ThreadSpec → Type 0
+IsGood cpus spec = (is_spec cpus spec ≡ true) × (spec.id < 256)
 
 -- what a record keeps at the start
 pub record IsFreshRecord (cpus : ℕ) (r : ThreadRecord) : Type 0 where
@@ -85,8 +104,8 @@ pub record IsFreshRecord (cpus : ℕ) (r : ThreadRecord) : Type 0 where
 pub fresh_record : (cpus : ℕ) (settings : Settings) (spec : ThreadSpec) → IsGood cpus spec →
     IsFreshRecord cpus (record_of settings spec) × HasNumbers (record_of settings spec)
 fresh_record cpus settings spec good =
-    let valid = and_parts (is_form spec.form) (nat_lt spec.cpu cpus) good.valid in
-    let bounds = form_bounds settings spec.form valid.0 good.priority in (
+    let valid = and_parts (is_form spec.form) (nat_lt spec.cpu cpus) good.0 in
+    let bounds = form_bounds settings spec.form valid.0 in (
       record {
         bounds = record {
           history = omega arith;
@@ -102,7 +121,7 @@ fresh_record cpus settings spec good =
         by_now = record { ltick = omega arith; slept_at = omega arith; last_run = omega arith };
         bound = cond_both spec.bound (Some spec.cpu) None (λ o. IfSome o (λ c. c < cpus)) (λ is. ltb-true spec.cpu cpus valid.1) (λ is. tt);
       },
-      record { id = good.number; base = bounds.base; priority = bounds.base; nice = bounds.nice },
+      record { id = good.1; base = bounds.byte; priority = bounds.byte; nice = bounds.nice },
     )
 
 -- the record of an unborn thread is as it must be at the start
@@ -129,10 +148,10 @@ unborn_fresh cpus t small = (
 -- ---- a thread appended
 
 -- a thread whose number is none of these is apart from all
-pub apart_from_new : (r : ThreadRecord) (ms : List Member) → is_among (ids_of ms) r.id ≡ false → AllByRecursion (AreApart (unborn_member r)) ms
+pub apart_from_new : (r : ThreadRecord) (ms : List Member) → is_among (numbers_of ms) r.id ≡ false → AllByRecursion (AreApart (unborn_member r)) ms
 apart_from_new r [] new = tt
 apart_from_new r (m ∷ ms) new =
-    let parts = or_parts (m.thread.id == r.id) (is_among (ids_of ms) r.id) new in (
+    let parts = or_parts (m.thread.id == r.id) (is_among (numbers_of ms) r.id) new in (
       record {
         numbers = λ same. both_ways (m.thread.id == r.id) parts.0 (eq-eqb m.thread.id r.id (sym same));
         orders = λ c k b here there same. false≢true here;
@@ -142,7 +161,7 @@ apart_from_new r (m ∷ ms) new =
     )
 
 -- threads stay well made with one more that is unborn and has a new number
-pub made_with_new : (r : ThreadRecord) (ms : List Member) → HasNumbers r → is_among (ids_of ms) r.id ≡ false → IsWellMade ms → IsWellMade (ms ++ unborn_member r ∷ [])
+pub made_with_new : (r : ThreadRecord) (ms : List Member) → HasNumbers r → is_among (numbers_of ms) r.id ≡ false → IsWellMade ms → IsWellMade (ms ++ unborn_member r ∷ [])
 made_with_new r ms numbers new made =
     well_made_between ms (unborn_member r) [] (subst IsWellMade (sym (append-nil ms)) made) (record { numbers = numbers; place = tt }) (apart_from_new r ms new) tt
 
@@ -171,22 +190,11 @@ distinct_new (i ∷ is) t rest distinct =
         by_first false further = further
 
 -- a number that none of some threads has finds none of them
-pub new_number : (t : ℕ) (ms : List Member) → is_among (ids_of ms) t ≡ false → thread_of t ms ≡ None
+pub new_number : (t : ℕ) (ms : List Member) → is_among (numbers_of ms) t ≡ false → thread_of t ms ≡ None
 new_number t [] new = refl
 new_number t (m ∷ ms) new =
-    let parts = or_parts (m.thread.id == t) (is_among (ids_of ms) t) new in
+    let parts = or_parts (m.thread.id == t) (is_among (numbers_of ms) t) new in
     cond-false (m.thread.id == t) (Some m) (thread_of t ms) parts.0 ∙ new_number t ms parts.1
-
--- of a list without repetitions the front has none
-pub distinct_front : (xs ys : List ℕ) → is_distinct (xs ++ ys) ≡ true → is_distinct xs ≡ true
-distinct_front [] ys distinct = refl
-distinct_front (x ∷ xs) ys distinct =
-    let both = and_parts (not (is_among (xs ++ ys) x)) (is_distinct (xs ++ ys)) distinct in
-    and_from (not (is_among xs x)) (is_distinct xs) (ap not (front xs (not-true (is_among (xs ++ ys) x) both.0))) (distinct_front xs ys both.1)
-  where
-    front : (us : List ℕ) → is_among (us ++ ys) x ≡ false → is_among us x ≡ false
-    front [] none = refl
-    front (u ∷ us) none = let parts = or_parts (u == x) (is_among (us ++ ys) x) none in or_from (u == x) (is_among us x) parts.0 (front us parts.1)
 
 -- an element of a list parts it
 pub parted_at : {X : Type 0} (xs : List X) (k : ℕ) (x : X) → slice_get xs k ≡ Some x → xs ≡ take k xs ++ x ∷ drop (k + 1) xs
@@ -212,9 +220,9 @@ newly_laid w spec = laid_member spec.cpu (record_of w.settings spec) (side_of sp
 -- the side with a thread of a new number laid has it behind the others
 pub laid_on_is : (c : ℕ) (r : ThreadRecord) (s : Side) → thread_of r.id s.members ≡ None → laid_on c r s ≡ record s { members = s.members ++ laid_member c r s ∷ [] }
 laid_on_is c r s new =
-    ap (λ o. with_queued Ordinary c o (record s { members = s.members ++ unborn_member r ∷ [] })) (find-appended_new (is_thread r.id) s.members (unborn_member r) new (eq-eqb r.id r.id refl)) ∙
+    ap (λ o. with_queued Ordinary c o (record s { members = s.members ++ unborn_member r ∷ [] })) (find-appended_new (is_numbered r.id) s.members (unborn_member r) new (eq-eqb r.id r.id refl)) ∙
     ap (λ (ms : List Member). record s { members = ms })
-    (changed_between r.id (λ n. record n { place = (laid_member c r s).place; order = (laid_member c r s).order }) s.members (unborn_member r) [] (none_passes (is_thread r.id) s.members new) refl tt)
+    (changed_between r.id (λ n. record n { place = (laid_member c r s).place; order = (laid_member c r s).order }) s.members (unborn_member r) [] (none_passes (is_numbered r.id) s.members new) refl tt)
 
 -- laying a thread of a new number puts it behind the others, and changes nothing else
 pub laid_is : (w : World) (spec : ThreadSpec) → thread_of spec.id w.members ≡ None → laid w spec ≡ with_member (newly_laid w spec) w
@@ -255,7 +263,7 @@ queued_at_start cpus (Hand w) is = absurd is
 pub record IsLaid (P : Place → Type 0) (cpus : ℕ) (settings : Settings) (ids : List ℕ) (w : World) : Type 0 where
   pub settings_are : w.settings ≡ settings
   pub count : length w.lines ≡ cpus
-  pub ids_are : ids_of w.members ≡ ids
+  pub ids_are : numbers_of w.members ≡ ids
   pub records : AllByRecursion (λ m. IsFreshRecord cpus m.thread) w.members
   pub made : IsWellMadeWorld w
   pub places : AllByRecursion (λ m. P m.place) w.members
@@ -282,7 +290,7 @@ pub laid_once : (cpus : ℕ) (settings : Settings) (ids : List ℕ) (w : World) 
     IsLaid (IsQueuedBelow cpus) cpus settings ids w → IsLaid (IsQueuedBelow cpus) cpus settings (ids ++ spec.id ∷ []) (laid w spec)
 laid_once cpus settings ids w spec good new so_far =
     subst (IsLaid (IsQueuedBelow cpus) cpus settings (ids ++ spec.id ∷ [])) (sym (laid_is w spec absent))
-    (with_one (IsQueuedBelow cpus) cpus settings ids w (newly_laid w spec) fresh.0 (ltb-true spec.cpu cpus (and_parts (is_form spec.form) (nat_lt spec.cpu cpus) good.valid).1) made so_far)
+    (with_one (IsQueuedBelow cpus) cpus settings ids w (newly_laid w spec) fresh.0 (ltb-true spec.cpu cpus (and_parts (is_form spec.form) (nat_lt spec.cpu cpus) good.0).1) made so_far)
   where
     absent : thread_of spec.id w.members ≡ None
     absent = laid_new (IsQueuedBelow cpus) cpus settings ids w spec.id new so_far
@@ -321,26 +329,14 @@ put_all number put K Good once ids w (x ∷ xs) good distinct so_far =
 
 -- ---- the start
 
--- a timeshare thread is declared with no priority
-plain_byte : (f : Form) → is_timeshare f ≡ true → HasByte f
-plain_byte (Ts n) is = tt
-plain_byte (Ithd p) is = absurd (false≢true is)
-plain_byte (Rt p) is = absurd (false≢true is)
-plain_byte (Fifo p) is = absurd (false≢true is)
-plain_byte (Idle p) is = absurd (false≢true is)
-
--- each thread of a setup that can be spelled so far can be declared
-pub form_good : (cpus : ℕ) (specs : List ThreadSpec) → list_all (is_plain cpus) specs ≡ true → list_all (is_spec cpus) specs ≡ true →
+-- each thread of a setup can be declared
+pub form_good : (cpus : ℕ) (specs : List ThreadSpec) → list_all (is_spec cpus) specs ≡ true →
     list_all (λ t. nat_lt t 256) (map (λ spec. spec.id) specs) ≡ true → AllByRecursion (IsGood cpus) specs
-form_good cpus [] plain valid numbers = tt
-form_good cpus (spec ∷ specs) plain valid numbers =
-    let first = and_parts (is_plain cpus spec) (list_all (is_plain cpus) specs) plain in
-    let second = and_parts (is_spec cpus spec) (list_all (is_spec cpus) specs) valid in
-    let third = and_parts (nat_lt spec.id 256) (list_all (λ t. nat_lt t 256) (map (λ (x : ThreadSpec). x.id) specs)) numbers in
-    let plain_form = (and_parts (is_timeshare spec.form) (nat_lt cpus 2 || spec.bound) first.0).0 in (
-      record { valid = second.0; number = ltb-true spec.id 256 third.0; priority = plain_byte spec.form plain_form },
-      form_good cpus specs first.1 second.1 third.1,
-    )
+form_good cpus [] valid numbers = tt
+form_good cpus (spec ∷ specs) valid numbers =
+    let first = and_parts (is_spec cpus spec) (list_all (is_spec cpus) specs) valid in
+    let second = and_parts (nat_lt spec.id 256) (list_all (λ t. nat_lt t 256) (map (λ (x : ThreadSpec). x.id) specs)) numbers in
+    ((first.0, ltb-true spec.id 256 second.0), form_good cpus specs first.1 second.1)
 
 -- the numbers of the threads that are queued at the start
 abbrev pub queued_numbers : List ThreadSpec → List ℕ
@@ -363,7 +359,7 @@ pub record HasGoodNumbers (s : Setup) : Type 0 where
 -- every setup that can be spelled so far has good numbers
 pub good_numbers : (s : Setup) → IsOfForm s → HasGoodNumbers s
 good_numbers s form = record {
-  queued = form_good s.cpus s.threads form.threads (setup_specs s).specs numbers.0;
+  queued = form_good s.cpus s.threads (setup_specs s).specs numbers.0;
   unborn = all_along (λ t. nat_lt t 256 ≡ true) (λ t. t < 256) s.unborn (λ t is. ltb-true t 256 is) (all_from_list_all (λ t. nat_lt t 256) s.unborn numbers.1);
   distinct = distinct_front (queued_numbers s.threads) s.unborn (setup_specs s).distinct;
 }
@@ -375,12 +371,12 @@ good_numbers s form = record {
 empty_laid : (s : Setup) → IsLaid (IsQueuedBelow s.cpus) s.cpus s.settings [] (empty_world s)
 empty_laid s = record {
   settings_are = refl;
-  count = length-set (replicate s.cpus fresh_line) 0 (first_line s.jitter) ∙ length-replicate s.cpus fresh_line;
+  count = length-set (replicate s.cpus fresh_line) 0 (start_line s.jitter) ∙ length-replicate s.cpus fresh_line;
   ids_are = refl;
   records = tt;
   made = record {
     members = record { each = tt; apart = tt };
-    indexes = all_set (λ line. line.ridx < 64) (replicate s.cpus fresh_line) 0 (first_line s.jitter) (all_copies (λ line. line.ridx < 64) s.cpus fresh_line (omega arith)) (omega arith);
+    indexes = all_set (λ line. line.ridx < 64) (replicate s.cpus fresh_line) 0 (start_line s.jitter) (all_copies (λ line. line.ridx < 64) s.cpus fresh_line (omega arith)) (omega arith);
   };
   places = tt;
 }

@@ -1,38 +1,55 @@
 -- What a step touches of each thread, for lists of threads one after another.
 use Rattle.std.proofs.Common.{◌≡◌, ℕ, List, [], ◌∷◌, ◌++◌, refl, sym, ◌∙◌, subst}
-use Rattle.ule_score.specs.Changes.{GoesThrough, HasNumbers, IsSoundChange, RecordChange, goes, record_after, stays}
+use Rattle.ule_score.specs.Changes.{HasNumbers, RecordChange, changed, forked, forks, placed, ran, record_after, runs, sleeps, ticked, woken}
+use Rattle.ule_score.specs.declared.record.Change.TheVariants.{Renice}
 use Rattle.ule_score.specs.declared.record.Settings.{Settings}
 use Rattle.ule_score.specs.declared.record.ThreadRecord.{ThreadRecord}
 use Rattle.ule_types.specs.declared.event.Event.{Event}
-use Rattle.ule_model.specs.Frames.{AreTouched, IsTouched, left, reached}
+use Rattle.ule_model.specs.Frames.{AreTouched, ComesTo, IsSoundIn, IsTouched, as_it_was, by_change, left, reached}
 use Rattle.ule_model.specs.World.{Member, World}
 use Rattle.ule_score.proofs.ChangeLaws.{change_numbers, change_number}
 
 -- ---- one record through changes
 
--- one sound change is a way through changes
-pub goes_one : (settings : Settings) (now : ℕ) (change : RecordChange) (r : ThreadRecord) → IsSoundChange now change →
-    GoesThrough settings now r (record_after settings now change r)
-goes_one settings now change r sound =
-    goes change r (record_after settings now change r) sound (stays (record_after settings now change r))
+-- the record of a child has its numbers in range where its parent's and its own have them
+child_numbers : (settings : Settings) (now : ℕ) (parent : ThreadRecord) (c load : ℕ) (r : ThreadRecord) → HasNumbers parent → HasNumbers r →
+    HasNumbers (record_after settings now (forked parent c load) r)
+child_numbers settings now parent c load r has own =
+    change_numbers settings now (changed (Renice parent.nice)) _ has.nice (record { id = own.id; base = has.base; priority = has.base; nice = has.nice })
+
+-- a change that a step of a world may make keeps the numbers of a record in range
+pub sound_numbers : (settings : Settings) (w : World) (now : ℕ) (change : RecordChange) (r : ThreadRecord) → IsSoundIn w now change →
+    HasNumbers r → HasNumbers (record_after settings now change r)
+sound_numbers settings w now ran r sound has = change_numbers settings now ran r tt has
+sound_numbers settings w now runs r sound has = change_numbers settings now runs r tt has
+sound_numbers settings w now sleeps r sound has = change_numbers settings now sleeps r tt has
+sound_numbers settings w now woken r sound has = change_numbers settings now woken r tt has
+sound_numbers settings w now (ticked load) r sound has = change_numbers settings now (ticked load) r tt has
+sound_numbers settings w now (placed c) r sound has = change_numbers settings now (placed c) r tt has
+sound_numbers settings w now (changed change) r sound has = change_numbers settings now (changed change) r sound has
+sound_numbers settings w now forks r sound has = change_numbers settings now forks r tt has
+sound_numbers settings w now (forked parent c load) r sound has = child_numbers settings now parent c load r sound.numbers has
+
+-- one change that a step of a world may make is a way through such changes
+pub comes_by_one : (w : World) (now : ℕ) (change : RecordChange) (r : ThreadRecord) → IsSoundIn w now change → ComesTo w now r (record_after w.settings now change r)
+comes_by_one w now change r sound =
+    by_change change r (record_after w.settings now change r) sound (as_it_was (record_after w.settings now change r))
 
 -- changes after changes are changes
-pub goes_further : {settings : Settings} {now : ℕ} {l m n : ThreadRecord} → GoesThrough settings now l m → GoesThrough settings now m n →
-    GoesThrough settings now l n
-goes_further (stays r) second = second
-goes_further (goes change r m sound rest) second = goes change r _ sound (goes_further rest second)
+pub comes_further : {w : World} {now : ℕ} {l m n : ThreadRecord} → ComesTo w now l m → ComesTo w now m n → ComesTo w now l n
+comes_further (as_it_was r) second = second
+comes_further (by_change change r m sound rest) second = by_change change r _ sound (comes_further rest second)
 
 -- a record that went through changes has the number that it had
-pub goes_number : {settings : Settings} {now : ℕ} {r n : ThreadRecord} → GoesThrough settings now r n → n.id ≡ r.id
-goes_number (stays r) = refl
-goes_number {settings = settings} {now = now} (goes change r n sound rest) =
-    goes_number rest ∙ change_number settings now change r
+pub comes_number : {w : World} {now : ℕ} {r n : ThreadRecord} → ComesTo w now r n → n.id ≡ r.id
+comes_number (as_it_was r) = refl
+comes_number {w = w} {now = now} (by_change change r n sound rest) = comes_number rest ∙ change_number w.settings now change r
 
 -- a record that went through changes has its numbers in range where it had them
-pub goes_numbers : {settings : Settings} {now : ℕ} {r n : ThreadRecord} → GoesThrough settings now r n → HasNumbers r → HasNumbers n
-goes_numbers (stays r) numbers = numbers
-goes_numbers {settings = settings} {now = now} (goes change r n sound rest) numbers =
-    goes_numbers rest (change_numbers settings now change r sound numbers)
+pub comes_numbers : {w : World} {now : ℕ} {r n : ThreadRecord} → ComesTo w now r n → HasNumbers r → HasNumbers n
+comes_numbers (as_it_was r) numbers = numbers
+comes_numbers {w = w} {now = now} (by_change change r n sound rest) numbers =
+    comes_numbers rest (sound_numbers w.settings w now change r sound numbers)
 
 -- ---- threads
 
@@ -40,13 +57,13 @@ module _ (w : World) (worker : ℕ) (e : Event) (now : ℕ) where
   -- a thread that a step touches, or leaves, has the number that it had
   pub touched_number : (m n : Member) → IsTouched w worker e now m n → n.thread.id ≡ m.thread.id
   touched_number m n (left same) = subst (λ (x : Member). x.thread.id ≡ m.thread.id) same refl
-  touched_number m n (reached from to through) = goes_number through
+  touched_number m n (reached from to through) = comes_number through
 
   -- a thread touched twice is touched
   pub touched_further : (l m n : Member) → IsTouched w worker e now l m → IsTouched w worker e now m n → IsTouched w worker e now l n
   touched_further l m n (left same) second = subst (λ (x : Member). IsTouched w worker e now x n) (sym same) second
   touched_further l m n (reached from to through) (left same) = subst (λ (x : Member). IsTouched w worker e now l x) same (reached from to through)
-  touched_further l m n (reached from to through) (reached next last further) = reached from last (goes_further through further)
+  touched_further l m n (reached from to through) (reached next last further) = reached from last (comes_further through further)
 
   -- threads that are left are touched by nothing
   pub untouched : (ms : List Member) → AreTouched w worker e now ms ms

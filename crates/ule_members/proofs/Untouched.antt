@@ -14,7 +14,7 @@ use Rattle.ule_model.specs.Frames.{AreTouched, IsTouched, left, reached, thread_
 use Rattle.ule_model.specs.Places.{hand_of, is_hand_of, is_on, is_under, lock_of}
 use Rattle.ule_model.specs.Step.{step}
 use Rattle.ule_model.specs.WellMade.{IsWellMadeWorld}
-use Rattle.ule_model.specs.World.{Member, World, is_thread}
+use Rattle.ule_model.specs.World.{Member, World, is_numbered}
 use Rattle.ule_members.proofs.Reach.{among_where_under, lock_where_on, no_hand_under, number_from_test}
 use Rattle.ule_members.proofs.Steps.{step_touches}
 
@@ -113,9 +113,9 @@ module _ (w : World) (worker : ℕ) (e : Event) (now : ℕ) where
     -- what stands under a lock that the event doesn't take is found there as it was
     pub step_under : (l t : ℕ) → is_among (locks_of w e) l ≡ false → thread_under l t (step w worker e now).0.members ≡ thread_under l t w.members
     step_under l t none =
-        step_find (λ m. is_thread t m && is_under l m.place) (λ m here. and_right (is_thread t m) (is_under l m.place) (reached_no_other w worker e l m.place none here))
+        step_find (λ m. is_numbered t m && is_under l m.place) (λ m here. and_right (is_numbered t m) (is_under l m.place) (reached_no_other w worker e l m.place none here))
 
     -- what is in another worker's hand is found there as it was
     pub step_in_hand : (h t : ℕ) → h ≢ worker → thread_in_hand h t (step w worker e now).0.members ≡ thread_in_hand h t w.members
     step_in_hand h t other =
-        step_find (λ m. is_thread t m && is_hand_of h m.place) (λ m here. and_right (is_thread t m) (is_hand_of h m.place) (reached_no_other_hand w worker e h m.place other here))
+        step_find (λ m. is_numbered t m && is_hand_of h m.place) (λ m here. and_right (is_numbered t m) (is_hand_of h m.place) (reached_no_other_hand w worker e h m.place other here))

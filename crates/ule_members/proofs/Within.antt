@@ -5,7 +5,7 @@ use Rattle.std.specs.List.{AllByRecursion, find}
 use Rattle.std.proofs.lemmas.Bool.{eqb-true, eq-eqb, ne_eqb}
 use Rattle.std.proofs.lemmas.Option.{none-some, same_Some}
 use Rattle.ule_model.specs.WellMade.{IsMade, AreApart, AllApart, IsWellMade}
-use Rattle.ule_model.specs.World.{Member, is_thread, thread_of}
+use Rattle.ule_model.specs.World.{Member, is_numbered, thread_of}
 
 -- ---- what holds of each element
 
@@ -46,7 +46,7 @@ apart-sym m n h = record {
 
 -- no thread of a list has number t
 abbrev pub Lacks : ℕ → List Member → Type 0
-Lacks t ms = AllByRecursion (λ n. is_thread t n ≡ false) ms
+Lacks t ms = AllByRecursion (λ n. is_numbered t n ≡ false) ms
 
 -- threads that are apart from one lack its number
 pub lacks_from_apart : (m : Member) (ns : List Member) → AllByRecursion (AreApart m) ns → Lacks m.thread.id ns
@@ -145,29 +145,29 @@ within_found p ms m made found =
 -- the thread with number t is within a well-made list
 pub within_thread : (t : ℕ) (ms : List Member) (m : Member) → IsWellMade ms → thread_of t ms ≡ Some m → Within t m ms
 within_thread t ms m made found =
-    let f = found_at (is_thread t) ms m found in
+    let f = found_at (is_numbered t) ms m found in
     let P : ℕ → Type 0 = λ u. Within u m ms in
-    subst P (eqb-true m.thread.id t f.passes) (within_found (is_thread t) ms m made found)
+    subst P (eqb-true m.thread.id t f.passes) (within_found (is_numbered t) ms m made found)
 
 -- ---- the list with one thread changed
 
 -- the threads with thread t changed; moved_to and with_record are of this form
 abbrev pub changed : ℕ → (Member → Member) → List Member → List Member
-changed t f ms = map (λ m. if is_thread t m then f m else m) ms
+changed t f ms = map (λ m. if is_numbered t m then f m else m) ms
 
 -- a list without thread t stays
 pub changed_others : (t : ℕ) (f : Member → Member) (ms : List Member) → Lacks t ms → changed t f ms ≡ ms
 changed_others t f [] lacks = refl
 changed_others t f (m ∷ ms) lacks =
-    let other : is_thread t m ≡ false = lacks.0 in rw other (ap (λ ns. m ∷ ns) (changed_others t f ms lacks.1))
+    let other : is_numbered t m ≡ false = lacks.0 in rw other (ap (λ ns. m ∷ ns) (changed_others t f ms lacks.1))
 
 -- the list with its one thread t changed
 pub changed_between : (t : ℕ) (f : Member → Member) (before : List Member) (m : Member) (after : List Member) → Lacks t before → m.thread.id ≡ t → Lacks t after →
     changed t f (before ++ m ∷ after) ≡ before ++ f m ∷ after
 changed_between t f [] m after front number back =
-    let here : is_thread t m ≡ true = eq-eqb m.thread.id t number in rw here (ap (λ ns. f m ∷ ns) (changed_others t f after back))
+    let here : is_numbered t m ≡ true = eq-eqb m.thread.id t number in rw here (ap (λ ns. f m ∷ ns) (changed_others t f after back))
 changed_between t f (b ∷ bs) m after front number back =
-    let other : is_thread t b ≡ false = front.0 in rw other (ap (λ ns. b ∷ ns) (changed_between t f bs m after front.1 number back))
+    let other : is_numbered t b ≡ false = front.0 in rw other (ap (λ ns. b ∷ ns) (changed_between t f bs m after front.1 number back))
 
 -- the list of a thread within it, once the thread is changed
 pub changed_within : (t : ℕ) (m : Member) (ms : List Member) (w : Within t m ms) (f : Member → Member) → changed t f ms ≡ w.before ++ f m ∷ w.after

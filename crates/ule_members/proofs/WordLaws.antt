@@ -4,7 +4,7 @@ use Rattle.std.proofs.lemmas.Bool.{cond-false, cond-true, eq-eqb}
 use Rattle.ule_model.specs.Frames.{HaveWords, word_after}
 use Rattle.ule_model.specs.Places.{lock_of}
 use Rattle.ule_model.specs.Words.{WordChange, block, point}
-use Rattle.ule_model.specs.World.{Member, is_thread}
+use Rattle.ule_model.specs.World.{Member, is_numbered}
 use Rattle.ule_members.proofs.Within.{Lacks}
 
 -- a change of a word is that of thread t's, if it is any
@@ -15,20 +15,20 @@ IsOnWordOf t (Some (point u l)) = u ≡ t
 
 -- the word of a thread that is blocked names no lock
 pub word_blocked : (t : ℕ) (m : Member) → m.thread.id ≡ t → word_after (Some (block t)) m ≡ None
-word_blocked t m number = cond-true (is_thread t m) None (lock_of m.place) (eq-eqb m.thread.id t number)
+word_blocked t m number = cond-true (is_numbered t m) None (lock_of m.place) (eq-eqb m.thread.id t number)
 
 -- the word of a thread that is pointed to a lock names it
 pub word_pointed : (t l : ℕ) (m : Member) → m.thread.id ≡ t → word_after (Some (point t l)) m ≡ Some l
-word_pointed t l m number = cond-true (is_thread t m) (Some l) (lock_of m.place) (eq-eqb m.thread.id t number)
+word_pointed t l m number = cond-true (is_numbered t m) (Some l) (lock_of m.place) (eq-eqb m.thread.id t number)
 
 -- the word of another thread stays
-pub word_of_other : (t : ℕ) (change : Option WordChange) (m : Member) → IsOnWordOf t change → is_thread t m ≡ false →
+pub word_of_other : (t : ℕ) (change : Option WordChange) (m : Member) → IsOnWordOf t change → is_numbered t m ≡ false →
     word_after change m ≡ lock_of m.place
 word_of_other t None m on other = refl
 word_of_other t (Some (block u)) m on other =
-    cond-false (is_thread u m) None (lock_of m.place) (subst (λ (v : ℕ). is_thread v m ≡ false) (sym on) other)
+    cond-false (is_numbered u m) None (lock_of m.place) (subst (λ (v : ℕ). is_numbered v m ≡ false) (sym on) other)
 word_of_other t (Some (point u l)) m on other =
-    cond-false (is_thread u m) (Some l) (lock_of m.place) (subst (λ (v : ℕ). is_thread v m ≡ false) (sym on) other)
+    cond-false (is_numbered u m) (Some l) (lock_of m.place) (subst (λ (v : ℕ). is_numbered v m ≡ false) (sym on) other)
 
 -- threads that stay have their words without a change
 pub words_stay : (ms : List Member) → HaveWords None ms ms

@@ -12,19 +12,19 @@ use Rattle.ule_micro.specs.declared.seat.Progress.{Progress}
 use Rattle.ule_micro.specs.declared.seat.Progress.TheVariants as progress
 use Rattle.ule_micro.specs.declared.seat.Seat.{Seat}
 use Rattle.ule_micro.specs.declared.word.WordChange.{WordChange}
-use Rattle.ule_micro.specs.Means.{Means, Needs, one, both, lock_of, budgets, stands_at}
-use Rattle.ule_micro.specs.Histories.{Effect, performed, values_under, alone, with_first, is_among, stepped, paired, AreLocksFor, Follows, Shares, IsNoEarlier, latest_of}
-use Rattle.ule_micro.specs.Courses.{all_advanced, Play, performs}
-use Rattle.ule_micro.specs.Laws.{StartsSmall, MovesLittle, KeepsHands, KeepsPrograms, Readies, AreRising, IsLockFor}
+use Rattle.ule_micro.specs.Means.{Means, Needs, one, both, lock_of, budgets, stands_under}
+use Rattle.ule_micro.specs.Histories.{Effect, effect_under, values_under, alone, with_first, is_lock_among, effect_of_step, effect_of_pair, AreLocksFor, Follows, Shares, IsNoEarlierThanShared, latest_of}
+use Rattle.ule_micro.specs.Courses.{all_advanced, LegalPlay, performs}
+use Rattle.ule_micro.specs.Laws.{StartsSmall, MovesLittle, KeepsHands, KeepsPrograms, ReadiesEvents, AreRising, IsLockFor}
 use Rattle.ule_micro.specs.Agreement.{NamesOneHolder}
-use Rattle.ule_micro.specs.States.{State, lock_word, word_of, holds, held_by, pending, carried_at, course_of, courses, took, standing_of, hand_of, world}
-use Rattle.ule_micro.specs.Turns.{leaving, entry_of}
+use Rattle.ule_micro.specs.States.{State, lock_holder, word_of, holds, lock_held_by, pending, carried_at, course_of_seat, courses, took, standing_of_phase, hand_of_seat, values_and_hands}
+use Rattle.ule_micro.specs.Turns.{seat_leaving, entry_made}
 use Rattle.ule_micro.specs.Theorem.{ThreadAgreesIn, HasWhatItNeeds, IsTimely}
-use Rattle.ule_micro.specs.Performing.{AreApart}
-use Rattle.ule_micro.specs.Kept.{IsKept}
+use Rattle.ule_micro.specs.Performing.{AreInRisingOrder}
+use Rattle.ule_micro.specs.Kept.{IsKeptState}
 use Rattle.ule_micro.proofs.Lists.{get_else, get_map, there, something, one_there}
-use Rattle.ule_micro.proofs.Seats.{seat_here, each_seat, held_before, held_same, pending_here, pending_before, pending_else, courses_set, course_at, carried_here, carried_before, carried_else, hand_at, hands_set}
-use Rattle.ule_micro.proofs.Effects.{performed_one, performed_two, under_one, under_two}
+use Rattle.ule_micro.proofs.Seats.{seat_here, each_seat, held_before, held_same, pending_here, pending_before, pending_else, seat_courses_set, seat_course_at, carried_here, carried_before, carried_else, seat_hand_at, hands_set}
+use Rattle.ule_micro.proofs.Effects.{effect_under_one, effect_under_two, under_one, under_two}
 use Rattle.ule_micro.proofs.Threads.{thread_kept, under_calm, hand_calm, thread_left, thread_came, under_injective, under_no_hand, hand_injective}
 use Rattle.ule_micro.proofs.Words.{names_kept, one_holder}
 use Rattle.ule_micro.proofs.Moves.{in_value, bool_case, Moved, stays, left, came, moved_one, moved_two, stands_value, among_this, among_first, among_second}
@@ -48,32 +48,32 @@ module _ {H O G E R C : Type 0} (m : Means H O G E R C) where
   )
 
   -- the locks that an event needs rise
-  pub apart_for : (values : List G) (held : HeldLocks) (n : Needs) → AreRising m n → AreLocksFor m values held n → AreApart held
-  apart_for values held (one a) low is = subst AreApart (sym is) tt
-  apart_for values held (both a b) low is = subst AreApart (sym is) low.0
-  apart_for values held (lock_of t) low (l, is, st) = subst AreApart (sym is) tt
+  pub apart_for : (values : List G) (held : HeldLocks) (n : Needs) → AreRising m n → AreLocksFor m values held n → AreInRisingOrder held
+  apart_for values held (one a) low is = subst AreInRisingOrder (sym is) tt
+  apart_for values held (both a b) low is = subst AreInRisingOrder (sym is) low.0
+  apart_for values held (lock_of t) low (l, is, st) = subst AreInRisingOrder (sym is) tt
 
   -- an event under locks that have values has an effect
   pub effect_there : (w : ℕ) (e : E) (now : ℕ) (h : H) (held : HeldLocks) (values guarded : List G) → values_under held values ≡ Some guarded
-      → (after : Effect H G R) × (performed m w e now h held values ≡ Some after)
-  effect_there w e now h (One a) values guarded is = let v = under_one a values guarded is in (stepped m w e now h values a v.0, performed_one m w e now h a values v.0 v.1)
-  effect_there w e now h (Two a b) values guarded is = let v = under_two a b values guarded is in (paired m w e now h values a b v.0 v.1, performed_two m w e now h a b values v.0 v.1 v.2 v.3)
+      → (after : Effect H G R) × (effect_under m w e now h held values ≡ Some after)
+  effect_there w e now h (One a) values guarded is = let v = under_one a values guarded is in (effect_of_step m w e now h values a v.0, effect_under_one m w e now h a values v.0 v.1)
+  effect_there w e now h (Two a b) values guarded is = let v = under_two a b values guarded is in (effect_of_pair m w e now h values a b v.0 v.1, effect_under_two m w e now h a b values v.0 v.1 v.2 v.3)
 
   module _ (w : ℕ) (e : E) (now : ℕ) (h : H) (values guarded : List G) (after : Effect H G R) where
     -- the values under other locks stay
-    pub values_else : (held : HeldLocks) → values_under held values ≡ Some guarded → performed m w e now h held values ≡ Some after → (l : ℕ) → is_among held l ≡ false
+    pub values_else : (held : HeldLocks) → values_under held values ≡ Some guarded → effect_under m w e now h held values ≡ Some after → (l : ℕ) → is_lock_among held l ≡ false
         → slice_get after.values l ≡ slice_get values l
-    values_else (One a) is effect l out = let v = under_one a values guarded is in let same : stepped m w e now h values a v.0 ≡ after = same_Some _ after (sym (performed_one m w e now h a values v.0 v.1) ∙ effect) in
-        ap (λ (x : Effect H G R). slice_get x.values l) (sym same) ∙ get_else values a l (m.step w e now h v.0).1 (λ z. true≢false (sym (ap (is_among (One a)) z ∙ among_this a) ∙ out))
-    values_else (Two a b) is effect l out = let v = under_two a b values guarded is in let same : paired m w e now h values a b v.0 v.1 ≡ after = same_Some _ after (sym (performed_two m w e now h a b values v.0 v.1 v.2 v.3) ∙ effect) in
-        ap (λ (x : Effect H G R). slice_get x.values l) (sym same) ∙ (get_else (set values a (m.pair w e now h v.0 v.1).1) b l (m.pair w e now h v.0 v.1).2 (λ z. true≢false (sym (ap (is_among (Two a b)) z ∙ among_second a b) ∙ out))
-        ∙ get_else values a l (m.pair w e now h v.0 v.1).1 (λ z. true≢false (sym (ap (is_among (Two a b)) z ∙ among_first a b) ∙ out)))
+    values_else (One a) is effect l out = let v = under_one a values guarded is in let same : effect_of_step m w e now h values a v.0 ≡ after = same_Some _ after (sym (effect_under_one m w e now h a values v.0 v.1) ∙ effect) in
+        ap (λ (x : Effect H G R). slice_get x.values l) (sym same) ∙ get_else values a l (m.step w e now h v.0).1 (λ z. true≢false (sym (ap (is_lock_among (One a)) z ∙ among_this a) ∙ out))
+    values_else (Two a b) is effect l out = let v = under_two a b values guarded is in let same : effect_of_pair m w e now h values a b v.0 v.1 ≡ after = same_Some _ after (sym (effect_under_two m w e now h a b values v.0 v.1 v.2 v.3) ∙ effect) in
+        ap (λ (x : Effect H G R). slice_get x.values l) (sym same) ∙ (get_else (set values a (m.pair w e now h v.0 v.1).1) b l (m.pair w e now h v.0 v.1).2 (λ z. true≢false (sym (ap (is_lock_among (Two a b)) z ∙ among_second a b) ∙ out))
+        ∙ get_else values a l (m.pair w e now h v.0 v.1).1 (λ z. true≢false (sym (ap (is_lock_among (Two a b)) z ∙ among_first a b) ∙ out)))
 
     -- an event leaves as many values as there were
-    pub values_many : (held : HeldLocks) → values_under held values ≡ Some guarded → performed m w e now h held values ≡ Some after → length after.values ≡ length values
-    values_many (One a) is effect = let v = under_one a values guarded is in let same : stepped m w e now h values a v.0 ≡ after = same_Some _ after (sym (performed_one m w e now h a values v.0 v.1) ∙ effect) in
+    pub values_many : (held : HeldLocks) → values_under held values ≡ Some guarded → effect_under m w e now h held values ≡ Some after → length after.values ≡ length values
+    values_many (One a) is effect = let v = under_one a values guarded is in let same : effect_of_step m w e now h values a v.0 ≡ after = same_Some _ after (sym (effect_under_one m w e now h a values v.0 v.1) ∙ effect) in
         ap (λ (x : Effect H G R). length x.values) (sym same) ∙ length-set values a (m.step w e now h v.0).1
-    values_many (Two a b) is effect = let v = under_two a b values guarded is in let same : paired m w e now h values a b v.0 v.1 ≡ after = same_Some _ after (sym (performed_two m w e now h a b values v.0 v.1 v.2 v.3) ∙ effect) in
+    values_many (Two a b) is effect = let v = under_two a b values guarded is in let same : effect_of_pair m w e now h values a b v.0 v.1 ≡ after = same_Some _ after (sym (effect_under_two m w e now h a b values v.0 v.1 v.2 v.3) ∙ effect) in
         ap (λ (x : Effect H G R). length x.values) (sym same) ∙ (length-set (set values a (m.pair w e now h v.0 v.1).1) b (m.pair w e now h v.0 v.1).2 ∙ length-set values a (m.pair w e now h v.0 v.1).1)
 
     -- one lock that an event holds is the one that it needs
@@ -89,14 +89,14 @@ module _ {H O G E R C : Type 0} (m : Means H O G E R C) where
     both_for a b (lock_of t) (l, is, st) = absurd (cc)
 
     -- each declared thread stays, leaves a lock for the hand, or comes to a lock
-    pub moved : MovesLittle m → (held : HeldLocks) → values_under held values ≡ Some guarded → performed m w e now h held values ≡ Some after
+    pub moved : MovesLittle m → (held : HeldLocks) → values_under held values ≡ Some guarded → effect_under m w e now h held values ≡ Some after
         → AreLocksFor m values held (m.needs e) → m.may w e now h guarded
         → (t : ℕ) → m.declared t ≡ true → Moved m held h after.hand values after.values t (m.change e after.reply)
-    moved law (One a) is effect locks may t dec = let v = under_one a values guarded is in let same : stepped m w e now h values a v.0 ≡ after = same_Some _ after (sym (performed_one m w e now h a values v.0 v.1) ∙ effect) in
+    moved law (One a) is effect locks may t dec = let v = under_one a values guarded is in let same : effect_of_step m w e now h values a v.0 ≡ after = same_Some _ after (sym (effect_under_one m w e now h a values v.0 v.1) ∙ effect) in
         subst (λ (x : Effect H G R). Moved m (One a) h x.hand values x.values t (m.change e x.reply)) same
         (moved_one m values t a v.0 (m.step w e now h v.0).1 v.1 h (m.step w e now h v.0).0 (m.change e (m.step w e now h v.0).2) dec
         (law.step w e now h a v.0 (subst (m.may w e now h) v.2 may) (lock_for a v.0 (m.needs e) v.1 locks)))
-    moved law (Two a b) is effect locks may t dec = let v = under_two a b values guarded is in let same : paired m w e now h values a b v.0 v.1 ≡ after = same_Some _ after (sym (performed_two m w e now h a b values v.0 v.1 v.2 v.3) ∙ effect) in
+    moved law (Two a b) is effect locks may t dec = let v = under_two a b values guarded is in let same : effect_of_pair m w e now h values a b v.0 v.1 ≡ after = same_Some _ after (sym (effect_under_two m w e now h a b values v.0 v.1 v.2 v.3) ∙ effect) in
         let needs = both_for a b (m.needs e) locks in
         let apart : a < b = (subst (AreRising m) needs (law.rising e)).0 in
         subst (λ (x : Effect H G R). Moved m (Two a b) h x.hand values x.values t (m.change e x.reply)) same
@@ -113,8 +113,8 @@ module _ {E R : Type 0} where
   latest_else w x h n = ap (λ b. if b then Some x else latest_of w h) (ne_eqb x.worker w n)
 
   -- a time that is no earlier than the entries so far, and no earlier than one more that shares with it
-  pub no_earlier_more : (h : List (Entry E R)) (x : Entry E R) (w : ℕ) (held : HeldLocks) (now : ℕ) → IsNoEarlier h w held now → (Shares w held x → x.now ≤ now)
-      → IsNoEarlier (x ∷ h) w held now
+  pub no_earlier_more : (h : List (Entry E R)) (x : Entry E R) (w : ℕ) (held : HeldLocks) (now : ℕ) → IsNoEarlierThanShared h w held now → (Shares w held x → x.now ≤ now)
+      → IsNoEarlierThanShared (x ∷ h) w held now
   no_earlier_more h x w held now r new = record { begun = r.begun; after = by } where
     by : (j : ℕ) (y : Entry E R) → slice_get (x ∷ h) j ≡ Some y → Shares w held y → y.now ≤ now
     by zero y e sh = let is : x ≡ y = same_Some x y e in subst (λ (z : Entry E R). z.now ≤ now) is (new (subst (Shares w held) (sym is) sh))
@@ -126,8 +126,9 @@ module _ {E R : Type 0} where
   past_more h x now old new zero y e = subst (λ (z : Entry E R). z.now ≤ now) (same_Some x y e) new
   past_more h x now old new (suc j) y e = old j y e
 
-module _ {H O G E R C : Type 0} (m : Means H O G E R C) (small : StartsSmall m) (law : MovesLittle m) (hands : KeepsHands m) (programs : KeepsPrograms m) (ready : Readies m)
-    (s : State O G E R) (k : IsKept m s) (w : ℕ) (p : Seat O E R) (at : slice_get s.seats w ≡ Some p) (e : E) (held : HeldLocks) (now : ℕ) (here : p.phase ≡ phase.Event e (progress.Timed held now)) where
+module _ {H O G E R C : Type 0} (m : Means H O G E R C) (small : StartsSmall m) (law : MovesLittle m) (hands : KeepsHands m) (programs : KeepsPrograms m) (ready : ReadiesEvents m)
+    (s : State O G E R) (k : IsKeptState m s) (w : ℕ) (p : Seat O E R) (at : slice_get s.seats w ≡ Some p) (e : E)
+    (held : HeldLocks) (now : ℕ) (here : p.phase ≡ phase.Event e (progress.Timed held now)) where
   times : IsTimely m s w p held now
   times = k.agreement.times w p e held now at here
 
@@ -139,42 +140,42 @@ module _ {H O G E R C : Type 0} (m : Means H O G E R C) (small : StartsSmall m) 
   guards = guarded_there m s.values held (m.needs e) k.values (law.rising e) locks
 
   -- the play with the entry of the event
-  module _ (after : Effect H G R) (effect : performed m w e now (m.hand p.own) held s.values ≡ Some after) where
+  module _ (after : Effect H G R) (effect : effect_under m w e now (m.hand p.own) held s.values ≡ Some after) where
     -- the entry follows from the values and the hand
-    pub follows : Follows m s.values (m.hand p.own) (entry_of m w e held now after.reply) after
+    pub follows : Follows m s.values (m.hand p.own) (entry_made m w e held now after.reply) after
     follows = record {
       locks = locks;
       guarded = guards.0;
       under = guards.1;
-      fits = programs.fits s.history s.values (courses s) w (course_of p) e held guards.0 k.play (course_at s.seats w p p at) (ap standing_of here) locks guards.1;
+      fits = programs.fits s.history s.values (courses s) w (course_of_seat p) e held guards.0 k.play (seat_course_at s.seats w p p at) (ap standing_of_phase here) locks guards.1;
       effect = effect;
       reply = refl;
     }
 
     -- the play goes on with the entry
-    pub play_after : Play m (entry_of m w e held now after.reply ∷ s.history) after.values (map course_of (set s.seats w (leaving m p e held now after)))
-    play_after = subst (Play m (entry_of m w e held now after.reply ∷ s.history) after.values) (sym (courses_set s.seats w p (leaving m p e held now after) at))
-        (performs (course_of p) (entry_of m w e held now after.reply) after k.play (course_at s.seats w p p at) (ap standing_of here) follows
+    pub play_after : LegalPlay m (entry_made m w e held now after.reply ∷ s.history) after.values (map course_of_seat (set s.seats w (seat_leaving m p e held now after)))
+    play_after = subst (LegalPlay m (entry_made m w e held now after.reply ∷ s.history) after.values) (sym (seat_courses_set s.seats w p (seat_leaving m p e held now after) at))
+        (performs (course_of_seat p) (entry_made m w e held now after.reply) after k.play (seat_course_at s.seats w p p at) (ap standing_of_phase here) follows
         record { no_earlier = times.no_earlier; own = times.own; past = let a = times.past in let b = k.agreement.now in omega arith })
 
   -- there is still an item to perform, so the history is short
   pub few_entries : length s.history < 65536
-  few_entries = let a = effect_there m w e now (m.hand p.own) held s.values guards.0 guards.1 in let z = play_small m programs small (entry_of m w e held now a.0.reply ∷ s.history) a.0.values (map course_of (set s.seats w (leaving m p e held now a.0))) (play_after a.0 a.1) in let y = z.1 in omega arith
+  few_entries = let a = effect_there m w e now (m.hand p.own) held s.values guards.0 guards.1 in let z = play_small m programs small (entry_made m w e held now a.0.reply ∷ s.history) a.0.values (map course_of_seat (set s.seats w (seat_leaving m p e held now a.0))) (play_after a.0 a.1) in let y = z.1 in omega arith
 
   -- its worker performed few items so far
   pub few_items : p.items < 65536
-  few_items = let a = effect_there m w e now (m.hand p.own) held s.values guards.0 guards.1 in let q = leaving m p e held now a.0 in
-      let z = items_small m programs small (entry_of m w e held now a.0.reply ∷ s.history) a.0.values (map course_of (set s.seats w q)) w (course_of q) (play_after a.0 a.1) (get_map course_of (set s.seats w q) w q (seat_here s.seats w p q at)) in omega arith
+  few_items = let a = effect_there m w e now (m.hand p.own) held s.values guards.0 guards.1 in let q = seat_leaving m p e held now a.0 in
+      let z = items_small m programs small (entry_made m w e held now a.0.reply ∷ s.history) a.0.values (map course_of_seat (set s.seats w q)) w (course_of_seat q) (play_after a.0 a.1) (get_map course_of_seat (set s.seats w q) w q (seat_here s.seats w p q at)) in omega arith
 
   -- there is room for its entry
-  pub has_room : length s.history < budgets m.budget (length m.owns)
-  has_room = let a = effect_there m w e now (m.hand p.own) held s.values guards.0 guards.1 in let z = play_small m programs small (entry_of m w e held now a.0.reply ∷ s.history) a.0.values (map course_of (set s.seats w (leaving m p e held now a.0))) (play_after a.0 a.1) in let y = z.0 in omega arith
+  pub entry_has_room : length s.history < budgets m.budget (length m.owns)
+  entry_has_room = let a = effect_there m w e now (m.hand p.own) held s.values guards.0 guards.1 in let z = play_small m programs small (entry_made m w e held now a.0.reply ∷ s.history) a.0.values (map course_of_seat (set s.seats w (seat_leaving m p e held now a.0))) (play_after a.0 a.1) in let y = z.0 in omega arith
 
   -- the event may be performed
   pub may : m.may w e now (m.hand p.own) guards.0
   may = let few = play_small m programs small s.history s.values (courses s) k.play in let past = times.past in let sum = k.agreement.now in
-      let fits = programs.fits s.history s.values (courses s) w (course_of p) e held guards.0 k.play (course_at s.seats w p p at) (ap standing_of here) locks guards.1 in
-      ready s.history (world m s) w e now (m.hand p.own) held guards.0 k.agreement.history (λ j x is. let a = k.agreement.past j x is in omega arith) few_entries (hand_at m s.seats w p p at) locks guards.1 fits times.no_earlier (omega arith)
+      let fits = programs.fits s.history s.values (courses s) w (course_of_seat p) e held guards.0 k.play (seat_course_at s.seats w p p at) (ap standing_of_phase here) locks guards.1 in
+      ready s.history (values_and_hands m s) w e now (m.hand p.own) held guards.0 k.agreement.history (λ j x is. let a = k.agreement.past j x is in omega arith) few_entries (seat_hand_at m s.seats w p p at) locks guards.1 fits times.no_earlier (omega arith)
 
   -- the worker has no change pending
   pub quiet : p.pending ≡ None
@@ -183,12 +184,12 @@ module _ {H O G E R C : Type 0} (m : Means H O G E R C) (small : StartsSmall m) 
     by None is = is
     by (Some c) is = absurd (let z = k.agreement.changes w p at c is in let y : phase.Event e (progress.Timed held now) ≡ phase.Leaving z.0.reply z.0.now z.0.locks = sym here ∙ z.2 in cc)
 
-  module _ (after : Effect H G R) (effect : performed m w e now (m.hand p.own) held s.values ≡ Some after) where
+  module _ (after : Effect H G R) (effect : effect_under m w e now (m.hand p.own) held s.values ≡ Some after) where
     abbrev p' : Seat O E R
-    p' = leaving m p e held now after
+    p' = seat_leaving m p e held now after
 
     abbrev x : Entry E R
-    x = entry_of m w e held now after.reply
+    x = entry_made m w e held now after.reply
 
     abbrev s' : State O G E R
     s' = record { locks = s.locks; words = s.words; ticket = s.ticket + 1; now = s.now; values = after.values; seats = set s.seats w p'; history = x ∷ s.history }
@@ -200,11 +201,11 @@ module _ {H O G E R C : Type 0} (m : Means H O G E R C) (small : StartsSmall m) 
     held_after : (l v : ℕ) → holds s' v l ≡ holds s v l
     held_after l v = held_same s.seats w p p' at l (took_same l) v
 
-    holds_it : (l : ℕ) → is_among held l ≡ true → holds s w l ≡ true
+    holds_it : (l : ℕ) → is_lock_among held l ≡ true → holds s w l ≡ true
     holds_it l a = held_before s.seats w p p at l ∙ (ap (λ f. took f l) here ∙ a)
 
-    alone_in : (l : ℕ) → is_among held l ≡ true → (v : ℕ) → holds s v l ≡ true → v ≡ w
-    alone_in l a v h = one_holder (lock_word s l) (λ i. holds s i l) (k.agreement.locks l) v w h (holds_it l a)
+    alone_in : (l : ℕ) → is_lock_among held l ≡ true → (v : ℕ) → holds s v l ≡ true → v ≡ w
+    alone_in l a v h = one_holder (lock_holder s l) (λ i. holds s i l) (k.agreement.locks l) v w h (holds_it l a)
 
     hand_after : m.hand p'.own ≡ after.hand
     hand_after = hands.put p.own after.hand
@@ -233,50 +234,50 @@ module _ {H O G E R C : Type 0} (m : Means H O G E R C) (small : StartsSmall m) 
       carried_others v n = carried_else m s.seats w p p' at t v n
 
       by : Moved m held (m.hand p.own) after.hand s.values after.values t (m.change e after.reply) → ThreadAgreesIn m s' t
-      by (stays far stand carry) = thread_kept (holds s) (holds s') (pending s) (pending s') (λ l. stands_at m s.values l t) (λ l. stands_at m after.values l t) (λ v. carried_at m (slice_get s.seats v) t) (λ v. carried_at m (slice_get s'.seats v) t) t (word_of s t) (word_of s t)
+      by (stays far stand carry) = thread_kept (holds s) (holds s') (pending s) (pending s') (λ l. stands_under m s.values l t) (λ l. stands_under m after.values l t) (λ v. carried_at m (slice_get s.seats v) t) (λ v. carried_at m (slice_get s'.seats v) t) t (word_of s t) (word_of s t)
           refl stand
           (λ v. dite (ℕ_discrete v w) (λ z. subst (λ i. carried_at m (slice_get s'.seats i) t ≡ carried_at m (slice_get s.seats i) t) (sym z) (carried_w ∙ (carry ∙ sym carried_was))) (carried_others v))
           (λ v c is a. dite (ℕ_discrete v w) (λ z. absurd (far c (sym pends ∙ (ap (pending s') (sym z) ∙ is)) a)) (λ n. sym (others v n) ∙ is))
           (λ v c is a. dite (ℕ_discrete v w) (λ z. absurd (none-some c (sym quiet_w ∙ (ap (pending s) (sym z) ∙ is)))) (λ n. others v n ∙ is))
           (λ v l c is a h. held_after l v ∙ h) was
-      by (left a is among stood gone carry) = let z = under_calm (holds s) (pending s) (λ l. stands_at m s.values l t) (λ v. carried_at m (slice_get s.seats v) t) t (word_of s t) w quiet_w was a (alone_in a among) stood in
-          thread_left (holds s) (holds s') (pending s) (pending s') (λ l. stands_at m s.values l t) (λ l. stands_at m after.values l t) (λ v. carried_at m (slice_get s.seats v) t) (λ v. carried_at m (slice_get s'.seats v) t) t (word_of s t) (word_of s t) w was refl z.2 others carried_others
+      by (left a is among stood gone carry) = let z = under_calm (holds s) (pending s) (λ l. stands_under m s.values l t) (λ v. carried_at m (slice_get s.seats v) t) t (word_of s t) w quiet_w was a (alone_in a among) stood in
+          thread_left (holds s) (holds s') (pending s) (pending s') (λ l. stands_under m s.values l t) (λ l. stands_under m after.values l t) (λ v. carried_at m (slice_get s.seats v) t) (λ v. carried_at m (slice_get s'.seats v) t) t (word_of s t) (word_of s t) w was refl z.2 others carried_others
           a z.0 z.1 (held_after a w ∙ holds_it a among) (pends ∙ is) (carried_w ∙ carry)
-          (λ l st. let g = gone l st in let same : a ≡ l = under_injective a l (sym z.0 ∙ was.only_under l g.0) in true≢false (sym among ∙ (ap (is_among held) same ∙ g.1)))
+          (λ l st. let g = gone l st in let same : a ≡ l = under_injective a l (sym z.0 ∙ was.only_under l g.0) in true≢false (sym among ∙ (ap (is_lock_among held) same ∙ g.1)))
       by (came c is from among st only carry) = by_place from where
         no_hand_else : ((v : ℕ) → v ≢ w → carried_at m (slice_get s.seats v) t ≡ true → ⊥) → (v : ℕ) → carried_at m (slice_get s'.seats v) t ≡ true → ⊥
         no_hand_else none v ca = dite (ℕ_discrete v w) (λ z. true≢false (sym ca ∙ (ap (λ i. carried_at m (slice_get s'.seats i) t) z ∙ (carried_w ∙ carry)))) (λ n. none v n (sym (carried_others v n) ∙ ca))
 
-        by_place : ((m.carried_in (m.hand p.own) t ≡ true) ⊎ ((a : ℕ) × (is_among held a ≡ true) × (stands_at m s.values a t ≡ true))) → ThreadAgreesIn m s' t
-        by_place (inl ca) = let z = hand_calm (holds s) (pending s) (λ l. stands_at m s.values l t) (λ v. carried_at m (slice_get s.seats v) t) t (word_of s t) w quiet_w was (carried_was ∙ ca) in
-            thread_came (holds s) (holds s') (pending s) (pending s') (λ l. stands_at m s.values l t) (λ l. stands_at m after.values l t) (λ v. carried_at m (slice_get s.seats v) t) (λ v. carried_at m (slice_get s'.seats v) t) t (word_of s t) (word_of s t) w was refl z.2 others carried_others
-            c (held_after c w ∙ holds_it c among) (pends ∙ is) st (λ l stl. ⊎_elim (λ y. y) (λ (y : (stands_at m s.values l t ≡ true) × (is_among held l ≡ false)). absurd (under_no_hand l w (sym (was.only_under l y.0) ∙ z.0))) (only l stl))
+        by_place : ((m.carried_in (m.hand p.own) t ≡ true) ⊎ ((a : ℕ) × (is_lock_among held a ≡ true) × (stands_under m s.values a t ≡ true))) → ThreadAgreesIn m s' t
+        by_place (inl ca) = let z = hand_calm (holds s) (pending s) (λ l. stands_under m s.values l t) (λ v. carried_at m (slice_get s.seats v) t) t (word_of s t) w quiet_w was (carried_was ∙ ca) in
+            thread_came (holds s) (holds s') (pending s) (pending s') (λ l. stands_under m s.values l t) (λ l. stands_under m after.values l t) (λ v. carried_at m (slice_get s.seats v) t) (λ v. carried_at m (slice_get s'.seats v) t) t (word_of s t) (word_of s t) w was refl z.2 others carried_others
+            c (held_after c w ∙ holds_it c among) (pends ∙ is) st (λ l stl. ⊎_elim (λ y. y) (λ (y : (stands_under m s.values l t ≡ true) × (is_lock_among held l ≡ false)). absurd (under_no_hand l w (sym (was.only_under l y.0) ∙ z.0))) (only l stl))
             (no_hand_else (λ v n h. n (hand_injective v w (sym (was.only_hand v h) ∙ z.0)))) (inl z.1)
-        by_place (inr (a, took_it, stood)) = let z = under_calm (holds s) (pending s) (λ l. stands_at m s.values l t) (λ v. carried_at m (slice_get s.seats v) t) t (word_of s t) w quiet_w was a (alone_in a took_it) stood in
-            thread_came (holds s) (holds s') (pending s) (pending s') (λ l. stands_at m s.values l t) (λ l. stands_at m after.values l t) (λ v. carried_at m (slice_get s.seats v) t) (λ v. carried_at m (slice_get s'.seats v) t) t (word_of s t) (word_of s t) w was refl z.2 others carried_others
+        by_place (inr (a, took_it, stood)) = let z = under_calm (holds s) (pending s) (λ l. stands_under m s.values l t) (λ v. carried_at m (slice_get s.seats v) t) t (word_of s t) w quiet_w was a (alone_in a took_it) stood in
+            thread_came (holds s) (holds s') (pending s) (pending s') (λ l. stands_under m s.values l t) (λ l. stands_under m after.values l t) (λ v. carried_at m (slice_get s.seats v) t) (λ v. carried_at m (slice_get s'.seats v) t) t (word_of s t) (word_of s t) w was refl z.2 others carried_others
             c (held_after c w ∙ holds_it c among) (pends ∙ is) st
-            (λ l stl. ⊎_elim (λ y. y) (λ (y : (stands_at m s.values l t ≡ true) × (is_among held l ≡ false)). absurd (let same : a ≡ l = under_injective a l (sym z.0 ∙ was.only_under l y.0) in true≢false (sym took_it ∙ (ap (is_among held) same ∙ y.1)))) (only l stl))
+            (λ l stl. ⊎_elim (λ y. y) (λ (y : (stands_under m s.values l t ≡ true) × (is_lock_among held l ≡ false)). absurd (let same : a ≡ l = under_injective a l (sym z.0 ∙ was.only_under l y.0) in true≢false (sym took_it ∙ (ap (is_lock_among held) same ∙ y.1)))) (only l stl))
             (no_hand_else (λ v n h. under_no_hand a v (sym z.0 ∙ was.only_hand v h))) (inr (a, z.1, held_after a w ∙ holds_it a took_it))
 
-    names : (l : ℕ) → NamesOneHolder (lock_word s' l) (λ v. holds s' v l)
-    names l = names_kept (lock_word s l) (lock_word s l) (λ v. holds s v l) (λ v. holds s' v l) (k.agreement.locks l) refl (held_after l)
+    names : (l : ℕ) → NamesOneHolder (lock_holder s' l) (λ v. holds s' v l)
+    names l = names_kept (lock_holder s l) (lock_holder s l) (λ v. holds s v l) (λ v. holds s' v l) (k.agreement.locks l) refl (held_after l)
 
     -- another worker's locks are not those of the event
-    far_locks : (v : ℕ) (q : Seat O E R) (l : ℕ) → v ≢ w → slice_get s.seats v ≡ Some q → took q.phase l ≡ true → is_among held l ≡ true → ⊥
-    far_locks v q l n is took_it a = n (alone_in l a v (ap (λ o. held_by o l) is ∙ took_it))
+    far_locks : (v : ℕ) (q : Seat O E R) (l : ℕ) → v ≢ w → slice_get s.seats v ≡ Some q → took q.phase l ≡ true → is_lock_among held l ≡ true → ⊥
+    far_locks v q l n is took_it a = n (alone_in l a v (ap (λ o. lock_held_by o l) is ∙ took_it))
 
     -- a thread that another worker sought stays under its lock
     sought_stays : (v : ℕ) (q : Seat O E R) (mine : HeldLocks) (n : Needs) → v ≢ w → slice_get s.seats v ≡ Some q
-        → ((l : ℕ) → is_among mine l ≡ true → took q.phase l ≡ true) → AreLocksFor m s.values mine n → AreLocksFor m after.values mine n
+        → ((l : ℕ) → is_lock_among mine l ≡ true → took q.phase l ≡ true) → AreLocksFor m s.values mine n → AreLocksFor m after.values mine n
     sought_stays v q mine (one a) far is had needs = needs
     sought_stays v q mine (both a b) far is had needs = needs
     sought_stays v q mine (lock_of t) far is had (l, one_lock, st) = (
       l,
       one_lock,
       ⊎_elim
-          (λ a. absurd (far_locks v q l far is (had l (ap (λ i. is_among i l) one_lock ∙ among_this l)) a))
+          (λ a. absurd (far_locks v q l far is (had l (ap (λ i. is_lock_among i l) one_lock ∙ among_this l)) a))
           (λ out. ap (λ o. in_value m o t) (values_else m w e now (m.hand p.own) s.values guards.0 after held guards.1 effect l out) ∙ st)
-          (bool_case (is_among held l)),
+          (bool_case (is_lock_among held l)),
     )
 
     way_stays : (v : ℕ) (q : Seat O E R) (f : E) (way : Progress) → v ≢ w → slice_get s.seats v ≡ Some q → q.phase ≡ phase.Event f way → HasWhatItNeeds m s f way
@@ -295,11 +296,11 @@ module _ {H O G E R C : Type 0} (m : Means H O G E R C) (small : StartsSmall m) 
       past = r.past;
       own = r.own;
       no_earlier = no_earlier_more s.history x v mine n r.no_earlier (λ sh. absurd (⊎_elim (λ (z : w ≡ v). far (sym z))
-          (λ (z : (l : ℕ) × (is_among mine l ≡ true) × (is_among held l ≡ true)). far_locks v q z.0 far is (ap (λ g. took g z.0) there ∙ z.1) z.2) sh));
+          (λ (z : (l : ℕ) × (is_lock_among mine l ≡ true) × (is_lock_among held l ≡ true)). far_locks v q z.0 far is (ap (λ g. took g z.0) there ∙ z.1) z.2) sh));
     }
 
     -- the state after the commit is kept
-    pub commit_kept : IsKept m s'
+    pub commit_kept : IsKeptState m s'
     commit_kept = record {
       locks = k.locks;
       words = k.words;
@@ -309,7 +310,7 @@ module _ {H O G E R C : Type 0} (m : Means H O G E R C) (small : StartsSmall m) 
       begun = λ v q e'. ⊎_elim (λ (z : (v ≡ w) × (p' ≡ q)). subst (λ i. q.begun ≤ length (m.orders i)) (sym z.0) (subst (λ (y : Seat O E R). y.begun ≤ length (m.orders w)) z.1 (k.begun w p at))) (λ (z : (v ≢ w) × (slice_get s.seats v ≡ Some q)). k.begun v q z.1) (each_seat s.seats w p p' at v q e');
       ended = λ v q e' fin. ⊎_elim (λ (z : (v ≡ w) × (p' ≡ q)). absurd (let y : phase.Leaving after.reply now held ≡ phase.Finished = ap (λ (y : Seat O E R). y.phase) z.1 ∙ fin in cc)) (λ (z : (v ≢ w) × (slice_get s.seats v ≡ Some q)). k.ended v q z.1 fin) (each_seat s.seats w p p' at v q e');
       apart = λ v q reply n other e' there. ⊎_elim
-          (λ (z : (v ≡ w) × (p' ≡ q)). let y : phase.Leaving after.reply now held ≡ phase.Leaving reply n other = ap (λ (y : Seat O E R). y.phase) z.1 ∙ there in let same : held ≡ other = cc in subst AreApart same (apart_for m s.values held (m.needs e) (law.rising e) locks))
+          (λ (z : (v ≡ w) × (p' ≡ q)). let y : phase.Leaving after.reply now held ≡ phase.Leaving reply n other = ap (λ (y : Seat O E R). y.phase) z.1 ∙ there in let same : held ≡ other = cc in subst AreInRisingOrder same (apart_for m s.values held (m.needs e) (law.rising e) locks))
           (λ (z : (v ≢ w) × (slice_get s.seats v ≡ Some q)). k.apart v q reply n other z.1 there) (each_seat s.seats w p p' at v q e');
       agreement = record {
         locks = names;
@@ -322,20 +323,20 @@ module _ {H O G E R C : Type 0} (m : Means H O G E R C) (small : StartsSmall m) 
         times = λ v q f mine n e' there. ⊎_elim (λ (z : (v ≡ w) × (p' ≡ q)). absurd (let y : phase.Leaving after.reply now held ≡ phase.Event f (progress.Timed mine n) = ap (λ (y : Seat O E R). y.phase) z.1 ∙ there in cc))
             (λ (z : (v ≢ w) × (slice_get s.seats v ≡ Some q)). time_stays v q f mine n z.0 z.1 there (k.agreement.times v q f mine n z.1 there)) (each_seat s.seats w p p' at v q e');
         past = past_more s.history x s.now k.agreement.past times.past;
-        now = let a = advanced_set (courses s) w (course_of p) (course_of p') (course_at s.seats w p p' at) in
-            let b : all_advanced (courses s') ≡ all_advanced (set (courses s) w (course_of p')) = ap all_advanced (courses_set s.seats w p p' at) in let c = k.agreement.now in omega arith;
+        now = let a = advanced_set (courses s) w (course_of_seat p) (course_of_seat p') (seat_course_at s.seats w p p' at) in
+            let b : all_advanced (courses s') ≡ all_advanced (set (courses s) w (course_of_seat p')) = ap all_advanced (seat_courses_set s.seats w p p' at) in let c = k.agreement.now in omega arith;
         finished = λ v q e' fin. ⊎_elim (λ (z : (v ≡ w) × (p' ≡ q)). absurd (let y : phase.Leaving after.reply now held ≡ phase.Finished = ap (λ (y : Seat O E R). y.phase) z.1 ∙ fin in cc))
             (λ (z : (v ≢ w) × (slice_get s.seats v ≡ Some q)). let r = k.agreement.finished v q z.1 fin in record { free = r.free; calm = r.calm; empty = r.empty }) (each_seat s.seats w p p' at v q e');
         ticket = let a = k.agreement.ticket in omega arith;
         history = (
-          world m s,
+          values_and_hands m s,
           m.hand p.own,
           after,
           k.agreement.history,
-          hand_at m s.seats w p p at,
+          seat_hand_at m s.seats w p p at,
           follows after effect,
           times.no_earlier,
-          (λ i. record { values = after.values; hands = (hands_set m s.seats w p p' at ∙ ap (set (map (hand_of m) s.seats) w) hand_after) i }),
+          (λ i. record { values = after.values; hands = (hands_set m s.seats w p p' at ∙ ap (set (map (hand_of_seat m) s.seats) w) hand_after) i }),
         );
       };
       play = play_after after effect;

@@ -4,8 +4,8 @@ use Rattle.std.specs.Prelude.{Option, Some, None, slice_get, slice_index_or}
 use Rattle.std.proofs.lemmas.Option.{none-some, same_Some}
 use Rattle.ule_micro.specs.declared.entry.HeldLocks.TheVariants.{One, Two}
 use Rattle.ule_micro.specs.Means.{Means}
-use Rattle.ule_micro.specs.Histories.{performed, effect_of, values_under, alone, with_first, stepped, paired}
-use Rattle.ule_micro.specs.Performing.{Performs}
+use Rattle.ule_micro.specs.Histories.{effect_under, effect_of, values_under, alone, with_first, effect_of_step, effect_of_pair}
+use Rattle.ule_micro.specs.Performing.{HasEffect}
 use Rattle.ule_micro.proofs.Lists.{take_get, drop_get, index_get}
 
 module _ {G : Type 0} where
@@ -43,28 +43,28 @@ module _ {G : Type 0} where
 
 module _ {H O G E R C : Type 0} (m : Means H O G E R C) where
   -- the effect under one lock
-  pub performed_one : (w : ℕ) (e : E) (now : ℕ) (h : H) (a : ℕ) (values : List G) (v : G) → slice_get values a ≡ Some v
-      → performed m w e now h (One a) values ≡ Some (stepped m w e now h values a v)
-  performed_one w e now h a values v at = ap (λ o. effect_of m w e now h values (One a) (alone o)) at
+  pub effect_under_one : (w : ℕ) (e : E) (now : ℕ) (h : H) (a : ℕ) (values : List G) (v : G) → slice_get values a ≡ Some v
+      → effect_under m w e now h (One a) values ≡ Some (effect_of_step m w e now h values a v)
+  effect_under_one w e now h a values v at = ap (λ o. effect_of m w e now h values (One a) (alone o)) at
 
   -- the effect under two locks
-  pub performed_two : (w : ℕ) (e : E) (now : ℕ) (h : H) (a b : ℕ) (values : List G) (v u : G) → slice_get values a ≡ Some v → slice_get values b ≡ Some u
-      → performed m w e now h (Two a b) values ≡ Some (paired m w e now h values a b v u)
-  performed_two w e now h a b values v u at_a at_b = λ i. effect_of m w e now h values (Two a b) (with_first (at_a i) (at_b i))
+  pub effect_under_two : (w : ℕ) (e : E) (now : ℕ) (h : H) (a b : ℕ) (values : List G) (v u : G) → slice_get values a ≡ Some v → slice_get values b ≡ Some u
+      → effect_under m w e now h (Two a b) values ≡ Some (effect_of_pair m w e now h values a b v u)
+  effect_under_two w e now h a b values v u at_a at_b = λ i. effect_of m w e now h values (Two a b) (with_first (at_a i) (at_b i))
 
   -- what the code does under one lock is the effect of the event
   pub performs_one : (own own' : O) (values : List G) (e : E) (now a : ℕ) (v v' : G) (reply : R) → slice_get values a ≡ Some v
       → own' ≡ m.with_hand own (m.step (m.number own) e now (m.hand own) v).0 → v' ≡ (m.step (m.number own) e now (m.hand own) v).1
       → reply ≡ (m.step (m.number own) e now (m.hand own) v).2
-      → Performs m own values e now (One a) own' (set values a v') reply
+      → HasEffect m own values e now (One a) own' (set values a v') reply
   performs_one own own' values e now a v v' reply at is_own is_v is_reply =
-      (stepped m (m.number own) e now (m.hand own) values a v, performed_one (m.number own) e now (m.hand own) a values v at, is_own, ap (set values a) is_v, is_reply)
+      (effect_of_step m (m.number own) e now (m.hand own) values a v, effect_under_one (m.number own) e now (m.hand own) a values v at, is_own, ap (set values a) is_v, is_reply)
 
   -- what the code does under two locks is the effect of the event
   pub performs_two : (own own' : O) (values : List G) (e : E) (now a b : ℕ) (v u v' u' : G) (reply : R) → slice_get values a ≡ Some v → slice_get values b ≡ Some u
       → own' ≡ m.with_hand own (m.pair (m.number own) e now (m.hand own) v u).0 → v' ≡ (m.pair (m.number own) e now (m.hand own) v u).1
       → u' ≡ (m.pair (m.number own) e now (m.hand own) v u).2
       → reply ≡ (m.pair (m.number own) e now (m.hand own) v u).3
-      → (values' : List G) → values' ≡ set (set values a v') b u' → Performs m own values e now (Two a b) own' values' reply
+      → (values' : List G) → values' ≡ set (set values a v') b u' → HasEffect m own values e now (Two a b) own' values' reply
   performs_two own own' values e now a b v u v' u' reply at_a at_b is_own is_v is_u is_reply values' is =
-      (paired m (m.number own) e now (m.hand own) values a b v u, performed_two (m.number own) e now (m.hand own) a b values v u at_a at_b, is_own, is ∙ (λ i. set (set values a (is_v i)) b (is_u i)), is_reply)
+      (effect_of_pair m (m.number own) e now (m.hand own) values a b v u, effect_under_two (m.number own) e now (m.hand own) a b values v u at_a at_b, is_own, is ∙ (λ i. set (set values a (is_v i)) b (is_u i)), is_reply)

@@ -17,16 +17,16 @@ use Rattle.ule_micro.specs.declared.word.WordChange.{WordChange}
 use Rattle.ule_micro.specs.declared.word.WordChange.TheVariants.{Block, Point}
 use Rattle.ule_micro.specs.Means.{Means, Needs, one, both, lock_of}
 use Rattle.ule_micro.specs.Laws.{MovesLittle, KeepsPrograms}
-use Rattle.ule_micro.specs.States.{State, lock_word, word_of}
-use Rattle.ule_micro.specs.Turns.{take, first_read, leave, open_event, approach, step_of, turn_by, turn_of}
-use Rattle.ule_micro.specs.Kept.{IsKept}
+use Rattle.ule_micro.specs.States.{State, lock_holder, word_of}
+use Rattle.ule_micro.specs.Turns.{take, first_read, leave, open_event, approach, step_of, turn_by, turn_of_worker}
+use Rattle.ule_micro.specs.Kept.{IsKeptState}
 use Rattle.ule_micro.proofs.Unstuck.{commit_moves}
 
 -- a step is not the end
 moved_not_finished : (d : StepDone) (t : Turn) → t ≡ turn.Moved d → t ≡ turn.Finished → ⊥
 moved_not_finished d t e is = cc
 
-module _ {H O G E R C : Type 0} (m : Means H O G E R C) (law : MovesLittle m) (programs : KeepsPrograms m) (s : State O G E R) (k : IsKept m s) (w : ℕ) (p : Seat O E R) (at : slice_get s.seats w ≡ Some p) where
+module _ {H O G E R C : Type 0} (m : Means H O G E R C) (law : MovesLittle m) (programs : KeepsPrograms m) (s : State O G E R) (k : IsKeptState m s) (w : ℕ) (p : Seat O E R) (at : slice_get s.seats w ≡ Some p) where
   take_on : (l : ℕ) (there : Phase E R) (o : Option ℕ) → (take s w p l there o).0 ≡ turn.Finished → ⊥
   take_on l there (Some holder) e = cc
   take_on l there None e = cc
@@ -36,16 +36,16 @@ module _ {H O G E R C : Type 0} (m : Means H O G E R C) (law : MovesLittle m) (p
   read_on e t Blocked is = cc
 
   open_on : (e : E) (n : Needs) → (open_event m s w p e n).0 ≡ turn.Finished → ⊥
-  open_on e (one a) is = take_on a _ (lock_word s a) is
-  open_on e (both a b) is = take_on a _ (lock_word s a) is
+  open_on e (one a) is = take_on a _ (lock_holder s a) is
+  open_on e (both a b) is = take_on a _ (lock_holder s a) is
   open_on e (lock_of t) is = read_on e t (word_of s t) is
 
   way_on : (e : E) (way : Progress) → p.phase ≡ phase.Event e way → (approach m s w p e way).0 ≡ turn.Finished → ⊥
   way_on e progress.Open here is = open_on e (m.needs e) is
-  way_on e (progress.Named t l) here is = take_on l _ (lock_word s l) is
+  way_on e (progress.Named t l) here is = take_on l _ (lock_holder s l) is
   way_on e (progress.Taken t l) here is = cc
   way_on e (progress.Stale l) here is = cc
-  way_on e (progress.Half a b) here is = take_on b _ (lock_word s b) is
+  way_on e (progress.Half a b) here is = take_on b _ (lock_holder s b) is
   way_on e (progress.Locked held) here is = cc
   way_on e (progress.Timed held now) here is = let d = commit_moves m law programs s k w p at e held now here in moved_not_finished d.0 _ d.1 is
 
@@ -62,5 +62,5 @@ module _ {H O G E R C : Type 0} (m : Means H O G E R C) (law : MovesLittle m) (p
   phase_on (phase.Leaving reply now held) here is = absurd (leave_on reply now held p.pending is)
 
   -- a worker whose turn says that it is finished stands at the end of its program
-  pub ends_there : (turn_of m s w).0 ≡ turn.Finished → p.phase ≡ phase.Finished
+  pub ends_there : (turn_of_worker m s w).0 ≡ turn.Finished → p.phase ≡ phase.Finished
   ends_there is = phase_on p.phase refl (sym (ap (λ o. (turn_by m s w o).0) at) ∙ is)

@@ -9,7 +9,7 @@ use Rattle.ule_micro.specs.declared.seat.Progress.TheVariants as progress
 use Rattle.ule_micro.specs.declared.todo.Todo.{Todo}
 use Rattle.ule_micro.specs.declared.todo.Todo.TheVariants as todo
 use Rattle.ule_micro.specs.Courses.{standing_with}
-use Rattle.ule_micro.specs.States.{took, standing_of}
+use Rattle.ule_micro.specs.States.{took, standing_of_phase}
 use Rattle.ule_micro.specs.Turns.{phase_with}
 
 module _ {E R : Type 0} where
@@ -23,10 +23,10 @@ module _ {E R : Type 0} where
   took_nothing (Some (todo.Advance k)) f l e = ap (λ g. took g l) e
 
   -- where a worker stands that was given an item is the item
-  pub standing_given : (x : Option (Todo E)) (f : Phase E R) → f ≡ phase_with x → standing_of f ≡ standing_with x
-  standing_given None f e = ap standing_of e
-  standing_given (Some (todo.Event a)) f e = ap standing_of e
-  standing_given (Some (todo.Advance k)) f e = ap standing_of e
+  pub standing_given : (x : Option (Todo E)) (f : Phase E R) → f ≡ phase_with x → standing_of_phase f ≡ standing_with x
+  standing_given None f e = ap standing_of_phase e
+  standing_given (Some (todo.Event a)) f e = ap standing_of_phase e
+  standing_given (Some (todo.Advance k)) f e = ap standing_of_phase e
 
   -- a finished worker was given no item
   pub given_none : (x : Option (Todo E)) (f : Phase E R) → f ≡ phase_with x → f ≡ phase.Finished → x ≡ None

@@ -8,7 +8,7 @@ use Rattle.ule_micro.specs.declared.seat.Phase.TheVariants as phase
 use Rattle.ule_micro.specs.declared.seat.Seat.{Seat}
 use Rattle.ule_micro.specs.Means.{Means}
 use Rattle.ule_micro.specs.Agreement.{NamesOneHolder}
-use Rattle.ule_micro.specs.States.{State, lock_word, holds, held_by, pending_by, carried_at, course_of, hand_of, took}
+use Rattle.ule_micro.specs.States.{State, lock_holder, holds, lock_held_by, pending_by, carried_at, course_of_seat, hand_of_seat, took}
 use Rattle.ule_micro.proofs.Lists.{get_here, get_else, get_set, set_same, get_map, map_set, there, same_at, index_past}
 
 module _ {O E R : Type 0} (seats : List (Seat O E R)) (w : ℕ) (p p' : Seat O E R) (at : slice_get seats w ≡ Some p) where
@@ -29,20 +29,20 @@ module _ {O E R : Type 0} (seats : List (Seat O E R)) (w : ℕ) (p p' : Seat O E
   each_seat v q e = get_set seats w v p' q e
 
   -- the worker that changed holds what it took by now
-  pub held_here : (l : ℕ) → held_by (slice_get seats_after w) l ≡ took p'.phase l
-  held_here l = ap (λ o. held_by o l) seat_here
+  pub lock_held_here : (l : ℕ) → lock_held_by (slice_get seats_after w) l ≡ took p'.phase l
+  lock_held_here l = ap (λ o. lock_held_by o l) seat_here
 
   -- the worker held what it had taken
-  pub held_before : (l : ℕ) → held_by (slice_get seats w) l ≡ took p.phase l
-  held_before l = ap (λ o. held_by o l) at
+  pub held_before : (l : ℕ) → lock_held_by (slice_get seats w) l ≡ took p.phase l
+  held_before l = ap (λ o. lock_held_by o l) at
 
   -- every other worker holds what it held
-  pub held_else : (l v : ℕ) → v ≢ w → held_by (slice_get seats_after v) l ≡ held_by (slice_get seats v) l
-  held_else l v n = ap (λ o. held_by o l) (seat_else v n)
+  pub held_else : (l v : ℕ) → v ≢ w → lock_held_by (slice_get seats_after v) l ≡ lock_held_by (slice_get seats v) l
+  held_else l v n = ap (λ o. lock_held_by o l) (seat_else v n)
 
   -- where the worker took nothing and gave nothing back, all hold what they held
-  pub held_same : (l : ℕ) → took p'.phase l ≡ took p.phase l → (v : ℕ) → held_by (slice_get seats_after v) l ≡ held_by (slice_get seats v) l
-  held_same l e v = same_at (λ o. held_by o l) seats w p p' at e v
+  pub held_same : (l : ℕ) → took p'.phase l ≡ took p.phase l → (v : ℕ) → lock_held_by (slice_get seats_after v) l ≡ lock_held_by (slice_get seats v) l
+  held_same l e v = same_at (λ o. lock_held_by o l) seats w p p' at e v
 
   -- the worker's pending change is the one that it has now
   pub pending_here : pending_by (slice_get seats_after w) ≡ p'.pending
@@ -61,16 +61,16 @@ module _ {O E R : Type 0} (seats : List (Seat O E R)) (w : ℕ) (p p' : Seat O E
   pending_same e v = same_at pending_by seats w p p' at e v
 
   -- the courses after
-  pub courses_set : map course_of seats_after ≡ set (map course_of seats) w (course_of p')
-  courses_set = map_set course_of seats w p'
+  pub seat_courses_set : map course_of_seat seats_after ≡ set (map course_of_seat seats) w (course_of_seat p')
+  seat_courses_set = map_set course_of_seat seats w p'
 
   -- the course of the worker is among the courses
-  pub course_at : slice_get (map course_of seats) w ≡ Some (course_of p)
-  course_at = get_map course_of seats w p at
+  pub seat_course_at : slice_get (map course_of_seat seats) w ≡ Some (course_of_seat p)
+  seat_course_at = get_map course_of_seat seats w p at
 
   -- where the course of the worker stays, all courses stay
-  pub courses_same : course_of p' ≡ course_of p → map course_of seats_after ≡ map course_of seats
-  courses_same e = courses_set ∙ (ap (set (map course_of seats) w) e ∙ set_same (map course_of seats) w (course_of p) course_at)
+  pub courses_same : course_of_seat p' ≡ course_of_seat p → map course_of_seat seats_after ≡ map course_of_seat seats
+  courses_same e = seat_courses_set ∙ (ap (set (map course_of_seat seats) w) e ∙ set_same (map course_of_seat seats) w (course_of_seat p) seat_course_at)
 
 module _ {H O G E R C : Type 0} (m : Means H O G E R C) (seats : List (Seat O E R)) (w : ℕ) (p p' : Seat O E R) (at : slice_get seats w ≡ Some p) where
   -- the worker that changed has in hand what it has now
@@ -90,23 +90,23 @@ module _ {H O G E R C : Type 0} (m : Means H O G E R C) (seats : List (Seat O E 
   carried_same t e v = same_at (λ o. carried_at m o t) seats w p p' at (ap (λ h. m.carried_in h t) e) v
 
   -- the hand of the worker is among the hands
-  pub hand_at : slice_get (map (hand_of m) seats) w ≡ Some (m.hand p.own)
-  hand_at = get_map (hand_of m) seats w p at
+  pub seat_hand_at : slice_get (map (hand_of_seat m) seats) w ≡ Some (m.hand p.own)
+  seat_hand_at = get_map (hand_of_seat m) seats w p at
 
   -- the hands after are the hands with that of the worker
-  pub hands_set : map (hand_of m) (set seats w p') ≡ set (map (hand_of m) seats) w (m.hand p'.own)
-  hands_set = map_set (hand_of m) seats w p'
+  pub hands_set : map (hand_of_seat m) (set seats w p') ≡ set (map (hand_of_seat m) seats) w (m.hand p'.own)
+  hands_set = map_set (hand_of_seat m) seats w p'
 
   -- where the hand of the worker stays, all hands stay
-  pub hands_same : m.hand p'.own ≡ m.hand p.own → map (hand_of m) (set seats w p') ≡ map (hand_of m) seats
-  hands_same e = hands_set ∙ (ap (set (map (hand_of m) seats) w) e ∙ set_same (map (hand_of m) seats) w (m.hand p.own) hand_at)
+  pub hands_same : m.hand p'.own ≡ m.hand p.own → map (hand_of_seat m) (set seats w p') ≡ map (hand_of_seat m) seats
+  hands_same e = hands_set ∙ (ap (set (map (hand_of_seat m) seats) w) e ∙ set_same (map (hand_of_seat m) seats) w (m.hand p.own) seat_hand_at)
 
 -- what a lock word and its holder agree on, read of a state
-module _ {O G E R : Type 0} (s : State O G E R) (names : (l : ℕ) → NamesOneHolder (lock_word s l) (λ w. holds s w l)) where
+module _ {O G E R : Type 0} (s : State O G E R) (names : (l : ℕ) → NamesOneHolder (lock_holder s l) (λ w. holds s w l)) where
   -- a lock that is held is one of those that there are
   pub held_low : (w l : ℕ) → holds s w l ≡ true → l < length s.locks
   held_low w l h = dite (dec_lt l (length s.locks)) (λ z. z) (λ n. absurd (none-some w (sym (index_past s.locks l None (let k = n in omega arith)) ∙ (names l).named w h)))
 
   -- a finished worker's name stands in no lock word
-  pub finished_free : (w : ℕ) (p : Seat O E R) → slice_get s.seats w ≡ Some p → p.phase ≡ phase.Finished → (l : ℕ) → lock_word s l ≢ Some w
-  finished_free w p at fin l e = true≢false (sym ((names l).held w e) ∙ (ap (λ o. held_by o l) at ∙ ap (λ f. took f l) fin))
+  pub finished_free : (w : ℕ) (p : Seat O E R) → slice_get s.seats w ≡ Some p → p.phase ≡ phase.Finished → (l : ℕ) → lock_holder s l ≢ Some w
+  finished_free w p at fin l e = true≢false (sym ((names l).held w e) ∙ (ap (λ o. lock_held_by o l) at ∙ ap (λ f. took f l) fin))

@@ -7,19 +7,19 @@ use native.Mathlib.Decide.{ℕ_discrete}
 use Rattle.ule_micro.specs.declared.seat.Progress.TheVariants as progress
 use Rattle.ule_micro.specs.declared.seat.Seat.{Seat}
 use Rattle.ule_micro.specs.declared.word.Word.TheVariants.{Lock}
-use Rattle.ule_micro.specs.Means.{Means, stands_at}
+use Rattle.ule_micro.specs.Means.{Means, stands_under}
 use Rattle.ule_micro.specs.Histories.{Leads}
-use Rattle.ule_micro.specs.Courses.{Course, standing_with, all_advanced, unbegun, Play, opens}
-use Rattle.ule_micro.specs.Laws.{StartsSmall, StartsSettled, KeepsHands, KeepsPrograms, start_of}
+use Rattle.ule_micro.specs.Courses.{WorkerCourse, standing_with, all_advanced, unbegun, LegalPlay, opens}
+use Rattle.ule_micro.specs.Laws.{StartsSmall, StartsSettled, KeepsHands, KeepsPrograms, values_and_hands_at_start}
 use Rattle.ule_micro.specs.Agreement.{under}
 use Rattle.ule_micro.specs.Programs.{CanBegin}
-use Rattle.ule_micro.specs.States.{State, holds, held_by, pending, pending_by, carried_at, course_of, hand_of, courses, world}
+use Rattle.ule_micro.specs.States.{State, holds, lock_held_by, pending, pending_by, carried_at, course_of_seat, hand_of_seat, courses, values_and_hands}
 use Rattle.ule_micro.specs.Turns.{Fetched, next_command, seated, phase_with}
 use Rattle.ule_micro.specs.Theorem.{IsStart, HasWhatItNeeds, ThreadAgreesIn}
-use Rattle.ule_micro.specs.Kept.{IsKept}
+use Rattle.ule_micro.specs.Kept.{IsKeptState}
 use Rattle.ule_micro.specs.declared.entry.Entry.{Entry}
 use Rattle.ule_micro.specs.declared.word.Word.{Word}
-use Rattle.ule_micro.specs.Opening.{AreFree, AreFirstWords, AreFirstValues, AreFirstSeats, IsFirstSeat}
+use Rattle.ule_micro.specs.Opening.{AreFreeLocks, AreFirstWords, AreFirstValues, AreFirstSeats, IsFirstSeat}
 use Rattle.ule_micro.proofs.Lists.{set_same, there, something, get_map, length_map, index_get}
 use Rattle.ule_micro.proofs.Fetches.{IsFetchedWell, commands_well}
 use Rattle.ule_micro.proofs.Fresh.{took_nothing, standing_given, given_none, given_open, given_not_leaving, open_not_timed}
@@ -79,9 +79,9 @@ module _ {X : Type 0} where
 
 module _ {H O G E R C : Type 0} (m : Means H O G E R C) (hands : KeepsHands m) (programs : KeepsPrograms m) where
   -- the first command of a worker may begin, and so on up to its first item
-  module _ (cs : List (Course O E R)) (play : Play m [] m.values cs) (w : ℕ) (o : O) (at : slice_get cs w ≡ Some (unbegun o)) where
+  module _ (cs : List (WorkerCourse O E R)) (play : LegalPlay m [] m.values cs) (w : ℕ) (o : O) (at : slice_get cs w ≡ Some (unbegun o)) where
     first_fetch : CanBegin m o (m.orders w) × IsFetchedWell m hands programs [] m.values cs w 0 0 o (there cs w (unbegun o) at) (next_command m o 0 (m.orders w))
-    first_fetch = commands_well m hands programs [] m.values cs w 0 0 o (there cs w (unbegun o) at) (m.orders w) o 0 refl (omega arith) (subst (Play m [] m.values) (sym (set_same cs w (unbegun o) at)) play) refl refl
+    first_fetch = commands_well m hands programs [] m.values cs w 0 0 o (there cs w (unbegun o) at) (m.orders w) o 0 refl (omega arith) (subst (LegalPlay m [] m.values) (sym (set_same cs w (unbegun o) at)) play) refl refl
 
   -- at the start the commands of a worker may begin, up to its first item
   pub start_can : (w : ℕ) (o : O) → slice_get m.owns w ≡ Some o → CanBegin m o (m.orders w)
@@ -89,7 +89,7 @@ module _ {H O G E R C : Type 0} (m : Means H O G E R C) (hands : KeepsHands m) (
 
 module _ {H O G E R C : Type 0} (m : Means H O G E R C) (small : StartsSmall m) (settled : StartsSettled m) (hands : KeepsHands m) (programs : KeepsPrograms m) (s : State O G E R) (st : IsStart m s) (locks : length s.locks ≡ 25) (words : length s.words ≡ 256) where
   many : length (courses s) ≡ length (map (unbegun {O = O} {E = E} {R = R}) m.owns)
-  many = length_map course_of s.seats ∙ (st.workers ∙ sym (length_map unbegun m.owns))
+  many = length_map course_of_seat s.seats ∙ (st.workers ∙ sym (length_map unbegun m.owns))
 
   abbrev first_item : ℕ → O → Fetched O E
   first_item w o = next_command m o 0 (m.orders w)
@@ -99,19 +99,19 @@ module _ {H O G E R C : Type 0} (m : Means H O G E R C) (small : StartsSmall m) 
   each_start w p at = let h = there s.seats w p at in let o = something m.owns w (let a = st.workers in omega arith) in (o.0, o.1, same_Some p _ (sym at ∙ st.seats w o.0 o.1))
 
   -- the first n workers came to their first items
-  play_mixed : (n : ℕ) → n ≤ length m.owns → Play m [] m.values (mixed n (courses s) (map unbegun m.owns))
+  play_mixed : (n : ℕ) → n ≤ length m.owns → LegalPlay m [] m.values (mixed n (courses s) (map unbegun m.owns))
   play_mixed zero h = opens
   play_mixed (suc n) h = let o = something m.owns n (omega arith) in
       let before = play_mixed n (omega arith) in
       let at = mixed_rest n (courses s) (map unbegun m.owns) many ∙ get_map unbegun m.owns n o.0 o.1 in
       let well = (first_fetch m hands programs (mixed n (courses s) (map unbegun m.owns)) before n o.0 at).1 in
       let f = first_item n o.0 in
-      let here = get_map course_of s.seats n _ (st.seats n o.0 o.1) in
-      let same : course_of (seated m f 0 0) ≡ record { own = f.own; begun = f.begun; items = 0; advanced = 0; standing = standing_with f.item } = λ i. record { own = f.own; begun = f.begun; items = 0; advanced = 0; standing = standing_given f.item (phase_with f.item) refl i } in
-      subst (Play m [] m.values) (mixed_next n (courses s) (map unbegun m.owns) _ many (here ∙ ap Some same)) well.play
+      let here = get_map course_of_seat s.seats n _ (st.seats n o.0 o.1) in
+      let same : course_of_seat (seated m f 0 0) ≡ record { own = f.own; begun = f.begun; items = 0; advanced = 0; standing = standing_with f.item } = λ i. record { own = f.own; begun = f.begun; items = 0; advanced = 0; standing = standing_given f.item (phase_with f.item) refl i } in
+      subst (LegalPlay m [] m.values) (mixed_next n (courses s) (map unbegun m.owns) _ many (here ∙ ap Some same)) well.play
 
-  start_play : Play m [] m.values (courses s)
-  start_play = subst (Play m [] m.values) (mixed_all (courses s) (map unbegun m.owns) many) (play_mixed (length (courses s)) (let a = length_map course_of s.seats in let b = st.workers in omega arith))
+  start_play : LegalPlay m [] m.values (courses s)
+  start_play = subst (LegalPlay m [] m.values) (mixed_all (courses s) (map unbegun m.owns) many) (play_mixed (length (courses s)) (let a = length_map course_of_seat s.seats in let b = st.workers in omega arith))
 
   fetched : (w : ℕ) (o : O) (at : slice_get m.owns w ≡ Some o)
       → IsFetchedWell m hands programs [] m.values (map unbegun m.owns) w 0 0 o (there (map unbegun m.owns) w (unbegun o) (get_map unbegun m.owns w o at)) (first_item w o)
@@ -120,10 +120,10 @@ module _ {H O G E R C : Type 0} (m : Means H O G E R C) (small : StartsSmall m) 
   hand_start : (w : ℕ) (p : Seat O E R) → slice_get s.seats w ≡ Some p → (o : O) × (slice_get m.owns w ≡ Some o) × (m.hand p.own ≡ m.hand o)
   hand_start w p at = let z = each_start w p at in (z.0, z.1, ap (λ (y : Seat O E R). m.hand y.own) z.2 ∙ (fetched w z.0 z.1).hand)
 
-  hands_start : map (hand_of m) s.seats ≡ map m.hand m.owns
-  hands_start = same_list (map (hand_of m) s.seats) (map m.hand m.owns) (length_map (hand_of m) s.seats ∙ (st.workers ∙ sym (length_map m.hand m.owns)))
-      (λ i h. let p = something s.seats i (let a = length_map (hand_of m) s.seats in omega arith) in let z = hand_start i p.0 p.1 in
-      get_map (hand_of m) s.seats i p.0 p.1 ∙ (ap Some z.2 ∙ sym (get_map m.hand m.owns i z.0 z.1)))
+  hands_start : map (hand_of_seat m) s.seats ≡ map m.hand m.owns
+  hands_start = same_list (map (hand_of_seat m) s.seats) (map m.hand m.owns) (length_map (hand_of_seat m) s.seats ∙ (st.workers ∙ sym (length_map m.hand m.owns)))
+      (λ i h. let p = something s.seats i (let a = length_map (hand_of_seat m) s.seats in omega arith) in let z = hand_start i p.0 p.1 in
+      get_map (hand_of_seat m) s.seats i p.0 p.1 ∙ (ap Some z.2 ∙ sym (get_map m.hand m.owns i z.0 z.1)))
 
   no_change : (w : ℕ) → pending s w ≡ None
   no_change w = by (slice_get s.seats w) refl where
@@ -134,8 +134,8 @@ module _ {H O G E R C : Type 0} (m : Means H O G E R C) (small : StartsSmall m) 
   no_lock : (w l : ℕ) → holds s w l ≡ false
   no_lock w l = by (slice_get s.seats w) refl where
     by : (o : Option (Seat O E R)) → slice_get s.seats w ≡ o → holds s w l ≡ false
-    by None e = ap (λ i. held_by i l) e
-    by (Some p) e = let z = each_start w p e in ap (λ i. held_by i l) e ∙ took_nothing (first_item w z.0).item p.phase l (ap (λ (y : Seat O E R). y.phase) z.2)
+    by None e = ap (λ i. lock_held_by i l) e
+    by (Some p) e = let z = each_start w p e in ap (λ i. lock_held_by i l) e ∙ took_nothing (first_item w z.0).item p.phase l (ap (λ (y : Seat O E R). y.phase) z.2)
 
   no_thread : (t w : ℕ) → m.declared t ≡ true → carried_at m (slice_get s.seats w) t ≡ false
   no_thread t w dec = by (slice_get s.seats w) refl where
@@ -143,8 +143,8 @@ module _ {H O G E R C : Type 0} (m : Means H O G E R C) (small : StartsSmall m) 
     by None e = ap (λ i. carried_at m i t) e
     by (Some p) e = let z = hand_start w p e in ap (λ i. carried_at m i t) e ∙ (ap (λ h. m.carried_in h t) z.2 ∙ settled.empty t w z.0 dec z.1)
 
-  stands_start : (l t : ℕ) → stands_at m s.values l t ≡ stands_at m m.values l t
-  stands_start l t = ap (λ vs. stands_at m vs l t) st.values
+  stands_start : (l t : ℕ) → stands_under m s.values l t ≡ stands_under m m.values l t
+  stands_start l t = ap (λ vs. stands_under m vs l t) st.values
 
   thread_start : (t : ℕ) → m.declared t ≡ true → ThreadAgreesIn m s t
   thread_start t dec = record {
@@ -156,12 +156,12 @@ module _ {H O G E R C : Type 0} (m : Means H O G E R C) (small : StartsSmall m) 
     change_agrees = λ w c e _. absurd (none-some c (sym (no_change w) ∙ e));
   }
 
-  none_advanced : (seats : List (Seat O E R)) → ((w : ℕ) (p : Seat O E R) → slice_get seats w ≡ Some p → p.advanced ≡ 0) → all_advanced (map course_of seats) ≡ 0
+  none_advanced : (seats : List (Seat O E R)) → ((w : ℕ) (p : Seat O E R) → slice_get seats w ≡ Some p → p.advanced ≡ 0) → all_advanced (map course_of_seat seats) ≡ 0
   none_advanced [] each = refl
   none_advanced (p ∷ ps) each = let a = each 0 p refl in let b = none_advanced ps (λ w q e. each (suc w) q e) in omega arith
 
   -- the state at the start is kept
-  pub start_kept : IsKept m s
+  pub start_kept : IsKeptState m s
   start_kept = record {
     locks = locks;
     words = words;
@@ -185,9 +185,9 @@ module _ {H O G E R C : Type 0} (m : Means H O G E R C) (small : StartsSmall m) 
         empty = λ t dec. let z = hand_start w p e in ap (λ h. m.carried_in h t) z.2 ∙ settled.empty t w z.0 dec z.1;
       };
       ticket = st.ticket ∙ sym (ap length st.history);
-      history = subst (λ h. Leads m (start_of m) h (world m s)) (sym st.history) (λ i. record { values = st.values i; hands = hands_start i });
+      history = subst (λ h. Leads m (values_and_hands_at_start m) h (values_and_hands m s)) (sym st.history) (λ i. record { values = st.values i; hands = hands_start i });
     };
-    play = subst (λ h. Play m h s.values (courses s)) (sym st.history) (subst (λ vs. Play m [] vs (courses s)) (sym st.values) start_play);
+    play = subst (λ h. LegalPlay m h s.values (courses s)) (sym st.history) (subst (λ vs. LegalPlay m [] vs (courses s)) (sym st.values) start_play);
   }
 
 -- a push that was no error added what was pushed
@@ -208,7 +208,7 @@ module _ {H O G E R C : Type 0} (m : Means H O G E R C) where
   )
 
   module _ (n : ℕ) (locks : List (Option ℕ)) (words : List Word) (values : List G) (seats : List (Seat O E R)) (history : List (Entry E R)) (small : StartsSmall m) (many : n ≡ length m.owns)
-      (free : AreFree 25 locks) (first_words : AreFirstWords m 256 words) (first_values : AreFirstValues m 25 values) (first_seats : AreFirstSeats m n seats) (none : history ≡ []) where
+      (free : AreFreeLocks 25 locks) (first_words : AreFirstWords m 256 words) (first_values : AreFirstValues m 25 values) (first_seats : AreFirstSeats m n seats) (none : history ≡ []) where
     -- opening state: the state of these parts
     abbrev pub opening_state : State O G E R
     opening_state = record { locks = locks; words = words; ticket = 0; now = 20000; values = values; seats = seats; history = history }
@@ -228,5 +228,5 @@ module _ {H O G E R C : Type 0} (m : Means H O G E R C) where
     }
 
     -- the state of these parts is kept
-    pub opening_kept : StartsSettled m → KeepsHands m → KeepsPrograms m → IsKept m opening_state
+    pub opening_kept : StartsSettled m → KeepsHands m → KeepsPrograms m → IsKeptState m opening_state
     opening_kept settled hands programs = start_kept m small settled hands programs opening_state opening_start free.0 first_words.0

@@ -8,7 +8,7 @@ use Rattle.ule_micro.specs.declared.word.Word.{Word}
 use Rattle.ule_micro.specs.declared.word.Word.TheVariants.{Lock, Blocked}
 use Rattle.ule_micro.specs.declared.word.WordChange.{WordChange}
 use Rattle.ule_micro.specs.declared.word.WordChange.TheVariants.{Block, Point}
-use Rattle.ule_micro.specs.Means.{thread_of}
+use Rattle.ule_micro.specs.Means.{thread_of_change}
 use Rattle.ule_micro.specs.Agreement.{Place, under, in_hand, IsSettled, NamesHeld, AgreesInHand, AgreesUnder, WordAgrees, ChangeAgrees, IsThere, ThreadAgrees}
 
 -- place number: the lock or the worker of a place
@@ -52,9 +52,9 @@ lock_not_blocked l e = let h : suc l ≡ 0 = ap word_number e in omega arith
 -- what a step may change of a thread whose place stays, and whose pending changes stay
 module _ (holds holds' : ℕ → ℕ → Bool) (pending pending' : ℕ → Option WordChange) (stands stands' carries carries' : ℕ → Bool) (t : ℕ) (word word' : Word)
     (same : word' ≡ word) (st : (l : ℕ) → stands' l ≡ stands l) (ca : (w : ℕ) → carries' w ≡ carries w)
-    (back : (w : ℕ) (c : WordChange) → pending' w ≡ Some c → thread_of c ≡ t → pending w ≡ Some c)
-    (on : (w : ℕ) (c : WordChange) → pending w ≡ Some c → thread_of c ≡ t → pending' w ≡ Some c)
-    (still : (w l : ℕ) (c : WordChange) → pending w ≡ Some c → thread_of c ≡ t → holds w l ≡ true → holds' w l ≡ true) where
+    (back : (w : ℕ) (c : WordChange) → pending' w ≡ Some c → thread_of_change c ≡ t → pending w ≡ Some c)
+    (on : (w : ℕ) (c : WordChange) → pending w ≡ Some c → thread_of_change c ≡ t → pending' w ≡ Some c)
+    (still : (w l : ℕ) (c : WordChange) → pending w ≡ Some c → thread_of_change c ≡ t → holds w l ≡ true → holds' w l ≡ true) where
   there_kept : (p : Place) → IsThere stands carries p → IsThere stands' carries' p
   there_kept (under l) h = st l ∙ h
   there_kept (in_hand w) h = ca w ∙ h
@@ -62,7 +62,7 @@ module _ (holds holds' : ℕ → ℕ → Bool) (pending pending' : ℕ → Optio
   settled_kept : IsSettled holds pending t word → IsSettled holds' pending' t word'
   settled_kept calm w c e a = calm w c (back w c e a) a
 
-  names_kept : (w : ℕ) (c : WordChange) → pending w ≡ Some c → thread_of c ≡ t → NamesHeld holds pending t word w → NamesHeld holds' pending' t word' w
+  names_kept : (w : ℕ) (c : WordChange) → pending w ≡ Some c → thread_of_change c ≡ t → NamesHeld holds pending t word w → NamesHeld holds' pending' t word' w
   names_kept w c e a (l, is, has) = (l, same ∙ is, still w l c e a has)
 
   word_kept : (p : Place) → WordAgrees holds pending t word p → WordAgrees holds' pending' t word' p
@@ -72,7 +72,7 @@ module _ (holds holds' : ℕ → ℕ → Bool) (pending pending' : ℕ → Optio
   word_kept (in_hand w) (inl (is, calm)) = inl (same ∙ is, settled_kept calm)
   word_kept (in_hand w) (inr (is, n)) = inr (on w (Block t) is refl, names_kept w (Block t) is refl n)
 
-  change_kept : (p : Place) (w : ℕ) (c : WordChange) → pending w ≡ Some c → thread_of c ≡ t → ChangeAgrees holds w p c → ChangeAgrees holds' w p c
+  change_kept : (p : Place) (w : ℕ) (c : WordChange) → pending w ≡ Some c → thread_of_change c ≡ t → ChangeAgrees holds w p c → ChangeAgrees holds' w p c
   change_kept p w (Block u) e a h = h
   change_kept p w (Point u l) e a h = (h.0, still w l (Point u l) e a h.1)
 
@@ -128,7 +128,7 @@ module _ (holds holds' : ℕ → ℕ → Bool) (pending pending' : ℕ → Optio
     (r : ThreadAgrees holds pending stands carries t word) (same : word' ≡ word) (calm : IsSettled holds pending t word)
     (others : (w : ℕ) → w ≢ n → pending' w ≡ pending w) (carried : (w : ℕ) → w ≢ n → carries' w ≡ carries w) where
   -- only the worker's own change is pending
-  own_change : (c : WordChange) (w : ℕ) (d : WordChange) → pending' n ≡ Some c → pending' w ≡ Some d → thread_of d ≡ t → (w ≡ n) × (d ≡ c)
+  own_change : (c : WordChange) (w : ℕ) (d : WordChange) → pending' n ≡ Some c → pending' w ≡ Some d → thread_of_change d ≡ t → (w ≡ n) × (d ≡ c)
   own_change c w d is e a = dite (ℕ_discrete w n) (λ z. (z, same_Some d c (sym e ∙ (ap pending' z ∙ is)))) (λ far. absurd (calm w d (sym (others w far) ∙ e) a))
 
   -- a thread that left a lock for the worker's hand
@@ -172,10 +172,10 @@ module _ (holds : ℕ → ℕ → Bool) (pending pending' : ℕ → Option WordC
     two_changes p (Point t l) (Block u) w x y = absurd (under_no_hand l w (sym x.0 ∙ y))
     two_changes p (Point t l) (Point u k) w x y = let same : k ≡ l = under_injective k l (sym y.0 ∙ x.0) in alone l w n (subst (λ z. holds w z ≡ true) same y.1) x.1
 
-    settled_now : (c : WordChange) → pending n ≡ Some c → thread_of c ≡ t → (word' : Word) → IsSettled holds pending' t word'
+    settled_now : (c : WordChange) → pending n ≡ Some c → thread_of_change c ≡ t → (word' : Word) → IsSettled holds pending' t word'
     settled_now c is about word' w d e a = let z = still_pending w d e in z.0 (two_changes r.place c d w (r.change_agrees n c is about) (r.change_agrees w d z.1 a))
 
-    change_still : (w : ℕ) (c : WordChange) → pending' w ≡ Some c → thread_of c ≡ t → ChangeAgrees holds w r.place c
+    change_still : (w : ℕ) (c : WordChange) → pending' w ≡ Some c → thread_of_change c ≡ t → ChangeAgrees holds w r.place c
     change_still w c e a = r.change_agrees w c (still_pending w c e).1 a
 
     -- the word is blocked now

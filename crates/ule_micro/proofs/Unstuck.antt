@@ -19,16 +19,16 @@ use Rattle.ule_micro.specs.declared.word.Word.{Word}
 use Rattle.ule_micro.specs.declared.word.Word.TheVariants.{Lock, Blocked}
 use Rattle.ule_micro.specs.declared.word.WordChange.{WordChange}
 use Rattle.ule_micro.specs.declared.word.WordChange.TheVariants.{Block, Point}
-use Rattle.ule_micro.specs.Means.{Means, Needs, one, both, lock_of, stands_at}
-use Rattle.ule_micro.specs.Histories.{performed, values_under}
+use Rattle.ule_micro.specs.Means.{Means, Needs, one, both, lock_of, stands_under}
+use Rattle.ule_micro.specs.Histories.{effect_under, values_under}
 use Rattle.ule_micro.specs.Laws.{MovesLittle, KeepsPrograms, AreRising}
 use Rattle.ule_micro.specs.Agreement.{Place, IsThere, WordAgrees, under, in_hand}
-use Rattle.ule_micro.specs.States.{State, lock_word, word_of, holds, held_by, pending, pending_by, carried_at, course_of, courses, took, standing_of}
+use Rattle.ule_micro.specs.States.{State, lock_holder, word_of, holds, lock_held_by, pending, pending_by, carried_at, course_of_seat, courses, took, standing_of_phase}
 use Rattle.ule_micro.specs.Turns.{take, commit, leave, open_event, approach, step_of, turn_by, first_read}
-use Rattle.ule_micro.specs.Theorem.{Moves, IsNotStuck}
-use Rattle.ule_micro.specs.Kept.{IsKept}
+use Rattle.ule_micro.specs.Theorem.{StepsNext, IsNotStuck}
+use Rattle.ule_micro.specs.Kept.{IsKeptState}
 use Rattle.ule_micro.proofs.Lists.{there}
-use Rattle.ule_micro.proofs.Seats.{course_at, held_low}
+use Rattle.ule_micro.proofs.Seats.{seat_course_at, held_low}
 use Rattle.ule_micro.proofs.Threads.{lock_not_blocked}
 use Rattle.ule_micro.proofs.Moves.{among_one}
 use Rattle.ule_micro.proofs.Commits.{guarded_there, effect_there}
@@ -43,9 +43,9 @@ module _ {A : Type 0} where
 abbrev pub IsMoved : Turn → Type 0
 IsMoved t = (d : StepDone) × (t ≡ turn.Moved d)
 
-module _ {H O G E R C : Type 0} (m : Means H O G E R C) (law : MovesLittle m) (programs : KeepsPrograms m) (s : State O G E R) (k : IsKept m s) where
+module _ {H O G E R C : Type 0} (m : Means H O G E R C) (law : MovesLittle m) (programs : KeepsPrograms m) (s : State O G E R) (k : IsKeptState m s) where
   -- a worker whose step of this phase is a step moves
-  moves_by : (w : ℕ) (p : Seat O E R) → slice_get s.seats w ≡ Some p → IsMoved (step_of m s w p p.phase).0 → Moves m s w
+  moves_by : (w : ℕ) (p : Seat O E R) → slice_get s.seats w ≡ Some p → IsMoved (step_of m s w p p.phase).0 → StepsNext m s w
   moves_by w p at (d, is) = (d, ap (λ o. (turn_by m s w o).0) at ∙ is)
 
   -- a free lock is taken
@@ -54,7 +54,7 @@ module _ {H O G E R C : Type 0} (m : Means H O G E R C) (law : MovesLittle m) (p
 
   module _ (w : ℕ) (p : Seat O E R) (at : slice_get s.seats w ≡ Some p) where
     -- a worker with a change pending moves
-    pub pending_moves : (c : WordChange) → p.pending ≡ Some c → Moves m s w
+    pub pending_moves : (c : WordChange) → p.pending ≡ Some c → StepsNext m s w
     pending_moves c is = let z = k.agreement.changes w p at c is in
         moves_by w p at (subst (λ f. IsMoved (step_of m s w p f).0) (sym z.2) (subst (λ o. IsMoved (leave m s w p z.0.reply z.0.now z.0.locks o).0) (sym is) (stores c))) where
           stores : (d : WordChange) → IsMoved (leave m s w p (k.agreement.changes w p at c is).0.reply (k.agreement.changes w p at c is).0.now (k.agreement.changes w p at c is).0.locks (Some d)).0
@@ -70,15 +70,15 @@ module _ {H O G E R C : Type 0} (m : Means H O G E R C) (law : MovesLittle m) (p
 
     -- a worker whose event is next commits
     pub commit_moves : (e : E) (held : HeldLocks) (now : ℕ) → p.phase ≡ phase.Event e (progress.Timed held now)
-        → IsMoved (commit m s w p e held now (performed m w e now (m.hand p.own) held s.values)).0
+        → IsMoved (commit m s w p e held now (effect_under m w e now (m.hand p.own) held s.values)).0
     commit_moves e held now here = let g = guarded_at in let a = effect_there m w e now (m.hand p.own) held s.values g.0 g.1 in (done.Commit (s.ticket + 1), ap (λ o. (commit m s w p e held now o).0) a.1) where
       guarded_at : (guarded : List G) × (values_under held s.values ≡ Some guarded)
       guarded_at = guarded_there m s.values held (m.needs e) k.values (law.rising e) (k.agreement.ways w p e (progress.Timed held now) at here)
 
     -- where no lock above l is held, a worker that holds l moves
-    module _ (l : ℕ) (above : (b v : ℕ) → l < b → lock_word s b ≡ Some v → ⊥) where
-      free_above : (b : ℕ) → l < b → lock_word s b ≡ None
-      free_above b h = ⊎_elim (λ e. e) (λ (z : (v : ℕ) × (lock_word s b ≡ Some v)). absurd (above b z.0 h z.1)) (there_or_not (lock_word s b))
+    module _ (l : ℕ) (above : (b v : ℕ) → l < b → lock_holder s b ≡ Some v → ⊥) where
+      free_above : (b : ℕ) → l < b → lock_holder s b ≡ None
+      free_above b h = ⊎_elim (λ e. e) (λ (z : (v : ℕ) × (lock_holder s b ≡ Some v)). absurd (above b z.0 h z.1)) (there_or_not (lock_holder s b))
 
       way_moves : (e : E) (way : Progress) → p.phase ≡ phase.Event e way → took {E = E} {R = R} (phase.Event e way) l ≡ true → IsMoved (approach m s w p e way).0
       way_moves e progress.Open here took_it = absurd (true≢false (sym took_it))
@@ -86,7 +86,7 @@ module _ {H O G E R C : Type 0} (m : Means H O G E R C) (law : MovesLittle m) (p
       way_moves e (progress.Taken t a) here took_it = (done.Read t (word_of s t), refl)
       way_moves e (progress.Stale a) here took_it = (done.Release a, refl)
       way_moves e (progress.Half a b) here took_it = let needs = k.agreement.ways w p e (progress.Half a b) at here in let low = subst (AreRising m) needs (law.rising e) in
-          let same = among_one a l took_it in take_moves w p b (phase.Event e (progress.Locked (Two a b))) (lock_word s b) (free_above b (let x = low.0 in omega arith))
+          let same = among_one a l took_it in take_moves w p b (phase.Event e (progress.Locked (Two a b))) (lock_holder s b) (free_above b (let x = low.0 in omega arith))
       way_moves e (progress.Locked held) here took_it = (done.Now s.now, refl)
       way_moves e (progress.Timed held now) here took_it = commit_moves e held now here
 
@@ -97,11 +97,11 @@ module _ {H O G E R C : Type 0} (m : Means H O G E R C) (law : MovesLittle m) (p
       phase_moves (phase.Leaving reply now held) here took_it = leave_moves reply now held p.pending
 
       -- the worker that holds this lock moves
-      pub holder_moves : took p.phase l ≡ true → Moves m s w
+      pub holder_moves : took p.phase l ≡ true → StepsNext m s w
       holder_moves took_it = moves_by w p at (phase_moves p.phase refl took_it)
 
     -- where no lock is held, a worker moves that is not finished, and does not find the word of a thread that it seeks blocked
-    module _ (free : (b : ℕ) → lock_word s b ≡ None) where
+    module _ (free : (b : ℕ) → lock_holder s b ≡ None) where
       -- finds a lock: a first read finds no blocked word
       abbrev FindsLock : Phase E R → Type 0
       FindsLock f = (e : E) (t : ℕ) → f ≡ phase.Event e progress.Open → m.needs e ≡ lock_of t → word_of s t ≢ Blocked
@@ -111,16 +111,16 @@ module _ {H O G E R C : Type 0} (m : Means H O G E R C) (law : MovesLittle m) (p
       read_moves e t Blocked n = absurd (n refl)
 
       open_moves : (e : E) (n : Needs) → ((t : ℕ) → n ≡ lock_of t → word_of s t ≢ Blocked) → IsMoved (open_event m s w p e n).0
-      open_moves e (one a) finds = take_moves w p a (phase.Event e (progress.Locked (One a))) (lock_word s a) (free a)
-      open_moves e (both a b) finds = take_moves w p a (phase.Event e (progress.Half a b)) (lock_word s a) (free a)
+      open_moves e (one a) finds = take_moves w p a (phase.Event e (progress.Locked (One a))) (lock_holder s a) (free a)
+      open_moves e (both a b) finds = take_moves w p a (phase.Event e (progress.Half a b)) (lock_holder s a) (free a)
       open_moves e (lock_of t) finds = read_moves e t (word_of s t) (finds t refl)
 
       free_way : (e : E) (way : Progress) → p.phase ≡ phase.Event e way → FindsLock (phase.Event e way) → IsMoved (approach m s w p e way).0
       free_way e progress.Open here finds = open_moves e (m.needs e) (λ t is. finds e t refl is)
-      free_way e (progress.Named t l) here finds = take_moves w p l (phase.Event e (progress.Taken t l)) (lock_word s l) (free l)
+      free_way e (progress.Named t l) here finds = take_moves w p l (phase.Event e (progress.Taken t l)) (lock_holder s l) (free l)
       free_way e (progress.Taken t a) here finds = (done.Read t (word_of s t), refl)
       free_way e (progress.Stale a) here finds = (done.Release a, refl)
-      free_way e (progress.Half a b) here finds = take_moves w p b (phase.Event e (progress.Locked (Two a b))) (lock_word s b) (free b)
+      free_way e (progress.Half a b) here finds = take_moves w p b (phase.Event e (progress.Locked (Two a b))) (lock_holder s b) (free b)
       free_way e (progress.Locked held) here finds = (done.Now s.now, refl)
       free_way e (progress.Timed held now) here finds = commit_moves e held now here
 
@@ -131,29 +131,29 @@ module _ {H O G E R C : Type 0} (m : Means H O G E R C) (law : MovesLittle m) (p
       free_phase (phase.Leaving reply now held) here unfinished finds = leave_moves reply now held p.pending
 
       -- an unfinished worker that finds a lock moves
-      pub free_moves : p.phase ≢ phase.Finished → FindsLock p.phase → Moves m s w
+      pub free_moves : p.phase ≢ phase.Finished → FindsLock p.phase → StepsNext m s w
       free_moves unfinished finds = moves_by w p at (free_phase p.phase refl unfinished finds)
 
   -- some held lock below n has no held lock above it below n, or none below n is held
-  highest : (n : ℕ) → ((b v : ℕ) → n ≤ b → lock_word s b ≡ Some v → ⊥)
-      → ((l : ℕ) × (w : ℕ) × (lock_word s l ≡ Some w) × ((b v : ℕ) → l < b → lock_word s b ≡ Some v → ⊥)) ⊎ ((b : ℕ) → lock_word s b ≡ None)
-  highest zero above = inr (λ b. ⊎_elim (λ e. e) (λ (z : (v : ℕ) × (lock_word s b ≡ Some v)). absurd (above b z.0 (omega arith) z.1)) (there_or_not (lock_word s b)))
-  highest (suc n) above = by (there_or_not (lock_word s n)) (λ none. highest n (λ b v h is. dite (ℕ_discrete b n) (λ z. none-some v (sym none ∙ (ap (lock_word s) (sym z) ∙ is))) (λ far. above b v (omega arith) is))) where
-    by : ((lock_word s n ≡ None) ⊎ ((v : ℕ) × (lock_word s n ≡ Some v)))
-        → (lock_word s n ≡ None → ((l : ℕ) × (w : ℕ) × (lock_word s l ≡ Some w) × ((b v : ℕ) → l < b → lock_word s b ≡ Some v → ⊥)) ⊎ ((b : ℕ) → lock_word s b ≡ None))
-        → ((l : ℕ) × (w : ℕ) × (lock_word s l ≡ Some w) × ((b v : ℕ) → l < b → lock_word s b ≡ Some v → ⊥)) ⊎ ((b : ℕ) → lock_word s b ≡ None)
+  highest : (n : ℕ) → ((b v : ℕ) → n ≤ b → lock_holder s b ≡ Some v → ⊥)
+      → ((l : ℕ) × (w : ℕ) × (lock_holder s l ≡ Some w) × ((b v : ℕ) → l < b → lock_holder s b ≡ Some v → ⊥)) ⊎ ((b : ℕ) → lock_holder s b ≡ None)
+  highest zero above = inr (λ b. ⊎_elim (λ e. e) (λ (z : (v : ℕ) × (lock_holder s b ≡ Some v)). absurd (above b z.0 (omega arith) z.1)) (there_or_not (lock_holder s b)))
+  highest (suc n) above = by (there_or_not (lock_holder s n)) (λ none. highest n (λ b v h is. dite (ℕ_discrete b n) (λ z. none-some v (sym none ∙ (ap (lock_holder s) (sym z) ∙ is))) (λ far. above b v (omega arith) is))) where
+    by : ((lock_holder s n ≡ None) ⊎ ((v : ℕ) × (lock_holder s n ≡ Some v)))
+        → (lock_holder s n ≡ None → ((l : ℕ) × (w : ℕ) × (lock_holder s l ≡ Some w) × ((b v : ℕ) → l < b → lock_holder s b ≡ Some v → ⊥)) ⊎ ((b : ℕ) → lock_holder s b ≡ None))
+        → ((l : ℕ) × (w : ℕ) × (lock_holder s l ≡ Some w) × ((b v : ℕ) → l < b → lock_holder s b ≡ Some v → ⊥)) ⊎ ((b : ℕ) → lock_holder s b ≡ None)
     by (inl none) deeper = deeper none
     by (inr (v, is)) deeper = inl (n, v, is, λ b u h. above b u (omega arith))
 
-  none_above : (b v : ℕ) → 25 ≤ b → lock_word s b ≡ Some v → ⊥
+  none_above : (b v : ℕ) → 25 ≤ b → lock_holder s b ≡ Some v → ⊥
   none_above b v h is = let z = held_low s k.agreement.locks v b ((k.agreement.locks b).held v is) in let c = k.locks in omega arith
 
   -- a worker that holds a lock is there
   holder_there : (w l : ℕ) → holds s w l ≡ true → (p : Seat O E R) × (slice_get s.seats w ≡ Some p) × (took p.phase l ≡ true)
   holder_there w l took_it = by (slice_get s.seats w) refl where
     by : (o : Option (Seat O E R)) → slice_get s.seats w ≡ o → (p : Seat O E R) × (slice_get s.seats w ≡ Some p) × (took p.phase l ≡ true)
-    by None e = absurd (true≢false (sym took_it ∙ ap (λ o. held_by o l) e))
-    by (Some p) e = (p, e, sym (ap (λ o. held_by o l) e) ∙ took_it)
+    by None e = absurd (true≢false (sym took_it ∙ ap (λ o. lock_held_by o l) e))
+    by (Some p) e = (p, e, sym (ap (λ o. lock_held_by o l) e) ∙ took_it)
 
   -- a worker that has a change pending, or a thread in hand, is there
   pending_there : (w : ℕ) (c : WordChange) → pending s w ≡ Some c → (p : Seat O E R) × (slice_get s.seats w ≡ Some p) × (p.pending ≡ Some c)
@@ -170,39 +170,39 @@ module _ {H O G E R C : Type 0} (m : Means H O G E R C) (law : MovesLittle m) (p
 
   -- is moving: some worker moves
   abbrev pub SomeMoves : Type 0
-  SomeMoves = (v : ℕ) × (v < length s.seats) × Moves m s v
+  SomeMoves = (v : ℕ) × (v < length s.seats) × StepsNext m s v
 
   some_pending : (w : ℕ) (c : WordChange) → pending s w ≡ Some c → SomeMoves
   some_pending w c is = let z = pending_there w c is in (w, there s.seats w z.0 z.1, pending_moves w z.0 z.1 c z.2)
 
   -- a worker with a thread in hand moves where no lock is held
-  carrier_moves : (free : (b : ℕ) → lock_word s b ≡ None) (w t : ℕ) → m.declared t ≡ true → carried_at m (slice_get s.seats w) t ≡ true → SomeMoves
+  carrier_moves : (free : (b : ℕ) → lock_holder s b ≡ None) (w t : ℕ) → m.declared t ≡ true → carried_at m (slice_get s.seats w) t ≡ true → SomeMoves
   carrier_moves free w t dec ca = let z = carrier_there w t ca in (
     w,
     there s.seats w z.0 z.1,
     free_moves w z.0 z.1 free
         (λ fin. true≢false (sym z.2 ∙ (k.agreement.finished w z.0 z.1 fin).empty t dec))
-        (λ e u here needs _. true≢false (sym z.2 ∙ (programs.seeks s.history s.values (courses s) w (course_of z.0) e u k.play (course_at s.seats w z.0 z.0 z.1) (ap standing_of here) needs).1 t dec)),
+        (λ e u here needs _. true≢false (sym z.2 ∙ (programs.seeks s.history s.values (courses s) w (course_of_seat z.0) e u k.play (seat_course_at s.seats w z.0 z.0 z.1) (ap standing_of_phase here) needs).1 t dec)),
   )
 
   -- behind a blocked word stands a worker that moves, where no lock is held
-  blocked_moves : (free : (b : ℕ) → lock_word s b ≡ None) (t : ℕ) → m.declared t ≡ true → word_of s t ≡ Blocked → SomeMoves
+  blocked_moves : (free : (b : ℕ) → lock_holder s b ≡ None) (t : ℕ) → m.declared t ≡ true → word_of s t ≡ Blocked → SomeMoves
   blocked_moves free t dec is = by (k.agreement.threads t dec).place (k.agreement.threads t dec).word_agrees (k.agreement.threads t dec).there where
-    by : (p : Place) → WordAgrees (holds s) (pending s) t (word_of s t) p → IsThere (λ i. stands_at m s.values i t) (λ v. carried_at m (slice_get s.seats v) t) p
+    by : (p : Place) → WordAgrees (holds s) (pending s) t (word_of s t) p → IsThere (λ i. stands_under m s.values i t) (λ v. carried_at m (slice_get s.seats v) t) p
         → SomeMoves
     by (under l) (inl (named, calm)) st = absurd (lock_not_blocked l (sym named ∙ is))
     by (under l) (inr (v, (pends, took_it, more))) st = some_pending v (Point t l) pends
     by (in_hand v) a ca = carrier_moves free v t dec ca
 
   -- an unfinished worker moves, or one behind the blocked word that it reads
-  free_some : (free : (b : ℕ) → lock_word s b ≡ None) (w : ℕ) (p : Seat O E R) → slice_get s.seats w ≡ Some p → p.phase ≢ phase.Finished → (f : Phase E R) → p.phase ≡ f
+  free_some : (free : (b : ℕ) → lock_holder s b ≡ None) (w : ℕ) (p : Seat O E R) → slice_get s.seats w ≡ Some p → p.phase ≢ phase.Finished → (f : Phase E R) → p.phase ≡ f
       → SomeMoves
   free_some free w p at unfinished (phase.Event e progress.Open) here = by (m.needs e) refl where
     moves_so : ((t : ℕ) → m.needs e ≡ lock_of t → word_of s t ≢ Blocked) → SomeMoves
     moves_so finds = (w, there s.seats w p at, free_moves w p at free unfinished (λ e' t is needs. let y : phase.Event e progress.Open ≡ phase.Event e' progress.Open = sym here ∙ is in let same : e ≡ e' = cc in finds t (ap m.needs same ∙ needs)))
 
     by_word : (t : ℕ) → m.needs e ≡ lock_of t → (x : Word) → word_of s t ≡ x → SomeMoves
-    by_word t needs Blocked is = blocked_moves free t (programs.seeks s.history s.values (courses s) w (course_of p) e t k.play (course_at s.seats w p p at) (ap standing_of here) needs).0 is
+    by_word t needs Blocked is = blocked_moves free t (programs.seeks s.history s.values (courses s) w (course_of_seat p) e t k.play (seat_course_at s.seats w p p at) (ap standing_of_phase here) needs).0 is
     by_word t needs (Lock l) is = moves_so (λ u other. let y : lock_of t ≡ lock_of u = sym needs ∙ other in let same : t ≡ u = cc in λ b. lock_not_blocked l (sym is ∙ (ap (word_of s) same ∙ b)))
 
     by : (n : Needs) → m.needs e ≡ n → SomeMoves
@@ -222,7 +222,7 @@ module _ {H O G E R C : Type 0} (m : Means H O G E R C) (law : MovesLittle m) (p
   -- no state is stuck
   pub not_stuck : IsNotStuck m s
   not_stuck w p at unfinished = ⊎_elim
-      (λ (z : (l : ℕ) × (v : ℕ) × (lock_word s l ≡ Some v) × ((b u : ℕ) → l < b → lock_word s b ≡ Some u → ⊥)).
+      (λ (z : (l : ℕ) × (v : ℕ) × (lock_holder s l ≡ Some v) × ((b u : ℕ) → l < b → lock_holder s b ≡ Some u → ⊥)).
       let q = holder_there z.1 z.0 ((k.agreement.locks z.0).held z.1 z.2) in (z.1, there s.seats z.1 q.0 q.1, holder_moves z.1 q.0 q.1 z.0 z.3 q.2))
       (λ free. free_some free w p at unfinished p.phase refl)
       (highest 25 none_above)

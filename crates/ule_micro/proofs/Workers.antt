@@ -14,9 +14,9 @@ use Rattle.ule_micro.specs.declared.word.Word.TheVariants.{Lock, Blocked}
 use Rattle.ule_micro.specs.declared.word.WordChange.{WordChange}
 use Rattle.ule_micro.specs.declared.word.WordChange.TheVariants.{Block, Point}
 use Rattle.ule_micro.specs.Means.{Means, Needs, one, both, lock_of}
-use Rattle.ule_micro.specs.Histories.{Effect, performed}
-use Rattle.ule_micro.specs.States.{State, lock_word, word_of}
-use Rattle.ule_micro.specs.Turns.{take, first_read, commit, leave, open_event, approach, step_of, turn_by, turn_of}
+use Rattle.ule_micro.specs.Histories.{Effect, effect_under}
+use Rattle.ule_micro.specs.States.{State, lock_holder, word_of}
+use Rattle.ule_micro.specs.Turns.{take, first_read, commit, leave, open_event, approach, step_of, turn_by, turn_of_worker}
 
 module _ {H O G E R C : Type 0} (m : Means H O G E R C) (s : State O G E R) (w : ℕ) (p : Seat O E R) where
   take_many : (l : ℕ) (there : Phase E R) (o : Option ℕ) → length (take s w p l there o).1.seats ≡ length s.seats
@@ -28,8 +28,8 @@ module _ {H O G E R C : Type 0} (m : Means H O G E R C) (s : State O G E R) (w :
   read_many e t Blocked = refl
 
   open_many : (e : E) (n : Needs) → length (open_event m s w p e n).1.seats ≡ length s.seats
-  open_many e (one a) = take_many a _ (lock_word s a)
-  open_many e (both a b) = take_many a _ (lock_word s a)
+  open_many e (one a) = take_many a _ (lock_holder s a)
+  open_many e (both a b) = take_many a _ (lock_holder s a)
   open_many e (lock_of t) = read_many e t (word_of s t)
 
   commit_many : (e : E) (held : HeldLocks) (now : ℕ) (o : Option (Effect H G R)) → length (commit m s w p e held now o).1.seats ≡ length s.seats
@@ -38,12 +38,12 @@ module _ {H O G E R C : Type 0} (m : Means H O G E R C) (s : State O G E R) (w :
 
   approach_many : (e : E) (way : Progress) → length (approach m s w p e way).1.seats ≡ length s.seats
   approach_many e progress.Open = open_many e (m.needs e)
-  approach_many e (progress.Named t l) = take_many l _ (lock_word s l)
+  approach_many e (progress.Named t l) = take_many l _ (lock_holder s l)
   approach_many e (progress.Taken t l) = length-set s.seats w _
   approach_many e (progress.Stale l) = length-set s.seats w _
-  approach_many e (progress.Half a b) = take_many b _ (lock_word s b)
+  approach_many e (progress.Half a b) = take_many b _ (lock_holder s b)
   approach_many e (progress.Locked held) = length-set s.seats w _
-  approach_many e (progress.Timed held now) = commit_many e held now (performed m w e now (m.hand p.own) held s.values)
+  approach_many e (progress.Timed held now) = commit_many e held now (effect_under m w e now (m.hand p.own) held s.values)
 
   leave_many : (reply : R) (now : ℕ) (held : HeldLocks) (o : Option WordChange) → length (leave m s w p reply now held o).1.seats ≡ length s.seats
   leave_many reply now held (Some (Block t)) = length-set s.seats w _
@@ -63,7 +63,7 @@ module _ {H O G E R C : Type 0} (m : Means H O G E R C) (s : State O G E R) (w :
   turned_many (Some p) = step_many m s w p p.phase
 
   -- a turn leaves as many workers
-  pub same_workers : length (turn_of m s w).1.seats ≡ length s.seats
+  pub same_workers : length (turn_of_worker m s w).1.seats ≡ length s.seats
   same_workers = turned_many (slice_get s.seats w)
 
 module _ {H O G E R C : Type 0} (m : Means H O G E R C) (s : State O G E R) (w : ℕ) (p : Seat O E R) where
@@ -76,8 +76,8 @@ module _ {H O G E R C : Type 0} (m : Means H O G E R C) (s : State O G E R) (w :
   read_unmoved e t Blocked none = refl
 
   open_unmoved : (e : E) (n : Needs) → IsNoStep (open_event m s w p e n).0 → (open_event m s w p e n).1 ≡ s
-  open_unmoved e (one a) none = take_unmoved a _ (lock_word s a) none
-  open_unmoved e (both a b) none = take_unmoved a _ (lock_word s a) none
+  open_unmoved e (one a) none = take_unmoved a _ (lock_holder s a) none
+  open_unmoved e (both a b) none = take_unmoved a _ (lock_holder s a) none
   open_unmoved e (lock_of t) none = read_unmoved e t (word_of s t) none
 
   commit_unmoved : (e : E) (held : HeldLocks) (now : ℕ) (o : Option (Effect H G R)) → IsNoStep (commit m s w p e held now o).0 → (commit m s w p e held now o).1 ≡ s
@@ -86,12 +86,12 @@ module _ {H O G E R C : Type 0} (m : Means H O G E R C) (s : State O G E R) (w :
 
   approach_unmoved : (e : E) (way : Progress) → IsNoStep (approach m s w p e way).0 → (approach m s w p e way).1 ≡ s
   approach_unmoved e progress.Open none = open_unmoved e (m.needs e) none
-  approach_unmoved e (progress.Named t l) none = take_unmoved l _ (lock_word s l) none
+  approach_unmoved e (progress.Named t l) none = take_unmoved l _ (lock_holder s l) none
   approach_unmoved e (progress.Taken t l) none = absurd none
   approach_unmoved e (progress.Stale l) none = absurd none
-  approach_unmoved e (progress.Half a b) none = take_unmoved b _ (lock_word s b) none
+  approach_unmoved e (progress.Half a b) none = take_unmoved b _ (lock_holder s b) none
   approach_unmoved e (progress.Locked held) none = absurd none
-  approach_unmoved e (progress.Timed held now) none = commit_unmoved e held now (performed m w e now (m.hand p.own) held s.values) none
+  approach_unmoved e (progress.Timed held now) none = commit_unmoved e held now (effect_under m w e now (m.hand p.own) held s.values) none
 
   leave_unmoved : (reply : R) (now : ℕ) (held : HeldLocks) (o : Option WordChange) → IsNoStep (leave m s w p reply now held o).0 → (leave m s w p reply now held o).1 ≡ s
   leave_unmoved reply now held (Some (Block t)) none = absurd none
@@ -111,5 +111,5 @@ module _ {H O G E R C : Type 0} (m : Means H O G E R C) (s : State O G E R) (w :
   turn_unmoved (Some p) none = step_unmoved m s w p p.phase none
 
   -- a turn that is no step changes nothing
-  pub unmoved : IsNoStep (turn_of m s w).0 → (turn_of m s w).1 ≡ s
+  pub unmoved : IsNoStep (turn_of_worker m s w).0 → (turn_of_worker m s w).1 ≡ s
   unmoved none = turn_unmoved (slice_get s.seats w) none

@@ -4,7 +4,7 @@ use Rattle.ule_micro.specs.declared.word.Word.{Word}
 use Rattle.ule_micro.specs.declared.word.Word.TheVariants.{Lock, Blocked}
 use Rattle.ule_micro.specs.declared.word.WordChange.{WordChange}
 use Rattle.ule_micro.specs.declared.word.WordChange.TheVariants.{Block, Point}
-use Rattle.ule_micro.specs.Means.{thread_of}
+use Rattle.ule_micro.specs.Means.{thread_of_change}
 
 -- place: where a thread is, which is under a lock, or in a worker's hand
 pub data Place : Type 0 where
@@ -19,7 +19,7 @@ pub record NamesOneHolder (word : Option ℕ) (holds : ℕ → Bool) : Type 0 wh
 module _ (holds : ℕ → ℕ → Bool) (pending : ℕ → Option WordChange) (t : ℕ) (word : Word) where
   -- is settled: no worker has a change of the thread's word pending
   abbrev pub IsSettled : Type 0
-  IsSettled = (w : ℕ) (c : WordChange) → pending w ≡ Some c → thread_of c ≡ t → ⊥
+  IsSettled = (w : ℕ) (c : WordChange) → pending w ≡ Some c → thread_of_change c ≡ t → ⊥
 
   -- names held: the word names a lock that the worker holds
   abbrev pub NamesHeld : ℕ → Type 0
@@ -59,4 +59,4 @@ pub record ThreadAgrees (holds : ℕ → ℕ → Bool) (pending : ℕ → Option
   pub only_under : (l : ℕ) → stands l ≡ true → place ≡ under l
   pub only_hand : (w : ℕ) → carries w ≡ true → place ≡ in_hand w
   pub word_agrees : WordAgrees holds pending t word place
-  pub change_agrees : (w : ℕ) (c : WordChange) → pending w ≡ Some c → thread_of c ≡ t → ChangeAgrees holds w place c
+  pub change_agrees : (w : ℕ) (c : WordChange) → pending w ≡ Some c → thread_of_change c ≡ t → ChangeAgrees holds w place c

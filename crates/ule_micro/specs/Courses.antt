@@ -4,7 +4,7 @@ use Rattle.ule_micro.specs.declared.entry.Entry.{Entry}
 use Rattle.ule_micro.specs.declared.todo.Todo.{Todo}
 use Rattle.ule_micro.specs.declared.todo.Todo.TheVariants.{Event, Advance}
 use Rattle.ule_micro.specs.Means.{Means}
-use Rattle.ule_micro.specs.Histories.{Effect, Follows, IsNoEarlier}
+use Rattle.ule_micro.specs.Histories.{Effect, Follows, IsNoEarlierThanShared}
 
 -- standing: a worker is to ask for its next item, telling the reply and the time of the event before it if it was one, or it has an item, or the command that it began last has no further item
 pub data Standing (E R : Type 0) : Type 0 where
@@ -12,8 +12,8 @@ pub data Standing (E R : Type 0) : Type 0 where
   has : Todo E → Standing E R
   rests : Standing E R
 
--- course: where a worker stands in its program, with the commands begun, the items performed and the hz ticks advanced so far
-pub record Course (O E R : Type 0) : Type 0 where
+-- worker course: where a worker stands in its program, with the commands begun, the items performed and the hz ticks advanced so far
+pub record WorkerCourse (O E R : Type 0) : Type 0 where
   pub own : O
   pub begun : ℕ
   pub items : ℕ
@@ -22,11 +22,11 @@ pub record Course (O E R : Type 0) : Type 0 where
 
 module _ {O E R : Type 0} where
   -- unbegun: a worker at the start
-  abbrev pub unbegun : O → Course O E R
+  abbrev pub unbegun : O → WorkerCourse O E R
   unbegun own = record { own = own; begun = 0; items = 0; advanced = 0; standing = rests }
 
   -- all advanced: the hz ticks that all workers advanced
-  abbrev pub all_advanced : List (Course O E R) → ℕ
+  abbrev pub all_advanced : List (WorkerCourse O E R) → ℕ
   all_advanced [] = 0
   all_advanced (c ∷ cs) = c.advanced + all_advanced cs
 
@@ -37,36 +37,36 @@ standing_with (Some x) = has x
 
 module _ {H O G E R C : Type 0} (m : Means H O G E R C) where
   -- answered: the worker was told its next item
-  abbrev pub answered : Course O E R → Option (R × ℕ) → Course O E R
+  abbrev pub answered : WorkerCourse O E R → Option (R × ℕ) → WorkerCourse O E R
   answered c told = record { own = (m.next c.own told).1; begun = c.begun; items = c.items; advanced = c.advanced; standing = standing_with (m.next c.own told).0 }
 
   -- ordered: the worker began this command
-  abbrev pub ordered : Course O E R → C → Course O E R
+  abbrev pub ordered : WorkerCourse O E R → C → WorkerCourse O E R
   ordered c order = record { own = m.begin c.own order; begun = c.begun + 1; items = c.items; advanced = c.advanced; standing = asks None }
 
   -- advanced by: the worker raised the time
-  abbrev pub advanced_by : Course O E R → ℕ → Course O E R
+  abbrev pub advanced_by : WorkerCourse O E R → ℕ → WorkerCourse O E R
   advanced_by c k = record { own = c.own; begun = c.begun; items = c.items + 1; advanced = c.advanced + k; standing = asks None }
 
   -- done by: the worker performed an event, which left this hand and had this reply at this time
-  abbrev pub done_by : Course O E R → H → R → ℕ → Course O E R
+  abbrev pub done_by : WorkerCourse O E R → H → R → ℕ → WorkerCourse O E R
   done_by c hand reply now = record { own = m.with_hand c.own hand; begun = c.begun; items = c.items + 1; advanced = c.advanced; standing = asks (Some (reply, now)) }
 
-  -- in time: the time of an entry of this worker keeps the three rules of time
-  pub record IsInTime (history : List (Entry E R)) (cs : List (Course O E R)) (c : Course O E R) (x : Entry E R) : Type 0 where
-    pub no_earlier : IsNoEarlier history x.worker x.locks x.now
+  -- keeps time rules: the time of an entry of this worker keeps the three rules of time
+  pub record KeepsTimeRules (history : List (Entry E R)) (cs : List (WorkerCourse O E R)) (c : WorkerCourse O E R) (x : Entry E R) : Type 0 where
+    pub no_earlier : IsNoEarlierThanShared history x.worker x.locks x.now
     pub own : 20000 + c.advanced ≤ x.now
     pub past : x.now ≤ 20000 + all_advanced cs
 
-  -- play: a legal play so far, with its history, the values under the locks, and where each worker stands
-  pub data Play : List (Entry E R) → List G → List (Course O E R) → Type 0 where
-    opens : Play [] m.values (map unbegun m.owns)
-    answers : {h : List (Entry E R)} {vs : List G} {cs : List (Course O E R)} (w : ℕ) (c : Course O E R) (told : Option (R × ℕ))
-        → Play h vs cs → slice_get cs w ≡ Some c → c.standing ≡ asks told → Play h vs (slice_set cs w (answered c told))
-    begins : {h : List (Entry E R)} {vs : List G} {cs : List (Course O E R)} (w : ℕ) (c : Course O E R) (order : C)
-        → Play h vs cs → slice_get cs w ≡ Some c → c.standing ≡ rests → slice_get (m.orders w) c.begun ≡ Some order → Play h vs (slice_set cs w (ordered c order))
-    advances : {h : List (Entry E R)} {vs : List G} {cs : List (Course O E R)} (w : ℕ) (c : Course O E R) (k : ℕ)
-        → Play h vs cs → slice_get cs w ≡ Some c → c.standing ≡ has (Advance k) → Play h vs (slice_set cs w (advanced_by c k))
-    performs : {h : List (Entry E R)} {vs : List G} {cs : List (Course O E R)} (c : Course O E R) (x : Entry E R) (after : Effect H G R)
-        → Play h vs cs → slice_get cs x.worker ≡ Some c → c.standing ≡ has (Event x.event) → Follows m vs (m.hand c.own) x after → IsInTime h cs c x
-        → Play (x ∷ h) after.values (slice_set cs x.worker (done_by c after.hand x.reply x.now))
+  -- legal play: a legal play so far, with its history, the values under the locks, and where each worker stands
+  pub data LegalPlay : List (Entry E R) → List G → List (WorkerCourse O E R) → Type 0 where
+    opens : LegalPlay [] m.values (map unbegun m.owns)
+    answers : {h : List (Entry E R)} {vs : List G} {cs : List (WorkerCourse O E R)} (w : ℕ) (c : WorkerCourse O E R) (told : Option (R × ℕ))
+        → LegalPlay h vs cs → slice_get cs w ≡ Some c → c.standing ≡ asks told → LegalPlay h vs (slice_set cs w (answered c told))
+    begins : {h : List (Entry E R)} {vs : List G} {cs : List (WorkerCourse O E R)} (w : ℕ) (c : WorkerCourse O E R) (order : C)
+        → LegalPlay h vs cs → slice_get cs w ≡ Some c → c.standing ≡ rests → slice_get (m.orders w) c.begun ≡ Some order → LegalPlay h vs (slice_set cs w (ordered c order))
+    advances : {h : List (Entry E R)} {vs : List G} {cs : List (WorkerCourse O E R)} (w : ℕ) (c : WorkerCourse O E R) (k : ℕ)
+        → LegalPlay h vs cs → slice_get cs w ≡ Some c → c.standing ≡ has (Advance k) → LegalPlay h vs (slice_set cs w (advanced_by c k))
+    performs : {h : List (Entry E R)} {vs : List G} {cs : List (WorkerCourse O E R)} (c : WorkerCourse O E R) (x : Entry E R) (after : Effect H G R)
+        → LegalPlay h vs cs → slice_get cs x.worker ≡ Some c → c.standing ≡ has (Event x.event) → Follows m vs (m.hand c.own) x after → KeepsTimeRules h cs c x
+        → LegalPlay (x ∷ h) after.values (slice_set cs x.worker (done_by c after.hand x.reply x.now))

@@ -8,15 +8,15 @@ use Rattle.ule_micro.specs.declared.seat.Seat.{Seat}
 use Rattle.ule_micro.specs.declared.turn.Turn.{Turn}
 use Rattle.ule_micro.specs.declared.word.Word.{Word}
 use Rattle.ule_micro.specs.Means.{Means}
-use Rattle.ule_micro.specs.Courses.{Play}
-use Rattle.ule_micro.specs.Performing.{AreApart}
-use Rattle.ule_micro.specs.States.{State, Machine, lock_word, courses}
-use Rattle.ule_micro.specs.Turns.{turn_of, take, release, at}
+use Rattle.ule_micro.specs.Courses.{LegalPlay}
+use Rattle.ule_micro.specs.Performing.{AreInRisingOrder}
+use Rattle.ule_micro.specs.States.{State, Machine, lock_holder, courses}
+use Rattle.ule_micro.specs.Turns.{turn_of_worker, take, release, at}
 use Rattle.ule_micro.specs.Theorem.{LockAgreement}
 
 module _ {H O G E R C : Type 0} (m : Means H O G E R C) where
-  -- is kept: what the state of a step model keeps, of which lock agreement is what callers see
-  pub record IsKept (s : State O G E R) : Type 0 where
+  -- is kept state: what the state of a step model keeps, of which lock agreement is what callers see
+  pub record IsKeptState (s : State O G E R) : Type 0 where
     pub locks : length s.locks ≡ 25
     pub words : length s.words ≡ 256
     pub values : length s.values ≡ 25
@@ -24,26 +24,26 @@ module _ {H O G E R C : Type 0} (m : Means H O G E R C) where
     pub numbers : (w : ℕ) (p : Seat O E R) → slice_get s.seats w ≡ Some p → m.number p.own ≡ w
     pub begun : (w : ℕ) (p : Seat O E R) → slice_get s.seats w ≡ Some p → p.begun ≤ length (m.orders w)
     pub ended : (w : ℕ) (p : Seat O E R) → slice_get s.seats w ≡ Some p → p.phase ≡ phase.Finished → slice_get (m.orders w) p.begun ≡ None
-    pub apart : (w : ℕ) (p : Seat O E R) (reply : R) (now : ℕ) (held : HeldLocks) → slice_get s.seats w ≡ Some p → p.phase ≡ phase.Leaving reply now held → AreApart held
+    pub apart : (w : ℕ) (p : Seat O E R) (reply : R) (now : ℕ) (held : HeldLocks) → slice_get s.seats w ≡ Some p → p.phase ≡ phase.Leaving reply now held → AreInRisingOrder held
     pub agreement : LockAgreement m s
-    pub play : Play m s.history s.values (courses s)
+    pub play : LegalPlay m s.history s.values (courses s)
 
   -- takes next: the worker's next step takes the lock, to stand there then
   abbrev pub TakesNext : State O G E R → ℕ → ℕ → Phase E R → Type 0
-  TakesNext s w l there = (p : Seat O E R) × (slice_get s.seats w ≡ Some p) × (turn_of m s w ≡ take s w p l there (lock_word s l))
+  TakesNext s w l there = (p : Seat O E R) × (slice_get s.seats w ≡ Some p) × (turn_of_worker m s w ≡ take s w p l there (lock_holder s l))
 
   -- releases next: the worker's next step gives the lock back, to stand there then
   abbrev pub ReleasesNext : State O G E R → ℕ → ℕ → Phase E R → Type 0
-  ReleasesNext s w l there = (p : Seat O E R) × (slice_get s.seats w ≡ Some p) × (turn_of m s w ≡ release s l w (at p there))
+  ReleasesNext s w l there = (p : Seat O E R) × (slice_get s.seats w ≡ Some p) × (turn_of_worker m s w ≡ release s l w (at p there))
 
   -- is turned: the turn answered this and left this
   abbrev pub IsTurned : {P : Type 0} → Machine P O G E R → ℕ → Turn → Machine P O G E R → Type 0
-  IsTurned old w result new = (new.parts ≡ old.parts) × ((turn_of m old.state w).0 ≡ result) × ((turn_of m old.state w).1 ≡ new.state)
+  IsTurned old w result new = (new.parts ≡ old.parts) × ((turn_of_worker m old.state w).0 ≡ result) × ((turn_of_worker m old.state w).1 ≡ new.state)
 
 module _ {O G E R : Type 0} where
-  -- stands at: the worker stands there
-  abbrev pub StandsAt : State O G E R → ℕ → Phase E R → Type 0
-  StandsAt s w there = (p : Seat O E R) × (slice_get s.seats w ≡ Some p) × (p.phase ≡ there)
+  -- worker stands at: the worker stands there
+  abbrev pub WorkerStandsAt : State O G E R → ℕ → Phase E R → Type 0
+  WorkerStandsAt s w there = (p : Seat O E R) × (slice_get s.seats w ≡ Some p) × (p.phase ≡ there)
 
   -- machine of: what a contract sees of these fields, whose history has its oldest entry first
   abbrev pub machine_of : {P : Type 0} → P → List (Option ℕ) → List Word → ℕ → ℕ → List G → List (Seat O E R) → List (Entry E R) → Machine P O G E R

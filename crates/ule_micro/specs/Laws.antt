@@ -5,9 +5,9 @@ use Rattle.ule_micro.specs.declared.entry.HeldLocks.{HeldLocks}
 use Rattle.ule_micro.specs.declared.todo.Todo.TheVariants.{Event, Advance}
 use Rattle.ule_micro.specs.declared.word.WordChange.{WordChange}
 use Rattle.ule_micro.specs.declared.word.WordChange.TheVariants.{Block, Point}
-use Rattle.ule_micro.specs.Means.{Means, Needs, one, both, lock_of, thread_of, budgets, stands_at}
-use Rattle.ule_micro.specs.Histories.{World, AreLocksFor, values_under, IsNoEarlier, IsBelow, Leads}
-use Rattle.ule_micro.specs.Courses.{Course, asks, has, rests, Play}
+use Rattle.ule_micro.specs.Means.{Means, Needs, one, both, lock_of, thread_of_change, budgets, stands_under}
+use Rattle.ule_micro.specs.Histories.{ValuesAndHands, AreLocksFor, values_under, IsNoEarlierThanShared, IsBelow, Leads}
+use Rattle.ule_micro.specs.Courses.{WorkerCourse, asks, has, rests, LegalPlay}
 
 module _ {H O G E R C : Type 0} (m : Means H O G E R C) where
   -- the workers and their budgets are few
@@ -22,8 +22,8 @@ module _ {H O G E R C : Type 0} (m : Means H O G E R C) where
   pub record StartsSettled : Type 0 where
     pub few : (t : ℕ) → m.declared t ≡ true → t < 256
     pub low : (t : ℕ) → m.word t < 25
-    pub stands : (t : ℕ) → m.declared t ≡ true → stands_at m m.values (m.word t) t ≡ true
-    pub once : (t l : ℕ) → m.declared t ≡ true → stands_at m m.values l t ≡ true → l ≡ m.word t
+    pub stands : (t : ℕ) → m.declared t ≡ true → stands_under m m.values (m.word t) t ≡ true
+    pub once : (t l : ℕ) → m.declared t ≡ true → stands_under m m.values l t ≡ true → l ≡ m.word t
     pub empty : (t w : ℕ) (o : O) → m.declared t ≡ true → slice_get m.owns w ≡ Some o → m.carried_in (m.hand o) t ≡ false
 
   -- are rising: a need of two locks names the lower one first, and all locks are among the 25
@@ -40,7 +40,7 @@ module _ {H O G E R C : Type 0} (m : Means H O G E R C) where
 
   -- leaves: a change of a word, if any, is of another thread
   abbrev pub Leaves : Option WordChange → ℕ → Type 0
-  Leaves change t = (c : WordChange) → change ≡ Some c → thread_of c ≢ t
+  Leaves change t = (c : WordChange) → change ≡ Some c → thread_of_change c ≢ t
 
   -- step moves: an event under one lock moves at most the thread of its word change, from the lock into the hand, or from the hand to the lock
   pub record StepMoves (h : H) (a : ℕ) (v : G) (change : Option WordChange) (h' : H) (v' : G) : Type 0 where
@@ -84,34 +84,35 @@ module _ {H O G E R C : Type 0} (m : Means H O G E R C) where
   -- keeps programs: what holds of a worker's program after every legal play
   pub record KeepsPrograms : Type 0 where
     -- it performs at most its budget of items
-    pub budget : (h : List (Entry E R)) (vs : List G) (cs : List (Course O E R)) (w : ℕ) (c : Course O E R) → Play m h vs cs → slice_get cs w ≡ Some c
+    pub budget : (h : List (Entry E R)) (vs : List G) (cs : List (WorkerCourse O E R)) (w : ℕ) (c : WorkerCourse O E R) → LegalPlay m h vs cs → slice_get cs w ≡ Some c
         → c.items ≤ m.budget w
     -- its next command may begin
-    pub begins : (h : List (Entry E R)) (vs : List G) (cs : List (Course O E R)) (w : ℕ) (c : Course O E R) (order : C)
-        → Play m h vs cs → slice_get cs w ≡ Some c → c.standing ≡ rests → slice_get (m.orders w) c.begun ≡ Some order → m.begins c.own order
+    pub begins : (h : List (Entry E R)) (vs : List G) (cs : List (WorkerCourse O E R)) (w : ℕ) (c : WorkerCourse O E R) (order : C)
+        → LegalPlay m h vs cs → slice_get cs w ≡ Some c → c.standing ≡ rests → slice_get (m.orders w) c.begun ≡ Some order → m.begins c.own order
     -- its next item may be asked for
-    pub goes_on : (h : List (Entry E R)) (vs : List G) (cs : List (Course O E R)) (w : ℕ) (c : Course O E R) (told : Option (R × ℕ))
-        → Play m h vs cs → slice_get cs w ≡ Some c → c.standing ≡ asks told → m.goes_on c.own told
+    pub goes_on : (h : List (Entry E R)) (vs : List G) (cs : List (WorkerCourse O E R)) (w : ℕ) (c : WorkerCourse O E R) (told : Option (R × ℕ))
+        → LegalPlay m h vs cs → slice_get cs w ≡ Some c → c.standing ≡ asks told → m.goes_on c.own told
     -- it advances by 1 to 1,000,000
-    pub advances : (h : List (Entry E R)) (vs : List G) (cs : List (Course O E R)) (w : ℕ) (c : Course O E R) (k : ℕ)
-        → Play m h vs cs → slice_get cs w ≡ Some c → c.standing ≡ has (Advance k) → (1 ≤ k) × (k ≤ 1000000)
+    pub advances : (h : List (Entry E R)) (vs : List G) (cs : List (WorkerCourse O E R)) (w : ℕ) (c : WorkerCourse O E R) (k : ℕ)
+        → LegalPlay m h vs cs → slice_get cs w ≡ Some c → c.standing ≡ has (Advance k) → (1 ≤ k) × (k ≤ 1000000)
     -- an event that it has seeks a declared thread, and with an empty hand
-    pub seeks : (h : List (Entry E R)) (vs : List G) (cs : List (Course O E R)) (w : ℕ) (c : Course O E R) (e : E) (t : ℕ)
-        → Play m h vs cs → slice_get cs w ≡ Some c → c.standing ≡ has (Event e) → m.needs e ≡ lock_of t → (m.declared t ≡ true) × IsEmpty (m.hand c.own)
+    pub seeks : (h : List (Entry E R)) (vs : List G) (cs : List (WorkerCourse O E R)) (w : ℕ) (c : WorkerCourse O E R) (e : E) (t : ℕ)
+        → LegalPlay m h vs cs → slice_get cs w ≡ Some c → c.standing ≡ has (Event e) → m.needs e ≡ lock_of t → (m.declared t ≡ true) × IsEmpty (m.hand c.own)
     -- it has nothing in hand where it is at its end
-    pub ends : (h : List (Entry E R)) (vs : List G) (cs : List (Course O E R)) (w : ℕ) (c : Course O E R)
-        → Play m h vs cs → slice_get cs w ≡ Some c → c.standing ≡ rests → slice_get (m.orders w) c.begun ≡ None → IsEmpty (m.hand c.own)
+    pub ends : (h : List (Entry E R)) (vs : List G) (cs : List (WorkerCourse O E R)) (w : ℕ) (c : WorkerCourse O E R)
+        → LegalPlay m h vs cs → slice_get cs w ≡ Some c → c.standing ≡ rests → slice_get (m.orders w) c.begun ≡ None → IsEmpty (m.hand c.own)
     -- an event that it has fits its hand and the values under the locks that the event needs
-    pub fits : (h : List (Entry E R)) (vs : List G) (cs : List (Course O E R)) (w : ℕ) (c : Course O E R) (e : E) (held : HeldLocks) (guarded : List G)
-        → Play m h vs cs → slice_get cs w ≡ Some c → c.standing ≡ has (Event e) → AreLocksFor m vs held (m.needs e) → values_under held vs ≡ Some guarded
+    pub fits : (h : List (Entry E R)) (vs : List G) (cs : List (WorkerCourse O E R)) (w : ℕ) (c : WorkerCourse O E R) (e : E) (held : HeldLocks) (guarded : List G)
+        → LegalPlay m h vs cs → slice_get cs w ≡ Some c → c.standing ≡ has (Event e) → AreLocksFor m vs held (m.needs e) → values_under held vs ≡ Some guarded
         → m.fits w e (m.hand c.own) guarded
 
-  -- start: the world at the start
-  abbrev pub start_of : World H G
-  start_of = record { values = m.values; hands = map m.hand m.owns }
+  -- values and hands at start: the value under each lock and the hand of each worker at the start
+  abbrev pub values_and_hands_at_start : ValuesAndHands H G
+  values_and_hands_at_start = record { values = m.values; hands = map m.hand m.owns }
 
-  -- readies: after every history in order, an event that fits may be performed, at a time that the rules of time allow
-  abbrev pub Readies : Type 0
-  Readies = (h : List (Entry E R)) (y : World H G) (w : ℕ) (e : E) (now : ℕ) (hand : H) (held : HeldLocks) (guarded : List G)
-      → Leads m start_of h y → IsBelow h (2 ^ 36) → length h < 65536 → slice_get y.hands w ≡ Some hand → AreLocksFor m y.values held (m.needs e) → values_under held y.values ≡ Some guarded
-      → m.fits w e hand guarded → IsNoEarlier h w held now → now < 2 ^ 36 → m.may w e now hand guarded
+  -- readies events: after every history in order, an event that fits may be performed, at a time that the rules of time allow
+  abbrev pub ReadiesEvents : Type 0
+  ReadiesEvents = (h : List (Entry E R)) (y : ValuesAndHands H G) (w : ℕ) (e : E) (now : ℕ) (hand : H) (held : HeldLocks) (guarded : List G)
+      → Leads m values_and_hands_at_start h y → IsBelow h (2 ^ 36) → length h < 65536 → slice_get y.hands w ≡ Some hand
+      → AreLocksFor m y.values held (m.needs e) → values_under held y.values ≡ Some guarded
+      → m.fits w e hand guarded → IsNoEarlierThanShared h w held now → now < 2 ^ 36 → m.may w e now hand guarded

@@ -12,11 +12,11 @@ pub data Needs : Type 0 where
   both : ℕ → ℕ → Needs
   lock_of : ℕ → Needs
 
--- sought by: the thread that a seeking event seeks
-abbrev pub sought_by : Needs → Option ℕ
-sought_by (one a) = None
-sought_by (both a b) = None
-sought_by (lock_of t) = Some t
+-- thread sought by: the thread that a seeking event seeks
+abbrev pub thread_sought_by : Needs → Option ℕ
+thread_sought_by (one a) = None
+thread_sought_by (both a b) = None
+thread_sought_by (lock_of t) = Some t
 
 -- fixed by: the rising locks of an event that doesn't seek
 abbrev pub fixed_by : Needs → Option HeldLocks
@@ -24,10 +24,10 @@ fixed_by (one a) = Some (One a)
 fixed_by (both a b) = Some (Two a b)
 fixed_by (lock_of t) = None
 
--- thread of: the thread whose word a change is about
-abbrev pub thread_of : WordChange → ℕ
-thread_of (Block t) = t
-thread_of (Point t l) = t
+-- thread of change: the thread whose word a change is about
+abbrev pub thread_of_change : WordChange → ℕ
+thread_of_change (Block t) = t
+thread_of_change (Point t l) = t
 
 -- means: all that the step model knows of a scheduler, where H is a hand, O a worker's own part, G the value under a lock, E an event, R a reply and C a command
 pub record Means (H O G E R C : Type 0) : Type 1 where
@@ -67,9 +67,9 @@ budgets b zero = 0
 budgets b (suc n) = budgets b n + b n
 
 module _ {H O G E R C : Type 0} (m : Means H O G E R C) where
-  -- stands at: whether a thread stands under a lock, where these are the values under all locks
-  abbrev pub stands_at : List G → ℕ → ℕ → Bool
-  stands_at values l t = elim (slice_get values l) as (λ _. Bool) [ None ↦ false | Some v ↦ m.stands_in v t ]
+  -- stands under: whether a thread stands under a lock, where these are the values under all locks
+  abbrev pub stands_under : List G → ℕ → ℕ → Bool
+  stands_under values l t = elim (slice_get values l) as (λ _. Bool) [ None ↦ false | Some v ↦ m.stands_in v t ]
 
   -- carried by: whether a worker has a thread in hand, where these are the hands of all workers
   abbrev pub carried_by : List H → ℕ → ℕ → Bool

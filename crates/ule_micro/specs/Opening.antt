@@ -6,9 +6,9 @@ use Rattle.ule_micro.specs.declared.word.Word.TheVariants.{Lock}
 use Rattle.ule_micro.specs.Means.{Means}
 use Rattle.ule_micro.specs.Turns.{seated, next_command}
 
--- are free: these many locks, all free
-abbrev pub AreFree : ℕ → List (Option ℕ) → Type 0
-AreFree n locks = (length locks ≡ n) × ((l : ℕ) → slice_index_or locks l None ≡ None)
+-- are free locks: these many locks, all free
+abbrev pub AreFreeLocks : ℕ → List (Option ℕ) → Type 0
+AreFreeLocks n locks = (length locks ≡ n) × ((l : ℕ) → slice_index_or locks l None ≡ None)
 
 module _ {H O G E R C : Type 0} (m : Means H O G E R C) where
   -- are first words: the words of the first n threads, each of which names the lock of its thread's place

@@ -11,8 +11,8 @@ use Rattle.ule_micro.specs.declared.word.Word.{Word}
 use Rattle.ule_micro.specs.declared.word.Word.TheVariants.{Lock}
 use Rattle.ule_micro.specs.declared.word.WordChange.{WordChange}
 use Rattle.ule_micro.specs.Means.{Means}
-use Rattle.ule_micro.specs.Histories.{World, is_among}
-use Rattle.ule_micro.specs.Courses.{Course, Standing, asks, has, rests}
+use Rattle.ule_micro.specs.Histories.{ValuesAndHands, is_lock_among}
+use Rattle.ule_micro.specs.Courses.{WorkerCourse, Standing, asks, has, rests}
 
 -- state: a step state, with the newest entry of its history first
 pub record State (O G E R : Type 0) : Type 0 where
@@ -31,8 +31,8 @@ took_on_the_way (progress.Named t a) l = false
 took_on_the_way (progress.Taken t a) l = a == l
 took_on_the_way (progress.Stale a) l = a == l
 took_on_the_way (progress.Half a b) l = a == l
-took_on_the_way (progress.Locked held) l = is_among held l
-took_on_the_way (progress.Timed held now) l = is_among held l
+took_on_the_way (progress.Locked held) l = is_lock_among held l
+took_on_the_way (progress.Timed held now) l = is_lock_among held l
 
 module _ {E R : Type 0} where
   -- took: whether a worker that stands here took the lock for its present item and did not give it back
@@ -40,33 +40,33 @@ module _ {E R : Type 0} where
   took phase.Finished l = false
   took (phase.Advance k) l = false
   took (phase.Event e way) l = took_on_the_way way l
-  took (phase.Leaving reply now held) l = is_among held l
+  took (phase.Leaving reply now held) l = is_lock_among held l
 
-  -- standing of: where a worker stands in its program
-  abbrev pub standing_of : Phase E R → Standing E R
-  standing_of phase.Finished = rests
-  standing_of (phase.Advance k) = has (todo.Advance k)
-  standing_of (phase.Event e way) = has (todo.Event e)
-  standing_of (phase.Leaving reply now held) = asks (Some (reply, now))
+  -- standing of phase: where a worker stands in its program
+  abbrev pub standing_of_phase : Phase E R → Standing E R
+  standing_of_phase phase.Finished = rests
+  standing_of_phase (phase.Advance k) = has (todo.Advance k)
+  standing_of_phase (phase.Event e way) = has (todo.Event e)
+  standing_of_phase (phase.Leaving reply now held) = asks (Some (reply, now))
 
 module _ {O E R : Type 0} where
-  -- course of: the course of a worker in its program
-  abbrev pub course_of : Seat O E R → Course O E R
-  course_of p = record { own = p.own; begun = p.begun; items = p.items; advanced = p.advanced; standing = standing_of p.phase }
+  -- course of seat: the course of a worker in its program
+  abbrev pub course_of_seat : Seat O E R → WorkerCourse O E R
+  course_of_seat p = record { own = p.own; begun = p.begun; items = p.items; advanced = p.advanced; standing = standing_of_phase p.phase }
 
-  -- held by and pending by: whether a worker, if there is one, took the lock, and which change it has pending
-  abbrev pub held_by : Option (Seat O E R) → ℕ → Bool
-  held_by None l = false
-  held_by (Some p) l = took p.phase l
+  -- lock held by and pending by: whether a worker, if there is one, took the lock, and which change it has pending
+  abbrev pub lock_held_by : Option (Seat O E R) → ℕ → Bool
+  lock_held_by None l = false
+  lock_held_by (Some p) l = took p.phase l
 
   abbrev pub pending_by : Option (Seat O E R) → Option WordChange
   pending_by None = None
   pending_by (Some p) = p.pending
 
 module _ {O G E R : Type 0} where
-  -- lock word: the worker that holds the lock, or none
-  abbrev pub lock_word : State O G E R → ℕ → Option ℕ
-  lock_word s l = slice_index_or s.locks l None
+  -- lock holder: the worker that holds the lock, or none
+  abbrev pub lock_holder : State O G E R → ℕ → Option ℕ
+  lock_holder s l = slice_index_or s.locks l None
 
   -- word of: the thread's word
   abbrev pub word_of : State O G E R → ℕ → Word
@@ -74,15 +74,15 @@ module _ {O G E R : Type 0} where
 
   -- holds: whether the worker took the lock and did not give it back
   abbrev pub holds : State O G E R → ℕ → ℕ → Bool
-  holds s w l = held_by (slice_get s.seats w) l
+  holds s w l = lock_held_by (slice_get s.seats w) l
 
   -- pending: the change of a word that the worker has yet to store
   abbrev pub pending : State O G E R → ℕ → Option WordChange
   pending s w = pending_by (slice_get s.seats w)
 
   -- courses: where each worker stands in its program
-  abbrev pub courses : State O G E R → List (Course O E R)
-  courses s = map course_of s.seats
+  abbrev pub courses : State O G E R → List (WorkerCourse O E R)
+  courses s = map course_of_seat s.seats
 
 module _ {O G E R : Type 0} where
   -- is entry: the entry of this number, from 1, is of this worker at this time, with this event and reply
@@ -90,18 +90,18 @@ module _ {O G E R : Type 0} where
   IsEntry s k worker now event reply = (x : Entry E R) × (slice_get s.history (s.ticket - k) ≡ Some x) × (worker ≡ x.worker) × (now ≡ x.now) × (event ≡ x.event) × (reply ≡ x.reply)
 
 module _ {H O G E R C : Type 0} (m : Means H O G E R C) where
-  -- hand of: what a worker has in hand
-  abbrev pub hand_of : Seat O E R → H
-  hand_of p = m.hand p.own
+  -- hand of seat: what a worker has in hand
+  abbrev pub hand_of_seat : Seat O E R → H
+  hand_of_seat p = m.hand p.own
 
   -- carried at: whether a worker, if there is one, has a thread in hand
   abbrev pub carried_at : Option (Seat O E R) → ℕ → Bool
   carried_at None t = false
   carried_at (Some p) t = m.carried_in (m.hand p.own) t
 
-  -- world: the values under the locks and the hands of the workers
-  abbrev pub world : State O G E R → World H G
-  world s = record { values = s.values; hands = map hand_of s.seats }
+  -- values and hands: the values under the locks and the hands of the workers
+  abbrev pub values_and_hands : State O G E R → ValuesAndHands H G
+  values_and_hands s = record { values = s.values; hands = map hand_of_seat s.seats }
 
 -- machine: what a contract sees of the step model, which is the parts that it was started with and its state
 pub record Machine (P O G E R : Type 0) : Type 0 where

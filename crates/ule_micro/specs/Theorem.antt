@@ -11,18 +11,18 @@ use Rattle.ule_micro.specs.declared.turn.Turn.{Turn}
 use Rattle.ule_micro.specs.declared.turn.Turn.TheVariants as turn
 use Rattle.ule_micro.specs.declared.word.Word.TheVariants.{Lock}
 use Rattle.ule_micro.specs.declared.word.WordChange.{WordChange}
-use Rattle.ule_micro.specs.Means.{Means, both, lock_of, stands_at}
-use Rattle.ule_micro.specs.Histories.{AreLocksFor, IsNoEarlier, Leads, latest_of}
-use Rattle.ule_micro.specs.Courses.{all_advanced, Play}
-use Rattle.ule_micro.specs.Laws.{start_of, IsEmpty}
+use Rattle.ule_micro.specs.Means.{Means, both, lock_of, stands_under}
+use Rattle.ule_micro.specs.Histories.{AreLocksFor, IsNoEarlierThanShared, Leads, latest_of}
+use Rattle.ule_micro.specs.Courses.{all_advanced, LegalPlay}
+use Rattle.ule_micro.specs.Laws.{values_and_hands_at_start, IsEmpty}
 use Rattle.ule_micro.specs.Agreement.{NamesOneHolder, ThreadAgrees}
-use Rattle.ule_micro.specs.States.{State, lock_word, word_of, holds, pending, carried_at, courses, world}
-use Rattle.ule_micro.specs.Turns.{turn_of, seated, next_command}
+use Rattle.ule_micro.specs.States.{State, lock_holder, word_of, holds, pending, carried_at, courses, values_and_hands}
+use Rattle.ule_micro.specs.Turns.{turn_of_worker, seated, next_command}
 
 module _ {H O G E R C : Type 0} (m : Means H O G E R C) where
   -- thread agrees in: a thread has one place in the state, which agrees with its word and with each change of it that is pending
   abbrev pub ThreadAgreesIn : State O G E R → ℕ → Type 0
-  ThreadAgreesIn s t = ThreadAgrees (holds s) (pending s) (λ l. stands_at m s.values l t) (λ w. carried_at m (slice_get s.seats w) t) t (word_of s t)
+  ThreadAgreesIn s t = ThreadAgrees (holds s) (pending s) (λ l. stands_under m s.values l t) (λ w. carried_at m (slice_get s.seats w) t) t (word_of s t)
 
   -- holds its locks: a worker with a change pending is leaving its last entry, and holds every lock of it
   abbrev pub HoldsItsLocks : State O G E R → ℕ → Seat O E R → Type 0
@@ -42,18 +42,18 @@ module _ {H O G E R C : Type 0} (m : Means H O G E R C) where
   pub record IsTimely (s : State O G E R) (w : ℕ) (p : Seat O E R) (held : HeldLocks) (now : ℕ) : Type 0 where
     pub past : now ≤ s.now
     pub own : 20000 + p.advanced ≤ now
-    pub no_earlier : IsNoEarlier s.history w held now
+    pub no_earlier : IsNoEarlierThanShared s.history w held now
 
   -- is at rest: a worker holds no lock, has no change pending, and has no thread in hand
   pub record IsAtRest (s : State O G E R) (w : ℕ) (p : Seat O E R) : Type 0 where
-    pub free : (l : ℕ) → lock_word s l ≢ Some w
+    pub free : (l : ℕ) → lock_holder s l ≢ Some w
     pub calm : p.pending ≡ None
     pub empty : IsEmpty m (m.hand p.own)
 
   -- lock agreement of a step state
   pub record LockAgreement (s : State O G E R) : Type 0 where
     -- each lock word is free or names one worker, and a worker holds just the locks that the steps of its present item took and did not give back
-    pub locks : (l : ℕ) → NamesOneHolder (lock_word s l) (λ w. holds s w l)
+    pub locks : (l : ℕ) → NamesOneHolder (lock_holder s l) (λ w. holds s w l)
     -- each thread has one place, under a lock or in a hand, and its word and the pending changes of its word agree with it
     pub threads : (t : ℕ) → m.declared t ≡ true → ThreadAgreesIn s t
     -- a worker with a change pending holds every lock of its event until the change is stored
@@ -70,27 +70,27 @@ module _ {H O G E R C : Type 0} (m : Means H O G E R C) where
     pub finished : (w : ℕ) (p : Seat O E R) → slice_get s.seats w ≡ Some p → p.phase ≡ phase.Finished → IsAtRest s w p
     -- the ticket is the length of the history, each entry follows from the values before it and the hand of its worker, and what the history leaves is what stands
     pub ticket : s.ticket ≡ length s.history
-    pub history : Leads m (start_of m) s.history (world m s)
+    pub history : Leads m (values_and_hands_at_start m) s.history (values_and_hands m s)
 
-  -- is legal: the play so far is a legal play of the workers' programs, in which each entry keeps the three rules of time
-  abbrev pub IsLegal : State O G E R → Type 0
-  IsLegal s = Play m s.history s.values (courses s)
+  -- has legal play: the play so far is a legal play of the workers' programs, in which each entry keeps the three rules of time
+  abbrev pub HasLegalPlay : State O G E R → Type 0
+  HasLegalPlay s = LegalPlay m s.history s.values (courses s)
 
   -- word tells place: where a worker holds a lock, has no change pending, and that lock stands in a thread's word, the thread stands under the lock
   abbrev pub WordTellsPlace : State O G E R → Type 0
-  WordTellsPlace s = (w t l : ℕ) → m.declared t ≡ true → holds s w l ≡ true → pending s w ≡ None → word_of s t ≡ Lock l → stands_at m s.values l t ≡ true
+  WordTellsPlace s = (w t l : ℕ) → m.declared t ≡ true → holds s w l ≡ true → pending s w ≡ None → word_of s t ≡ Lock l → stands_under m s.values l t ≡ true
 
-  -- moves: the worker's next turn is a step
-  abbrev pub Moves : State O G E R → ℕ → Type 0
-  Moves s w = (done : StepDone) × ((turn_of m s w).0 ≡ turn.Moved done)
+  -- steps next: the worker's next turn is a step
+  abbrev pub StepsNext : State O G E R → ℕ → Type 0
+  StepsNext s w = (done : StepDone) × ((turn_of_worker m s w).0 ≡ turn.Moved done)
 
   -- is not stuck: where some worker is unfinished, the next turn of some worker is a step
   abbrev pub IsNotStuck : State O G E R → Type 0
-  IsNotStuck s = (w : ℕ) (p : Seat O E R) → slice_get s.seats w ≡ Some p → p.phase ≢ phase.Finished → (v : ℕ) × (v < length s.seats) × Moves s v
+  IsNotStuck s = (w : ℕ) (p : Seat O E R) → slice_get s.seats w ≡ Some p → p.phase ≢ phase.Finished → (v : ℕ) × (v < length s.seats) × StepsNext s v
 
   -- is start: a state at the start, where all locks are free, each word names the lock of its thread's place, and each worker has the first item of its program
   pub record IsStart (s : State O G E R) : Type 0 where
-    pub locks : (l : ℕ) → lock_word s l ≡ None
+    pub locks : (l : ℕ) → lock_holder s l ≡ None
     pub words : (t : ℕ) → t < 256 → word_of s t ≡ Lock (m.word t)
     pub ticket : s.ticket ≡ 0
     pub now : s.now ≡ 20000

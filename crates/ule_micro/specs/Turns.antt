@@ -18,8 +18,8 @@ use Rattle.ule_micro.specs.declared.word.Word.TheVariants.{Lock, Blocked}
 use Rattle.ule_micro.specs.declared.word.WordChange.{WordChange}
 use Rattle.ule_micro.specs.declared.word.WordChange.TheVariants.{Block, Point}
 use Rattle.ule_micro.specs.Means.{Means, Needs, one, both, lock_of}
-use Rattle.ule_micro.specs.Histories.{Effect, performed}
-use Rattle.ule_micro.specs.States.{State, lock_word, word_of}
+use Rattle.ule_micro.specs.Histories.{Effect, effect_under}
+use Rattle.ule_micro.specs.States.{State, lock_holder, word_of}
 
 -- fetched: a worker's next item, or none at the end of its program, with its own part and the count of commands begun by then
 pub record Fetched (O E : Type 0) : Type 0 where
@@ -111,9 +111,9 @@ module _ {H O G E R C : Type 0} (m : Means H O G E R C) where
   abbrev pub seated : Fetched O E → ℕ → ℕ → Seat O E R
   seated f items advanced = record { own = f.own; begun = f.begun; items = items; advanced = advanced; pending = None; phase = phase_with f.item }
 
-  -- going on: the worker with its next item
-  abbrev pub going_on : ℕ → O → ℕ → Option (R × ℕ) → ℕ → ℕ → Seat O E R
-  going_on w own k told items advanced = seated (fetch own k told (drop k (m.orders w))) items advanced
+  -- seat going on: the worker with its next item
+  abbrev pub seat_going_on : ℕ → O → ℕ → Option (R × ℕ) → ℕ → ℕ → Seat O E R
+  seat_going_on w own k told items advanced = seated (fetch own k told (drop k (m.orders w))) items advanced
 
   -- advance: a worker raises the time, and goes on
   abbrev pub advance : State O G E R → ℕ → Seat O E R → ℕ → Turn × State O G E R
@@ -126,17 +126,17 @@ module _ {H O G E R C : Type 0} (m : Means H O G E R C) where
       now = s.now + k;
       values = s.values;
       history = s.history;
-      seats = slice_set s.seats w (going_on w p.own p.begun None (p.items + 1) (p.advanced + k));
+      seats = slice_set s.seats w (seat_going_on w p.own p.begun None (p.items + 1) (p.advanced + k));
     },
   )
 
-  -- entry of: the entry that an event of the worker makes
-  abbrev pub entry_of : ℕ → E → HeldLocks → ℕ → R → Entry E R
-  entry_of w e held now reply = record { worker = w; locks = held; now = now; event = e; reply = reply }
+  -- entry made: the entry that an event of the worker makes
+  abbrev pub entry_made : ℕ → E → HeldLocks → ℕ → R → Entry E R
+  entry_made w e held now reply = record { worker = w; locks = held; now = now; event = e; reply = reply }
 
-  -- leaving: a worker whose event had this effect
-  abbrev pub leaving : Seat O E R → E → HeldLocks → ℕ → Effect H G R → Seat O E R
-  leaving p e held now after = record {
+  -- seat leaving: a worker whose event had this effect
+  abbrev pub seat_leaving : Seat O E R → E → HeldLocks → ℕ → Effect H G R → Seat O E R
+  seat_leaving p e held now after = record {
     own = m.with_hand p.own after.hand;
     begun = p.begun;
     items = p.items + 1;
@@ -156,32 +156,32 @@ module _ {H O G E R C : Type 0} (m : Means H O G E R C) where
       ticket = s.ticket + 1;
       now = s.now;
       values = after.values;
-      seats = slice_set s.seats w (leaving p e held now after);
-      history = entry_of w e held now after.reply ∷ s.history;
+      seats = slice_set s.seats w (seat_leaving p e held now after);
+      history = entry_made w e held now after.reply ∷ s.history;
     },
   )
 
   -- leave: a worker whose event took effect stores its pending change, or else gives back the lock that it took last, and goes on behind the last one
   abbrev pub leave : State O G E R → ℕ → Seat O E R → R → ℕ → HeldLocks → Option WordChange → Turn × State O G E R
   leave s w p reply now held (Some change) = store s w p change
-  leave s w p reply now (One a) None = release s a w (going_on w p.own p.begun (Some (reply, now)) p.items p.advanced)
+  leave s w p reply now (One a) None = release s a w (seat_going_on w p.own p.begun (Some (reply, now)) p.items p.advanced)
   leave s w p reply now (Two a b) None = release s b w (at p (phase.Leaving reply now (One a)))
 
   -- open: the first step of an event, by what it needs
   abbrev pub open_event : State O G E R → ℕ → Seat O E R → E → Needs → Turn × State O G E R
-  open_event s w p e (one a) = take s w p a (phase.Event e (progress.Locked (One a))) (lock_word s a)
-  open_event s w p e (both a b) = take s w p a (phase.Event e (progress.Half a b)) (lock_word s a)
+  open_event s w p e (one a) = take s w p a (phase.Event e (progress.Locked (One a))) (lock_holder s a)
+  open_event s w p e (both a b) = take s w p a (phase.Event e (progress.Half a b)) (lock_holder s a)
   open_event s w p e (lock_of t) = first_read s w p e t (word_of s t)
 
   -- approach: the next step of an event on the way to its commit
   abbrev pub approach : State O G E R → ℕ → Seat O E R → E → Progress → Turn × State O G E R
   approach s w p e progress.Open = open_event s w p e (m.needs e)
-  approach s w p e (progress.Named t l) = take s w p l (phase.Event e (progress.Taken t l)) (lock_word s l)
+  approach s w p e (progress.Named t l) = take s w p l (phase.Event e (progress.Taken t l)) (lock_holder s l)
   approach s w p e (progress.Taken t l) = second_read s w p e t l (word_of s t)
   approach s w p e (progress.Stale l) = release s l w (at p (phase.Event e progress.Open))
-  approach s w p e (progress.Half a b) = take s w p b (phase.Event e (progress.Locked (Two a b))) (lock_word s b)
+  approach s w p e (progress.Half a b) = take s w p b (phase.Event e (progress.Locked (Two a b))) (lock_holder s b)
   approach s w p e (progress.Locked held) = read_now s w p e held
-  approach s w p e (progress.Timed held now) = commit s w p e held now (performed m w e now (m.hand p.own) held s.values)
+  approach s w p e (progress.Timed held now) = commit s w p e held now (effect_under m w e now (m.hand p.own) held s.values)
 
   -- step: the next step of a worker, by where it stands
   abbrev pub step_of : State O G E R → ℕ → Seat O E R → Phase E R → Turn × State O G E R
@@ -195,11 +195,11 @@ module _ {H O G E R C : Type 0} (m : Means H O G E R C) where
   turn_by s w None = (turn.Finished, s)
   turn_by s w (Some p) = step_of s w p p.phase
 
-  -- turn: what one turn of a worker does, and the state after it
-  abbrev pub turn_of : State O G E R → ℕ → Turn × State O G E R
-  turn_of s w = turn_by s w (slice_get s.seats w)
+  -- turn of worker: what one turn of a worker does, and the state after it
+  abbrev pub turn_of_worker : State O G E R → ℕ → Turn × State O G E R
+  turn_of_worker s w = turn_by s w (slice_get s.seats w)
 
   -- played: the state after these turns, one after another
   abbrev pub played : State O G E R → List ℕ → State O G E R
   played s [] = s
-  played s (w ∷ ws) = played (turn_of s w).1 ws
+  played s (w ∷ ws) = played (turn_of_worker s w).1 ws

@@ -1,7 +1,7 @@
 //! How a worker comes to the next item of its program.
 ghost use Rattle.std.specs.Prelude.{◌≡◌, ◌≤◌, ◌<◌, ◌+◌, ◌^◌, ℕ, length, drop, None};
 ghost use Rattle.ule_micro.specs.Programs.{CanBegin, CanGoOn};
-ghost use Rattle.ule_micro.specs.Turns.{fetch, next_command, going_on, phase_with};
+ghost use Rattle.ule_micro.specs.Turns.{fetch, next_command, seat_going_on, phase_with};
 
 use crate::parts::Parts;
 use crate::seat::{Phase, Progress, Seat};
@@ -82,7 +82,7 @@ pub(crate) fn go_on<P: Parts>(
     requires begun { seat.old.begun ≤ length ((P.means parts.now).orders worker) }
     requires goes_on { CanGoOn (P.means parts.now) seat.old.own told (drop seat.old.begun ((P.means parts.now).orders worker)) }
     requires calm { seat.old.pending ≡ None }
-    ensures { seat.new ≡ going_on (P.means parts.now) worker seat.old.own seat.old.begun told seat.old.items seat.old.advanced }
+    ensures { seat.new ≡ seat_going_on (P.means parts.now) worker seat.old.own seat.old.begun told seat.old.items seat.old.advanced }
 {
     let item = fetch_item(parts, worker, &mut seat.own, &mut seat.begun, told);
     seat.phase = phase_of(item);

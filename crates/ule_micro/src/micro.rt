@@ -1,8 +1,8 @@
 //! The step model: lock words, threads' words, values, and workers that step one at a time.
 ghost use Rattle.std.specs.Prelude.{◌≡◌, ◌<◌, ◌≤◌, ℕ, length, slice_get, All, None, Some, if◌then◌else◌};
-ghost use Rattle.ule_micro.specs.Kept.{IsTurned, StandsAt, TakesNext, ReleasesNext};
-ghost use Rattle.ule_micro.specs.States.{IsEntry, lock_word, pending, word_of};
-ghost use Rattle.ule_micro.specs.Theorem.{IsLegal, IsNoStep, IsNotStuck, LockAgreement, WordTellsPlace};
+ghost use Rattle.ule_micro.specs.Kept.{IsTurned, WorkerStandsAt, TakesNext, ReleasesNext};
+ghost use Rattle.ule_micro.specs.States.{IsEntry, lock_holder, pending, word_of};
+ghost use Rattle.ule_micro.specs.Theorem.{HasLegalPlay, IsNoStep, IsNotStuck, LockAgreement, WordTellsPlace};
 ghost use Rattle.ule_micro.specs.Turns.{is_named, played};
 ghost use Rattle.ule_micro.specs.declared.entry.HeldLocks.TheVariants.{One};
 ghost use Rattle.ule_micro.specs.Means.{fixed_by, lock_of};
@@ -37,14 +37,14 @@ pub struct Micro<P: Parts> {
 impl<P: Parts> Model for Micro<P> {
     ghost use Rattle.std.specs.Prelude.{◌≤◌, length, vec_capacity};
     ghost use Rattle.ule_micro.specs.States.{Machine};
-    ghost use Rattle.ule_micro.specs.Kept.{IsKept, machine_of};
+    ghost use Rattle.ule_micro.specs.Kept.{IsKeptState, machine_of};
     ghost use Rattle.ule_micro.specs.Means.{budgets};
 
     ghost Value = { Machine P P.Own P.Value P.Event P.Reply };
 
     ghost view = { λ s. machine_of s.parts s.locks.items s.words.items s.ticket s.time s.values.items s.seats.items s.history.items };
 
-    ghost invariant = { λ s. IsKept (P.means s.parts) (machine_of s.parts s.locks.items s.words.items s.ticket s.time s.values.items s.seats.items s.history.items).state × (budgets (P.means s.parts).budget (length (P.means s.parts).owns) ≤ vec_capacity s.history) };
+    ghost invariant = { λ s. IsKeptState (P.means s.parts) (machine_of s.parts s.locks.items s.words.items s.ticket s.time s.values.items s.seats.items s.history.items).state × (budgets (P.means s.parts).budget (length (P.means s.parts).owns) ≤ vec_capacity s.history) };
 }
 
 impl<P: Parts> Micro<P> {
@@ -53,13 +53,14 @@ impl<P: Parts> Micro<P> {
         requires { worker < length self.old.state.seats }
         ensures turned { IsTurned (P.means self.old.parts) self.old worker result self.new }
         ensures workers { length self.new.state.seats ≡ length self.old.state.seats }
-        ensures finished { result ≡ Turn.Finished → StandsAt self.old.state worker phase.Finished }
+        ensures finished { result ≡ Turn.Finished → WorkerStandsAt self.old.state worker phase.Finished }
         ensures unmoved { IsNoStep result → self.new.state ≡ self.old.state }
         ensures agrees { LockAgreement (P.means self.new.parts) self.new.state }
-        ensures legal { IsLegal (P.means self.new.parts) self.new.state }
+        ensures legal { HasLegalPlay (P.means self.new.parts) self.new.state }
         ensures tells { WordTellsPlace (P.means self.new.parts) self.new.state }
         ensures goes_on { IsNotStuck (P.means self.new.parts) self.new.state }
     {
+        // The reads tell the proof what the state keeps, before the turn and after it.
         let _ = &self.ticket;
         let turn = self.turn(worker);
         let _ = &self.ticket;
@@ -73,19 +74,20 @@ impl<P: Parts> Micro<P> {
         ensures workers { length self.new.state.seats ≡ length self.old.state.seats }
         ensures played { self.new.state ≡ played (P.means self.old.parts) self.old.state turns.now }
         ensures agrees { LockAgreement (P.means self.new.parts) self.new.state }
-        ensures legal { IsLegal (P.means self.new.parts) self.new.state }
+        ensures legal { HasLegalPlay (P.means self.new.parts) self.new.state }
         ensures tells { WordTellsPlace (P.means self.new.parts) self.new.state }
         ensures goes_on { IsNotStuck (P.means self.new.parts) self.new.state }
     {
         for worker in turns {
             let _ = self.advance(*worker);
         }
+        // The read tells the proof what the state keeps after the last turn.
         let _ = &self.ticket;
     }
 
     /// The worker that holds a lock; none exactly where the lock word is free.
     pub fn holder(&self, l: LockId) -> Option<u8>
-        ensures { result ≡ lock_word self.now.state l }
+        ensures { result ≡ lock_holder self.now.state l }
     {
         self.locks[l.0 as usize]
     }
@@ -145,7 +147,7 @@ impl<P: Parts> Micro<P> {
 
     /// Raises the time.
     fn raise(&mut self, worker: u8, k: u32) -> Turn
-        requires { StandsAt self.old.state worker (phase.Advance k) }
+        requires { WorkerStandsAt self.old.state worker (phase.Advance k) }
         ensures { IsTurned (P.means self.old.parts) self.old worker result self.new }
     {
         self.time += k as u64;
@@ -158,7 +160,7 @@ impl<P: Parts> Micro<P> {
 
     /// The next step of an event on the way to its commit.
     fn approach(&mut self, worker: u8, e: P::Event, way: Progress) -> Turn
-        requires { StandsAt self.old.state worker (phase.Event e way) }
+        requires { WorkerStandsAt self.old.state worker (phase.Event e way) }
         ensures { IsTurned (P.means self.old.parts) self.old worker result self.new }
     {
         match way {
@@ -177,7 +179,7 @@ impl<P: Parts> Micro<P> {
 
     /// The first step of an event: a seeker reads, any other takes its first lock.
     fn open_event(&mut self, worker: u8, e: P::Event) -> Turn
-        requires { StandsAt self.old.state worker (phase.Event e progress.Open) }
+        requires { WorkerStandsAt self.old.state worker (phase.Event e progress.Open) }
         ensures { IsTurned (P.means self.old.parts) self.old worker result self.new }
     {
         let Some(held) = self.parts.fixed(&e) else {
@@ -188,7 +190,7 @@ impl<P: Parts> Micro<P> {
 
     /// The first step of an event that doesn't seek: it takes the first of these locks.
     fn take_first(&mut self, worker: u8, e: P::Event, held: &HeldLocks) -> Turn
-        requires at { StandsAt self.old.state worker (phase.Event e progress.Open) }
+        requires at { WorkerStandsAt self.old.state worker (phase.Event e progress.Open) }
         requires fixed { Some held.now ≡ fixed_by ((P.means self.old.parts).needs e) }
         ensures { IsTurned (P.means self.old.parts) self.old worker result self.new }
     {
@@ -205,7 +207,7 @@ impl<P: Parts> Micro<P> {
 
     /// The first step of a seeking event.
     fn seek(&mut self, worker: u8, e: P::Event) -> Turn
-        requires at { StandsAt self.old.state worker (phase.Event e progress.Open) }
+        requires at { WorkerStandsAt self.old.state worker (phase.Event e progress.Open) }
         requires seeks { None ≡ fixed_by ((P.means self.old.parts).needs e) }
         ensures { IsTurned (P.means self.old.parts) self.old worker result self.new }
     {
@@ -217,7 +219,7 @@ impl<P: Parts> Micro<P> {
 
     /// A seeker's first read of the thread's word.
     fn first_read(&mut self, worker: u8, e: P::Event, t: ThreadId) -> Turn
-        requires at { StandsAt self.old.state worker (phase.Event e progress.Open) }
+        requires at { WorkerStandsAt self.old.state worker (phase.Event e progress.Open) }
         requires sought { (P.means self.old.parts).needs e ≡ lock_of t }
         ensures { IsTurned (P.means self.old.parts) self.old worker result self.new }
     {
@@ -234,7 +236,7 @@ impl<P: Parts> Micro<P> {
 
     /// A seeker's second read of the thread's word, with the lock that the first read named.
     fn second_read(&mut self, worker: u8, e: P::Event, t: ThreadId, l: LockId) -> Turn
-        requires { StandsAt self.old.state worker (phase.Event e (progress.Taken t l)) }
+        requires { WorkerStandsAt self.old.state worker (phase.Event e (progress.Taken t l)) }
         ensures { IsTurned (P.means self.old.parts) self.old worker result self.new }
     {
         let word = self.words[t.0 as usize];
@@ -274,7 +276,7 @@ impl<P: Parts> Micro<P> {
 
     /// Reads now, under all locks of the event.
     fn read_now(&mut self, worker: u8, e: P::Event, held: HeldLocks) -> Turn
-        requires { StandsAt self.old.state worker (phase.Event e (progress.Locked held)) }
+        requires { WorkerStandsAt self.old.state worker (phase.Event e (progress.Locked held)) }
         ensures { IsTurned (P.means self.old.parts) self.old worker result self.new }
     {
         let now = self.time;
@@ -285,7 +287,7 @@ impl<P: Parts> Micro<P> {
 
     /// Lets the event take effect, at the time that was read.
     fn commit(&mut self, worker: u8, e: P::Event, held: HeldLocks, now: u64) -> Turn
-        requires { StandsAt self.old.state worker (phase.Event e (progress.Timed held now)) }
+        requires { WorkerStandsAt self.old.state worker (phase.Event e (progress.Timed held now)) }
         ensures { IsTurned (P.means self.old.parts) self.old worker result self.new }
     {
         let seat = &mut self.seats[worker as usize];
@@ -303,7 +305,7 @@ impl<P: Parts> Micro<P> {
 
     /// The next step behind a commit: the pending change, or else the lock that was taken last.
     fn leave(&mut self, worker: u8, reply: P::Reply, now: u64, held: HeldLocks) -> Turn
-        requires { StandsAt self.old.state worker (phase.Leaving reply now held) }
+        requires { WorkerStandsAt self.old.state worker (phase.Leaving reply now held) }
         ensures { IsTurned (P.means self.old.parts) self.old worker result self.new }
     {
         let pending = self.seats[worker as usize].pending;
@@ -339,7 +341,7 @@ impl<P: Parts> Micro<P> {
 
     /// Gives the last lock back, and goes on to the worker's next item.
     fn release_last(&mut self, worker: u8, a: LockId, reply: P::Reply, now: u64) -> Turn
-        requires at { StandsAt self.old.state worker (phase.Leaving reply now (One a)) }
+        requires at { WorkerStandsAt self.old.state worker (phase.Leaving reply now (One a)) }
         requires calm { pending self.old.state worker ≡ None }
         ensures { IsTurned (P.means self.old.parts) self.old worker result self.new }
     {

@@ -1,8 +1,8 @@
 //! How the step model starts. All memory is taken here.
 ghost use Rattle.std.specs.Prelude.{◌≡◌, ◌<◌, ◌≤◌, ◌+◌, length, IfOk};
 ghost use Rattle.ule_micro.specs.Means.{budgets};
-ghost use Rattle.ule_micro.specs.Opening.{AreFirstSeats, AreFirstValues, AreFirstWords, AreFree, IsFirstSeat};
-ghost use Rattle.ule_micro.specs.Theorem.{IsLegal, IsNotStuck, IsStart, LockAgreement, WordTellsPlace};
+ghost use Rattle.ule_micro.specs.Opening.{AreFirstSeats, AreFirstValues, AreFirstWords, AreFreeLocks, IsFirstSeat};
+ghost use Rattle.ule_micro.specs.Theorem.{HasLegalPlay, IsNotStuck, IsStart, LockAgreement, WordTellsPlace};
 
 use crate::going::{next_item, phase_of};
 use crate::micro::Micro;
@@ -28,7 +28,7 @@ impl<P: Parts> Micro<P> {
         ensures parts { IfOk result (λ m. m.parts ≡ parts) }
         ensures start { IfOk result (λ m. IsStart (P.means parts) m.state) }
         ensures agrees { IfOk result (λ m. LockAgreement (P.means parts) m.state) }
-        ensures legal { IfOk result (λ m. IsLegal (P.means parts) m.state) }
+        ensures legal { IfOk result (λ m. HasLegalPlay (P.means parts) m.state) }
         ensures tells { IfOk result (λ m. WordTellsPlace (P.means parts) m.state) }
         ensures goes_on { IfOk result (λ m. IsNotStuck (P.means parts) m.state) }
     {
@@ -66,7 +66,7 @@ fn all_budgets<P: Parts>(parts: &P, workers: u8) -> u32
 
 /// Free lock words.
 fn free_locks(alloc: Global) -> Result<Vec<Option<u8>>, Memory>
-    ensures { IfOk result (λ v. AreFree 25 v.items) }
+    ensures { IfOk result (λ v. AreFreeLocks 25 v.items) }
 {
     let mut locks: Vec<Option<u8>> = Vec::new(alloc);
     for _lock in 0..LOCKS {

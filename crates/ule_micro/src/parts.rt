@@ -31,8 +31,8 @@ pub trait OwnPart {
 /// its programs. The members without code say what all of it means, and the laws that it keeps.
 pub trait Parts {
     ghost use Rattle.std.specs.Prelude.{◌≡◌, ◌<◌, ◌∷◌, [], ◌-◌, length, slice_get, IfOk, Option, Some};
-    ghost use Rattle.ule_micro.specs.Means.{Means, sought_by, fixed_by};
-    ghost use Rattle.ule_micro.specs.Laws.{StartsSmall, StartsSettled, MovesLittle, KeepsHands, KeepsPrograms, Readies};
+    ghost use Rattle.ule_micro.specs.Means.{Means, thread_sought_by, fixed_by};
+    ghost use Rattle.ule_micro.specs.Laws.{StartsSmall, StartsSettled, MovesLittle, KeepsHands, KeepsPrograms, ReadiesEvents};
 
     /// What a worker has in hand between two events.
     type Hand;
@@ -109,7 +109,7 @@ pub trait Parts {
 
     /// The thread that a seeking event seeks; none exactly for the others.
     fn sought(&self, e: &Self::Event) -> Option<ThreadId>
-        ensures { result ≡ sought_by ((means self.now).needs e.now) };
+        ensures { result ≡ thread_sought_by ((means self.now).needs e.now) };
 
     /// The rising locks of an event that doesn't seek; none exactly for one that does.
     fn fixed(&self, e: &Self::Event) -> Option<HeldLocks>
@@ -170,5 +170,5 @@ pub trait Parts {
     ghost keeps_programs: { (p : Self) → KeepsPrograms (means p) };
 
     /// After every history in order an event that fits may be performed.
-    ghost readies: { (p : Self) → Readies (means p) };
+    ghost readies: { (p : Self) → ReadiesEvents (means p) };
 }

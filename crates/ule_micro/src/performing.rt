@@ -1,6 +1,6 @@
 //! How an event acts on the values under its locks.
 ghost use Rattle.std.specs.Prelude.{◌<◌};
-ghost use Rattle.ule_micro.specs.Performing.{Acts, CanPerform, Performs};
+ghost use Rattle.ule_micro.specs.Performing.{Acts, CanPerform, HasEffect};
 ghost use Rattle.ule_micro.specs.declared.entry.HeldLocks.TheVariants.{One, Two};
 
 use crate::entry::HeldLocks;
@@ -41,7 +41,7 @@ fn perform<P: Parts>(
     held: &HeldLocks,
 ) -> P::Reply
     requires { CanPerform (P.means parts.now) own.old values.old.items e.now now held.now }
-    ensures { Performs (P.means parts.now) own.old values.old.items e.now now held.now own.new values.new.items result }
+    ensures { HasEffect (P.means parts.now) own.old values.old.items e.now now held.now own.new values.new.items result }
 {
     match held {
         HeldLocks::One(a) => perform_one(parts, own, values, e, now, *a),
@@ -59,7 +59,7 @@ fn perform_one<P: Parts>(
     a: LockId,
 ) -> P::Reply
     requires { CanPerform (P.means parts.now) own.old values.old.items e.now now (One a) }
-    ensures { Performs (P.means parts.now) own.old values.old.items e.now now (One a) own.new values.new.items result }
+    ensures { HasEffect (P.means parts.now) own.old values.old.items e.now now (One a) own.new values.new.items result }
 {
     let value = &mut values[a.0 as usize];
     parts.step(own, value, e, now)
@@ -76,7 +76,7 @@ fn perform_two<P: Parts>(
     b: LockId,
 ) -> P::Reply
     requires { CanPerform (P.means parts.now) own.old values.old.items e.now now (Two a b) }
-    ensures { Performs (P.means parts.now) own.old values.old.items e.now now (Two a b) own.new values.new.items result }
+    ensures { HasEffect (P.means parts.now) own.old values.old.items e.now now (Two a b) own.new values.new.items result }
 {
     let (low, high) = values.split_at_mut(b.0 as usize);
     let first = &mut low[a.0 as usize];

@@ -1,10 +1,10 @@
 -- What the scheduler of one napping thread means.
-use Rattle.std.specs.Prelude.{◌≡◌, ℕ, ◌+◌, ◌^◌, ◌<◌, ◌==◌, ◌&&◌, Bool, true, false, List, [], ◌∷◌, replicate, Option, Some, None, if◌then◌else◌}
+use Rattle.std.specs.Prelude.{◌≡◌, ℕ, ◌^◌, ◌<◌, ◌==◌, Bool, true, false, List, [], ◌∷◌, replicate, Option, Some, None, if◌then◌else◌}
 use Rattle.ule_micro.specs.declared.todo.Todo.{Todo}
 use Rattle.ule_micro.specs.declared.todo.Todo.TheVariants as todo
 use Rattle.ule_micro.specs.declared.word.WordChange.{WordChange}
 use Rattle.ule_micro.specs.declared.word.WordChange.TheVariants.{Block, Point}
-use Rattle.ule_micro.specs.Means.{Means, Needs, one, both, lock_of}
+use Rattle.ule_micro.specs.Means.{Means, Needs, one, lock_of}
 use Rattle.ule_micro_rows.specs.declared.nap.Spot.{Spot}
 use Rattle.ule_micro_rows.specs.declared.nap.Spot.TheVariants.{Empty, Awake, Asleep}
 use Rattle.ule_micro_rows.specs.declared.nap.Act.{Act}
@@ -32,12 +32,12 @@ abbrev pub carried_in : Bool → ℕ → Bool
 carried_in false t = false
 carried_in true t = t == 0
 
--- needs: the lock of the queue or of the chain, or that of the thread's place
-abbrev pub needs : Act → Needs
-needs Doze = one 0
-needs Bed = one 16
-needs Rouse = lock_of 0
-needs Land = one 0
+-- nap needs: the lock of the queue or of the chain, or that of the thread's place
+abbrev pub nap_needs : Act → Needs
+nap_needs Doze = one 0
+nap_needs Bed = one 16
+nap_needs Rouse = lock_of 0
+nap_needs Land = one 0
 
 -- fits: a thread that is put down has to be in hand
 abbrev pub Fits : Act → Bool → Type 0
@@ -66,9 +66,9 @@ change Bed Came = Some (Point 0 16)
 change Rouse Came = None
 change Land Came = Some (Point 0 0)
 
--- orders: the commands of worker 0, and those of the other
-abbrev pub orders : ℕ → List Wish
-orders w = (if w == 0 then Sleep ∷ Wait ∷ [] else Wake ∷ [])
+-- nap orders: the commands of worker 0, and those of the other
+abbrev pub nap_orders : ℕ → List Wish
+nap_orders w = (if w == 0 then Sleep ∷ Wait ∷ [] else Wake ∷ [])
 
 -- told left: the last event took the thread into the hand
 abbrev pub told_left : Option (Answer × ℕ) → Bool
@@ -77,31 +77,31 @@ told_left (Some (Left, now)) = true
 told_left (Some (Stayed, now)) = false
 told_left (Some (Came, now)) = false
 
--- item at: the next item of a command that stands there
-abbrev pub item_at : Stage → Option (Answer × ℕ) → Option (Todo Act)
-item_at Rested told = None
-item_at (Begun Sleep) told = Some (todo.Event Doze)
-item_at (Begun Wake) told = Some (todo.Event Rouse)
-item_at (Begun Wait) told = Some (todo.Advance 5)
-item_at Dozed told = (if told_left told then Some (todo.Event Bed) else None)
-item_at Roused told = (if told_left told then Some (todo.Event Land) else None)
+-- nap item: the next item of a command that stands there
+abbrev pub nap_item : Stage → Option (Answer × ℕ) → Option (Todo Act)
+nap_item Rested told = None
+nap_item (Begun Sleep) told = Some (todo.Event Doze)
+nap_item (Begun Wake) told = Some (todo.Event Rouse)
+nap_item (Begun Wait) told = Some (todo.Advance 5)
+nap_item Dozed told = (if told_left told then Some (todo.Event Bed) else None)
+nap_item Roused told = (if told_left told then Some (todo.Event Land) else None)
 
--- stage after: where the command stands then
-abbrev pub stage_after : Stage → Stage
-stage_after Rested = Rested
-stage_after (Begun Sleep) = Dozed
-stage_after (Begun Wake) = Roused
-stage_after (Begun Wait) = Rested
-stage_after Dozed = Rested
-stage_after Roused = Rested
+-- nap stage after: where the command stands then
+abbrev pub nap_stage_after : Stage → Stage
+nap_stage_after Rested = Rested
+nap_stage_after (Begun Sleep) = Dozed
+nap_stage_after (Begun Wake) = Roused
+nap_stage_after (Begun Wait) = Rested
+nap_stage_after Dozed = Rested
+nap_stage_after Roused = Rested
 
 -- napper: a worker's own part
 abbrev pub napper : ℕ → Stage → Bool → Napper
 napper number stage hand = record { number = number; stage = stage; hand = hand }
 
--- means: one thread that naps
-abbrev pub means : Means Bool Napper Spot Act Answer Wish
-means = record {
+-- nap means: one thread that naps
+abbrev pub nap_means : Means Bool Napper Spot Act Answer Wish
+nap_means = record {
   declared = is_declared;
   stands_in = stands_in;
   carried_in = carried_in;
@@ -109,11 +109,11 @@ means = record {
   owns = napper 0 Rested false ∷ napper 1 Rested false ∷ [];
   word = λ t. 0;
   budget = λ w. (if w == 0 then 3 else 2);
-  orders = orders;
+  orders = nap_orders;
   number = λ own. own.number;
   hand = λ own. own.hand;
   with_hand = λ own hand. napper own.number own.stage hand;
-  needs = needs;
+  needs = nap_needs;
   fits = λ w e hand guarded. Fits e hand;
   may = λ w e now hand guarded. Fits e hand × (now < 2 ^ 36);
   step = λ w e now hand v. acted e hand v;
@@ -122,5 +122,5 @@ means = record {
   begins = λ own order. Unit {0};
   begin = λ own order. napper own.number (Begun order) own.hand;
   goes_on = λ own told. Unit {0};
-  next = λ own told. (item_at own.stage told, napper own.number (stage_after own.stage) own.hand);
+  next = λ own told. (nap_item own.stage told, napper own.number (nap_stage_after own.stage) own.hand);
 }

@@ -1,10 +1,10 @@
 -- What the scheduler of one shifting thread means.
-use Rattle.std.specs.Prelude.{◌≡◌, ℕ, ◌+◌, ◌^◌, ◌<◌, ◌==◌, ◌&&◌, Bool, true, false, List, [], ◌∷◌, replicate, Option, Some, None, if◌then◌else◌}
+use Rattle.std.specs.Prelude.{◌≡◌, ℕ, ◌^◌, ◌<◌, ◌==◌, Bool, true, false, List, [], ◌∷◌, replicate, Option, Some, None, if◌then◌else◌}
 use Rattle.ule_micro.specs.declared.todo.Todo.{Todo}
 use Rattle.ule_micro.specs.declared.todo.Todo.TheVariants as todo
 use Rattle.ule_micro.specs.declared.word.WordChange.{WordChange}
 use Rattle.ule_micro.specs.declared.word.WordChange.TheVariants as change
-use Rattle.ule_micro.specs.Means.{Means, Needs, one, both, lock_of}
+use Rattle.ule_micro.specs.Means.{Means, Needs, both, lock_of}
 use Rattle.ule_micro_rows.specs.declared.shift.Move.{Move}
 use Rattle.ule_micro_rows.specs.declared.shift.Move.TheVariants.{Shift, Look}
 use Rattle.ule_micro_rows.specs.declared.shift.Place.{Place}
@@ -18,10 +18,10 @@ abbrev pub is_here : Bool → ℕ → Bool
 is_here false t = false
 is_here true t = t == 0
 
--- needs: both queues, or the lock of the thread's place
-abbrev pub needs : Move → Needs
-needs Shift = both 0 1
-needs Look = lock_of 0
+-- shift needs: both queues, or the lock of the thread's place
+abbrev pub shift_needs : Move → Needs
+shift_needs Shift = both 0 1
+shift_needs Look = lock_of 0
 
 -- shifted: the thread goes from the queue where it stands to the other
 abbrev pub shifted : Bool → Bool → Bool → Bool × Bool × Bool × Place
@@ -35,41 +35,45 @@ word_change First = Some (change.Point 0 0)
 word_change Second = Some (change.Point 0 1)
 word_change Same = None
 
--- orders: the commands of worker 0, and those of the other
-abbrev pub orders : ℕ → List Move
-orders w = (if w == 0 then Shift ∷ Shift ∷ Shift ∷ [] else Look ∷ Shift ∷ [])
+-- again: a move 512 times
+unfoldable pub again : Move → List Move
+again e = replicate 512 e
 
--- item at: the event of a command that was begun
-abbrev pub item_at : Point → Option (Todo Move)
-item_at Over = None
-item_at (Ready e) = Some (todo.Event e)
+-- shift orders: worker 0 shifts again and again, and the other looks, shifts once, and looks again and again
+abbrev pub shift_orders : ℕ → List Move
+shift_orders w = (if w == 0 then again Shift else Look ∷ Shift ∷ again Look)
 
--- looker: a worker's own part
-abbrev pub looker : ℕ → Point → Bool → Mover
-looker number point hand = record { number = number; point = point; hand = hand }
+-- shift item: the event of a command that was begun
+abbrev pub shift_item : Point → Option (Todo Move)
+shift_item Over = None
+shift_item (Ready e) = Some (todo.Event e)
 
--- means: one thread that is shifted
-abbrev pub means : Means Bool Mover Bool Move Place Move
-means = record {
+-- mover: a worker's own part
+abbrev pub mover : ℕ → Point → Bool → Mover
+mover number point hand = record { number = number; point = point; hand = hand }
+
+-- shift means: one thread that is shifted
+abbrev pub shift_means : Means Bool Mover Bool Move Place Move
+shift_means = record {
   declared = λ t. t == 0;
   stands_in = is_here;
   carried_in = is_here;
   values = true ∷ replicate 24 false;
-  owns = looker 0 Over false ∷ looker 1 Over false ∷ [];
+  owns = mover 0 Over false ∷ mover 1 Over false ∷ [];
   word = λ t. 0;
-  budget = λ w. (if w == 0 then 3 else 2);
-  orders = orders;
+  budget = λ w. (if w == 0 then 512 else 514);
+  orders = shift_orders;
   number = λ own. own.number;
   hand = λ own. own.hand;
-  with_hand = λ own hand. looker own.number own.point hand;
-  needs = needs;
+  with_hand = λ own hand. mover own.number own.point hand;
+  needs = shift_needs;
   fits = λ w e hand guarded. hand ≡ false;
   may = λ w e now hand guarded. (hand ≡ false) × (now < 2 ^ 36);
   step = λ w e now hand v. (hand, v, Same);
   pair = λ w e now hand v u. shifted hand v u;
   change = λ e reply. word_change reply;
   begins = λ own order. Unit {0};
-  begin = λ own order. looker own.number (Ready order) own.hand;
+  begin = λ own order. mover own.number (Ready order) own.hand;
   goes_on = λ own told. Unit {0};
-  next = λ own told. (item_at own.point, looker own.number Over own.hand);
+  next = λ own told. (shift_item own.point, mover own.number Over own.hand);
 }

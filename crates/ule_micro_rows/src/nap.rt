@@ -2,7 +2,7 @@
 //! chain, and the other way round.
 ghost use Rattle.std.specs.Prelude.{◌≡◌, Some, None, if◌then◌else◌};
 ghost use Rattle.ule_micro.specs.declared.todo.Todo.TheVariants as todo;
-ghost use Rattle.ule_micro_rows.specs.Nap.{acted, item_at, napper, stage_after, told_left};
+ghost use Rattle.ule_micro_rows.specs.Nap.{acted, nap_item, napper, nap_stage_after, told_left};
 
 use std::alloc::Global;
 use ule_io::Memory;
@@ -117,11 +117,11 @@ impl Parts for Nap {
 
     type Own = Napper;
 
-    ghost use Rattle.ule_micro_rows.specs.Nap.{means};
+    ghost use Rattle.ule_micro_rows.specs.Nap.{nap_means};
     ghost use Rattle.ule_micro_rows.specs.NapLaws.{same_hand, starts_small, starts_settled, moves_little, keeps_hands, readies};
     ghost use Rattle.ule_micro_rows.specs.NapPlays.{keeps_programs};
 
-    ghost means = { λ _. means };
+    ghost means = { λ _. nap_means };
 
     fn workers(&self) -> u8 {
         2
@@ -166,12 +166,12 @@ impl Parts for Nap {
     }
 
     fn next(&self, own: &mut Napper, last: Option<(Answer, u64)>) -> Option<Todo<Act>>
-        ensures item { result ≡ item_at own.old.stage last }
-        ensures own { own.new ≡ napper own.old.number (stage_after own.old.stage) own.old.hand }
+        ensures item { result ≡ nap_item own.old.stage last }
+        ensures own { own.new ≡ napper own.old.number (nap_stage_after own.old.stage) own.old.hand }
     {
         let stage = own.stage;
-        own.stage = stage_after(stage);
-        item_at(stage, last)
+        own.stage = nap_stage_after(stage);
+        nap_item(stage, last)
     }
 
     fn sought(&self, e: &Act) -> Option<ThreadId> {
@@ -246,8 +246,8 @@ fn acted(e: Act, hand: bool, spot: Spot) -> (bool, Spot, Answer)
 }
 
 /// Where a command stands once its next item was given.
-fn stage_after(stage: Stage) -> Stage
-    ensures { result ≡ stage_after stage }
+fn nap_stage_after(stage: Stage) -> Stage
+    ensures { result ≡ nap_stage_after stage }
 {
     match stage {
         Stage::Rested | Stage::Dozed | Stage::Roused => Stage::Rested,
@@ -258,8 +258,8 @@ fn stage_after(stage: Stage) -> Stage
 }
 
 /// The next item of a command that stands there.
-fn item_at(stage: Stage, last: Option<(Answer, u64)>) -> Option<Todo<Act>>
-    ensures { result ≡ item_at stage last }
+fn nap_item(stage: Stage, last: Option<(Answer, u64)>) -> Option<Todo<Act>>
+    ensures { result ≡ nap_item stage last }
 {
     match stage {
         Stage::Rested => None,

@@ -1,7 +1,7 @@
 //! One thread and two queues: an event under both locks moves the thread from one queue to the
 //! other, and another event seeks it.
-ghost use Rattle.std.specs.Prelude.{◌≡◌};
-ghost use Rattle.ule_micro_rows.specs.Shift.{item_at, looker};
+ghost use Rattle.std.specs.Prelude.{◌≡◌, ◌<◌, ◌-◌, slice_get};
+ghost use Rattle.ule_micro_rows.specs.Shift.{again, shift_item, mover};
 ghost use Rattle.ule_micro_rows.specs.declared.shift.Point.TheVariants.{Over};
 
 use std::alloc::Global;
@@ -9,6 +9,9 @@ use ule_io::Memory;
 use ule_micro::entry::HeldLocks;
 use ule_micro::{OwnPart, Parts, Todo, WordChange};
 use ule_prio::{LockId, ThreadId};
+
+/// How often a move stands in a list in which it stands again and again.
+const AGAIN: u32 = 512;
 
 /// An event.
 #[derive(Clone, Copy, Debug, PartialEq, Eq)]
@@ -50,8 +53,8 @@ pub struct Mover {
     pub hand: bool,
 }
 
-/// Two workers: worker 0 shifts the thread three times, and worker 1 looks at it and shifts it
-/// once.
+/// Two workers: worker 0 shifts the thread again and again, and worker 1 looks at it, shifts it
+/// once, and looks again and again.
 #[derive(Drop)]
 pub struct Shifts;
 
@@ -82,17 +85,17 @@ impl Parts for Shifts {
 
     type Own = Mover;
 
-    ghost use Rattle.ule_micro_rows.specs.Shift.{means};
+    ghost use Rattle.ule_micro_rows.specs.Shift.{shift_means};
     ghost use Rattle.ule_micro_rows.specs.ShiftLaws.{same_hand, starts_small, starts_settled, moves_little, keeps_hands, keeps_programs, readies};
 
-    ghost means = { λ _. means };
+    ghost means = { λ _. shift_means };
 
     fn workers(&self) -> u8 {
         2
     }
 
     fn budget(&self, worker: u8) -> u32 {
-        if worker == 0 { 3 } else { 2 }
+        if worker == 0 { AGAIN } else { AGAIN + 2 }
     }
 
     fn opening(&self, _alloc: Global, l: LockId) -> Result<bool, Memory> {
@@ -113,17 +116,12 @@ impl Parts for Shifts {
 
     fn order(&self, worker: u8, k: u32) -> Option<Move> {
         if worker == 0 {
-            return match k {
-                1 => Some(Move::Shift),
-                2 => Some(Move::Shift),
-                3 => Some(Move::Shift),
-                _ => None,
-            };
+            return again(Move::Shift, k);
         }
         match k {
             1 => Some(Move::Look),
             2 => Some(Move::Shift),
-            _ => None,
+            _ => again(Move::Look, k - 2),
         }
     }
 
@@ -132,8 +130,8 @@ impl Parts for Shifts {
     }
 
     fn next(&self, own: &mut Mover, _last: Option<(Place, u64)>) -> Option<Todo<Move>>
-        ensures item { result ≡ item_at own.old.point }
-        ensures own { own.new ≡ looker own.old.number Over own.old.hand }
+        ensures item { result ≡ shift_item own.old.point }
+        ensures own { own.new ≡ mover own.old.number Over own.old.hand }
     {
         let point = own.point;
         own.point = Point::Over;
@@ -203,4 +201,12 @@ impl Parts for Shifts {
     ghost keeps_programs = { λ _. keeps_programs };
 
     ghost readies = { λ _. readies };
+}
+
+/// The k-th command of a list, from 1, in which a move stands again and again.
+fn again(e: Move, k: u32) -> Option<Move>
+    requires { 0 < k }
+    ensures { result ≡ slice_get (again e) (k - 1) }
+{
+    if k <= AGAIN { Some(e) } else { None }
 }

@@ -1,10 +1,15 @@
 -- How an unborn thread is taken into a worker's hand, and how the thread in a hand goes back there or is
--- buried. The first two are this scheduler's own; the last is after thread_exit.
-use Rattle.std.specs.Prelude.{ℕ, pos, List}
+-- buried; and how a thread leaves its processor for good. The first two are this scheduler's own; the last two
+-- are after sched_throw and thread_exit.
+use Rattle.std.specs.Prelude.{ℕ, pos, List, Option, Some, None}
+use Rattle.ule_score.specs.Changes.{ran, record_after}
 use Rattle.ule_score.specs.declared.place.Place.TheVariants.{Unborn, Gone, Hand}
+use Rattle.ule_score.specs.declared.record.ThreadRecord.{ThreadRecord}
 use Rattle.ule_types.specs.declared.event.Reply.{Reply}
-use Rattle.ule_types.specs.declared.event.Reply.TheVariants.{Hatched, Returned, Buried}
-use Rattle.ule_model.specs.World.{Member, moved_to}
+use Rattle.ule_types.specs.declared.event.Reply.TheVariants.{Nothing, Hatched, Returned, Exited, Buried}
+use Rattle.ule_model.specs.Sleep.{taken}
+use Rattle.ule_model.specs.Switch.{choosing_next}
+use Rattle.ule_model.specs.World.{Member, Side, current_of, moved_to}
 
 -- the step of a hatch: the unborn thread goes to the worker's hand
 abbrev pub hatched : ℕ → ℕ → List Member → List Member × Reply
@@ -17,3 +22,20 @@ returned t members = (moved_to t Unborn (pos 0) members, Returned)
 -- the step of a burial: the thread is gone
 abbrev pub buried : ℕ → List Member → List Member × Reply
 buried t members = (moved_to t Gone (pos 0) members, Buried)
+
+-- ---- leaving for good
+
+-- what an exit tells of the thread that left with this record: its parent and its run time, and who runs now
+abbrev pub exited_reply : ThreadRecord → Option ℕ → Reply
+exited_reply r into = Exited r.id into r.parent r.hist.run
+
+-- the step of an exit that found this current thread: it goes to the worker's hand, and the next is chosen
+abbrev pub exited_with : Option Member → ℕ → ℕ → ℕ → Side → Side × Reply
+exited_with None c worker now s = (s, Nothing)
+exited_with (Some m) c worker now s =
+    let next = choosing_next c now (taken worker now ran m.thread.id s) in
+    (next.0, exited_reply (record_after s.settings now ran m.thread) next.1)
+
+-- the step of an exit of CPU c's current thread
+abbrev pub exited : ℕ → ℕ → ℕ → Side → Side × Reply
+exited c worker now s = exited_with (current_of c s.members) c worker now s

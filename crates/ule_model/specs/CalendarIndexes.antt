@@ -1,7 +1,7 @@
 -- The two indexes of a batch calendar, after tdq_runq_add, tdq_runq_rem and sched_clock.
 use Rattle.std.specs.Prelude.{ℕ, ◌+◌, ◌-◌, ◌*◌, ◌/◌, ◌%◌, Bool, not, ◌==◌, ◌&&◌, if◌then◌else◌}
 
--- how many buckets behind the insertion index a batch priority is filed: 0 to 63 over 152 to 223
+-- how many buckets ahead of the insertion index a batch priority is filed: 0 to 63 over 152 to 223
 abbrev pub reach_of : ℕ → ℕ
 reach_of p = 64 * (p - 152) / 72
 

@@ -25,7 +25,7 @@ use Rattle.ule_model.specs.Places.{is_on}
 use Rattle.ule_model.specs.Shows.{ShowsQueue}
 use Rattle.ule_model.specs.Switch.{one_more, insertion_of, is_preemption, is_unasked, started_reply}
 use Rattle.ule_model.specs.Tick.{is_due, line_after_tick, load_of, marked_at_end, word_after_tick}
-use Rattle.ule_model.specs.World.{Member, Side, current_of, is_thread}
+use Rattle.ule_model.specs.World.{Member, Side, current_of, is_numbered}
 
 -- a CPU: the record of each thread number on it, its current thread, its three queues, its numbers
 pub record CpuValue : Type 0 where
@@ -100,13 +100,13 @@ removed_from k t v = with_index_after k (with_queue k (without t (queue_of k v))
 abbrev pub in_kind : Kind → Option (ℕ × ℕ) → Option (Kind × ℕ)
 in_kind k found = option_map (λ f. (k, f.1)) found
 
-abbrev pub first_of : Option (Kind × ℕ) → Option (Kind × ℕ) → Option (Kind × ℕ)
-first_of None other = other
-first_of (Some found) other = Some found
+abbrev pub first_choice : Option (Kind × ℕ) → Option (Kind × ℕ) → Option (Kind × ℕ)
+first_choice None other = other
+first_choice (Some found) other = Some found
 
 abbrev pub first_in : CpuValue → Option (Kind × ℕ)
-first_in v = first_of (in_kind Real (first_from v.real 0))
-    (first_of (in_kind Batch (first_from v.batch v.line.ridx)) (in_kind Idle (first_from v.idle 0)))
+first_in v = first_choice (in_kind Real (first_from v.real 0))
+    (first_choice (in_kind Batch (first_from v.batch v.line.ridx)) (in_kind Idle (first_from v.idle 0)))
 
 -- the CPU with this queued thread running
 abbrev pub with_current : ℕ → Kind → ℕ → CpuValue → CpuValue
@@ -247,7 +247,7 @@ value_line v t = option_and_then (λ r. option_map (λ at. line_of r at.0 at.1) 
 
 -- thread t, if it runs or waits on CPU c
 abbrev pub thread_on : ℕ → ℕ → List Member → Option Member
-thread_on c t ms = find (λ m. is_thread t m && is_on c m.place) ms
+thread_on c t ms = find (λ m. is_numbered t m && is_on c m.place) ms
 
 -- this value is CPU v.cpu's side of a world
 pub record StandsFor (v : CpuValue) (s : Side) : Type 0 where

@@ -44,10 +44,10 @@ line_of r place pos = record {
 }
 
 -- a thread's line at the end of a whole history
-abbrev pub thread_line : List Member → Member → ThreadLine
-thread_line members m = line_of m.thread m.place (position_of m.place m.order members)
+abbrev pub final_line : List Member → Member → ThreadLine
+final_line members m = line_of m.thread m.place (position_of m.place m.order members)
 
 -- the lines of all threads, in rising number
 abbrev pub thread_lines : List Member → List ThreadLine
 thread_lines members =
-    filter_map (λ t. option_map (thread_line members) (thread_of t members)) (range_with_len 0 256)
+    filter_map (λ t. option_map (final_line members) (thread_of t members)) (range_with_len 0 256)

@@ -64,14 +64,14 @@ abbrev pub opening_of : Setup → List (List Command) → ℕ → Course
 opening_of s lists worker = course_of (own_of s.jitter s.cpus worker) (slice_index_or lists worker [])
 
 -- a worker's entries are the first of the program of its list
-pub record Begins (s : Setup) (lists : List (List Command)) (es : List Timed) (worker : ℕ) : Type 0 where
+pub record BeginsProgram (s : Setup) (lists : List (List Command)) (es : List Timed) (worker : ℕ) : Type 0 where
   pub end : Course
   pub total : ℕ
   pub performs : Performs (opening_of s lists worker) 0 (entries_of worker es) end total
 
 -- a worker's entries are those of the whole program of its list
 pub record Completes (s : Setup) (lists : List (List Command)) (es : List Timed) (worker : ℕ) : Type 0 where
-  pub begins : Begins s lists es worker
+  pub begins : BeginsProgram s lists es worker
   pub finished : next_step begins.end ≡ None
 
 -- ---- times
@@ -133,7 +133,7 @@ pub record IsLegal (s : Setup) (lists : List (List Command)) (es : List Entry) :
   pub entries : map (λ x. x.entry) timed ≡ es
   pub workers : AllByRecursion (λ e. e.worker < s.cpus) es
   pub replies : IsReplayed (world_at_start s) es
-  pub programs : (worker : ℕ) → worker < s.cpus → Begins s lists timed worker
+  pub programs : (worker : ℕ) → worker < s.cpus → BeginsProgram s lists timed worker
   pub times : KeepsTime (world_at_start s) timed (amount_in_all lists)
 
 -- a whole history: every worker's list is done to its end

@@ -20,6 +20,8 @@ pub mod Ends
 pub mod Shows
 pub mod WellMade
 pub mod CpuValue
+pub mod CpuChange
+pub mod PriorityChange
 pub mod CpuStart
 pub mod Conditions
 pub mod Frames

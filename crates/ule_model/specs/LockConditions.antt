@@ -6,6 +6,7 @@ use Rattle.ule_sleep.specs.Chain.{ChainValue, standing_in}
 use Rattle.ule_sleep.specs.Limbo.{HasUnborn, LimboValue}
 use Rattle.ule_types.specs.declared.event.Event.{Event}
 use Rattle.ule_types.specs.declared.event.Event.TheVariants.{Bed, Hatch, Land}
+use Rattle.ule_model.specs.Conditions.{HasSoundNumbers}
 use Rattle.ule_model.specs.CpuValue.{CpuValue, IsNoEarlier, thread_in}
 use Rattle.ule_model.specs.LockValue.{LockValue, chain, limbo, nothing, queue}
 use Rattle.ule_model.specs.Start.{starting_time}
@@ -20,6 +21,7 @@ pub record CanStepQueue (v : CpuValue) (hand : Option ThreadRecord) (e : Event) 
   pub time : IsTime now
   pub in_time : IsNoEarlier v now
   pub absent : IfSome hand (λ r. thread_in v r.id ≡ None)
+  pub numbers : HasSoundNumbers e
   pub cpu : (t c : ℕ) → e ≡ Land t c → v.cpu ≡ c
 
 -- on a chain: a bed names one of its channels, and the thread in the hand doesn't sleep on it
@@ -27,11 +29,13 @@ pub record CanStepChain (v : ChainValue) (hand : Option ThreadRecord) (e : Event
   pub time : IsTime now
   pub in_time : (t : ℕ) → IfSome (standing_in v.slots t) (λ s. IsBy now s.thread)
   pub absent : IfSome hand (λ r. standing_in v.slots r.id ≡ None)
+  pub numbers : HasSoundNumbers e
   pub channel : (t channel : ℕ) → e ≡ Bed t channel → channel % 8 ≡ v.number
 
 -- on limbo: a hatch names an unborn thread, and the thread in the hand isn't there
 pub record CanStepLimbo (v : LimboValue) (hand : Option ThreadRecord) (e : Event) : Type 0 where
   pub absent : IfSome hand (λ r. standing_in v.slots r.id ≡ None)
+  pub numbers : HasSoundNumbers e
   pub unborn : (t : ℕ) → e ≡ Hatch t → HasUnborn v t
 
 -- what the step under one lock needs

@@ -16,12 +16,12 @@ by_order [] = []
 by_order (m ∷ ms) = with_ordered m (by_order ms)
 
 -- the numbers of threads
-abbrev pub ids_of : List Member → List ℕ
-ids_of ms = map (λ m. m.thread.id) ms
+abbrev pub numbers_of : List Member → List ℕ
+numbers_of ms = map (λ m. m.thread.id) ms
 
 -- the numbers in bucket b of CPU c's queue of kind k, from its head
 abbrev pub bucket_ids : ℕ → Kind → ℕ → List Member → List ℕ
-bucket_ids c k b ms = ids_of (by_order (members_in c k b ms))
+bucket_ids c k b ms = numbers_of (by_order (members_in c k b ms))
 
 -- these 64 lists are the buckets of CPU c's queue of kind k
 pub record ShowsQueue (lists : List (List ℕ)) (c : ℕ) (k : Kind) (ms : List Member) : Type 0 where

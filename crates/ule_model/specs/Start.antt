@@ -115,15 +115,15 @@ abbrev pub balance_count : ℕ → ℕ
 balance_count word = 64 + word / 2 ^ 25
 
 -- CPU 0's numbers at the start
-abbrev pub first_line : ℕ → CpuLine
-first_line jitter = record fresh_line { balance = balance_count (first_balance_word jitter) }
+abbrev pub start_line : ℕ → CpuLine
+start_line jitter = record fresh_line { balance = balance_count (first_balance_word jitter) }
 
 -- the world before any thread is laid
 abbrev pub empty_world : Setup → World
 empty_world s = record {
   settings = s.settings;
   members = [];
-  lines = slice_set (replicate s.cpus fresh_line) 0 (first_line s.jitter);
+  lines = slice_set (replicate s.cpus fresh_line) 0 (start_line s.jitter);
   balance_word = first_balance_word s.jitter;
 }
 

@@ -1,23 +1,34 @@
--- The step of the sequential scheduler: what each event does to the world, and what it answers.
-use Rattle.std.specs.Prelude.{ℕ, List}
+-- The step of the sequential scheduler: what each event does to the world, and what it does to the value under its
+-- lock and the worker's hand; and what it answers.
+use Rattle.std.specs.Prelude.{ℕ, false, List, ◌≡◌, ◌+◌, ◌%◌, ◌<◌, ◌≤◌, not, ◌==◌, Option, Some, None}
 use Rattle.ule_types.specs.declared.event.Event.{Event}
 use Rattle.ule_types.specs.declared.event.Event.TheVariants.{Tick, Switch, Drop, Bed, Wake, Look, Land, Move, Lend, Unlend, Renice, Hatch, Fork, Return, Exit, Bury, Inherit}
 use Rattle.ule_types.specs.declared.event.Reply.{Reply}
-use Rattle.ule_types.specs.declared.event.Reply.TheVariants.{Nothing}
-use Rattle.ule_model.specs.Birth.{buried, hatched, returned}
+use Rattle.ule_types.specs.declared.event.Reply.TheVariants.{Nothing, Dropped, Bedded, NotAsleep, Landed, Changed, Hatched, Returned, Buried}
+use Rattle.ule_model.specs.Birth.{buried, exited, exited_reply, hatched, returned}
+use Rattle.ule_model.specs.CpuChange.{forked_reply, value_changed, value_forked}
 use Rattle.ule_model.specs.Landing.{landed}
-use Rattle.ule_model.specs.Sleep.{bedded, dropped, woken}
+use Rattle.ule_model.specs.Sleep.{bedded, dropped, woken, woken_reply}
 use Rattle.ule_model.specs.Switch.{switched}
 use Rattle.ule_model.specs.Tick.{ticked}
-use Rattle.ule_model.specs.World.{Member, Side, World, side_of, with_side}
+use Rattle.ule_model.specs.PriorityChange.{forked_on, gone_answer, thread_changed, unborn_answer}
+use Rattle.ule_model.specs.World.{World, on_members, on_side}
+use Rattle.ule_prio.specs.Kind.{kind_at}
+use Rattle.ule_score.specs.Changes.{after_change, ran, record_after, sleeps, woken as woken_change}
+use Rattle.ule_score.specs.declared.place.Place.{Place}
+use Rattle.ule_score.specs.declared.place.Place.TheVariants.{Running, Queued, Asleep, Unborn, Gone, Hand}
+use Rattle.ule_score.specs.declared.record.Change.{Change}
+use Rattle.ule_score.specs.declared.record.Change.TheVariants as change
+use Rattle.ule_score.specs.declared.record.Settings.{Settings}
+use Rattle.ule_score.specs.declared.record.ThreadRecord.{ThreadRecord}
+use Rattle.ule_sleep.specs.Chain.{ChainValue, standing_in, with_sleeper, with_sleeper_changed, without_sleeper}
+use Rattle.ule_sleep.specs.Limbo.{LimboValue, with_still, with_still_changed, without_still}
+use Rattle.ule_threads.specs.declared.standing.Standing.{Standing}
+use Rattle.ule_model.specs.CpuValue.{CpuValue, Taken, takes_over_in, value_added, value_switched, value_taken, value_ticked}
+use Rattle.ule_model.specs.Insertion.{Ordinary, bucket_of}
+use Rattle.ule_model.specs.LockValue.{LockValue, queue, chain, limbo, nothing, found_on}
 
--- a step under the queue lock of CPU c
-abbrev pub on_side : ℕ → (Side → Side × Reply) → World → World × Reply
-on_side c change w = let done = change (side_of c w) in (with_side c done.0 w, done.1)
-
--- a step that moves a thread to or from a place on no CPU
-abbrev pub on_members : (List Member → List Member × Reply) → World → World × Reply
-on_members change w = let done = change w.members in (record w { members = done.0 }, done.1)
+-- ---- the step on a world
 
 -- an event that has no step yet changes nothing; no command makes one
 abbrev pub not_built : World → World × Reply
@@ -33,12 +44,192 @@ step w worker (Wake t) now = on_members (woken t worker now w.settings) w
 step w worker (Look c) now = not_built w
 step w worker (Land t c) now = on_side c (landed t c worker now) w
 step w worker (Move a b why) now = not_built w
-step w worker (Lend t p) now = not_built w
-step w worker (Unlend t) now = not_built w
-step w worker (Renice t n) now = not_built w
+step w worker (Lend t p) now = thread_changed t (change.Lend p) worker w
+step w worker (Unlend t) now = thread_changed t change.Unlend worker w
+step w worker (Renice t n) now = thread_changed t (change.Renice n) worker w
 step w worker (Hatch t) now = on_members (hatched t worker) w
-step w worker (Fork c t) now = not_built w
+step w worker (Fork c t) now = on_side c (forked_on c t now) w
 step w worker (Return t) now = on_members (returned t) w
-step w worker (Exit c) now = not_built w
+step w worker (Exit c) now = on_side c (exited c worker now) w
 step w worker (Bury t) now = on_members (buried t) w
-step w worker (Inherit t run) now = not_built w
+step w worker (Inherit t run) now = thread_changed t (change.Inherit run) worker w
+
+-- ---- the step under a lock
+
+-- what an event makes of the hand, the value and the reply
+pub record Stepped : Type 0 where
+  pub hand : Option ThreadRecord
+  pub value : LockValue
+  pub reply : Reply
+
+-- ---- the events of a CPU
+
+-- nothing changes
+abbrev pub kept : Option ThreadRecord → LockValue → Reply → Stepped
+kept hand value reply = record { hand = hand; value = value; reply = reply }
+
+-- an event that leaves the hand
+abbrev pub queue_stepped : Option ThreadRecord → CpuValue × Reply → Stepped
+queue_stepped hand made = record { hand = hand; value = queue made.0; reply = made.1 }
+
+-- a drop: the thread that left goes to the hand
+abbrev pub queue_dropped : Option ThreadRecord → CpuValue × Option Taken → Stepped
+queue_dropped hand (made, None) = kept hand (queue made) Nothing
+queue_dropped hand (made, Some out) = record { hand = Some out.thread; value = queue made; reply = Dropped out.thread.id out.into }
+
+-- an exit: the thread that left goes to the hand
+abbrev pub queue_exited : Option ThreadRecord → CpuValue × Option Taken → Stepped
+queue_exited hand (made, None) = kept hand (queue made) Nothing
+queue_exited hand (made, Some out) = record { hand = Some out.thread; value = queue made; reply = exited_reply out.thread out.into }
+
+-- a fork: the thread in the hand becomes the child of the current thread
+abbrev pub queue_forked : ℕ → Option ThreadRecord → CpuValue → Stepped
+queue_forked now None v = kept None (queue v) Nothing
+queue_forked now (Some child) v =
+    let done = value_forked now child v in
+    record { hand = Some done.child; value = queue done.value; reply = forked_reply done.parent done.child }
+
+-- a landing: the thread in the hand comes to the CPU, asked for by a worker
+abbrev pub queue_landed : ℕ → Option ThreadRecord → CpuValue → Stepped
+queue_landed worker None v = kept None (queue v) Nothing
+queue_landed worker (Some r) v =
+    let remote = not (worker == v.cpu) in record {
+      hand = None;
+      value = queue (value_added r remote v);
+      reply = Landed (kind_at r.priority) (bucket_of (kind_at r.priority) Ordinary v.line r.priority) (takes_over_in r.priority remote v);
+    }
+
+-- ---- the events of a chain
+
+-- a bed: the thread in the hand falls asleep
+abbrev pub chain_bedded : ℕ → Option ThreadRecord → ChainValue → Stepped
+chain_bedded channel None v = kept None (chain v) Nothing
+chain_bedded channel (Some r) v = record { hand = None; value = chain (with_sleeper r channel v); reply = Bedded }
+
+-- a wake of this sleeper, if it sleeps here: it goes to the hand
+abbrev pub chain_woken : Settings → ℕ → ℕ → Option ThreadRecord → Option Standing → ChainValue → Stepped
+chain_woken settings now t hand None v = kept hand (chain v) Nothing
+chain_woken settings now t hand (Some s) v =
+    let r = record_after settings now woken_change s.thread in
+    record { hand = Some r; value = chain (without_sleeper t v); reply = woken_reply r }
+
+-- a change of this sleeper's priority, if it sleeps here
+abbrev pub chain_changed : Settings → Change → ℕ → Option ThreadRecord → Option Standing → ChainValue → Stepped
+chain_changed settings given t hand None v = kept hand (chain v) Nothing
+chain_changed settings given t hand (Some s) v =
+    kept hand (chain (with_sleeper_changed settings given t v)) (Changed (after_change settings given s.thread).priority false false)
+
+-- a wake of a thread that stands elsewhere
+abbrev pub not_asleep : Option Standing → Reply
+not_asleep None = Nothing
+not_asleep (Some s) = NotAsleep s.place
+
+-- ---- the events of limbo
+
+-- a hatch: the unborn thread goes to the hand
+abbrev pub limbo_hatched : ℕ → Option ThreadRecord → Option Standing → LimboValue → Stepped
+limbo_hatched t hand None v = kept hand (limbo v) Nothing
+limbo_hatched t hand (Some s) v = record { hand = Some s.thread; value = limbo (without_still t v); reply = Hatched }
+
+-- a return: the thread in the hand is unborn again
+abbrev pub limbo_returned : Option ThreadRecord → LimboValue → Stepped
+limbo_returned None v = kept None (limbo v) Nothing
+limbo_returned (Some r) v = record { hand = None; value = limbo (with_still r Unborn v); reply = Returned }
+
+-- a burial: the thread in the hand is gone
+abbrev pub limbo_buried : Option ThreadRecord → LimboValue → Stepped
+limbo_buried None v = kept None (limbo v) Nothing
+limbo_buried (Some r) v = record { hand = None; value = limbo (with_still r Gone v); reply = Buried }
+
+-- a change of this unborn thread's priority, unless it is answered so
+abbrev pub limbo_changed_unborn : Option Reply → Settings → Change → ℕ → Option ThreadRecord → ThreadRecord → LimboValue → Stepped
+limbo_changed_unborn None settings given t hand r v =
+    kept hand (limbo (with_still_changed settings given t v)) (Changed (after_change settings given r).priority false false)
+limbo_changed_unborn (Some refusal) settings given t hand r v = kept hand (limbo v) refusal
+
+-- a change of the priority of a thread at this place
+abbrev pub limbo_changed_at : Place → Settings → Change → ℕ → Option ThreadRecord → ThreadRecord → LimboValue → Stepped
+limbo_changed_at Unborn settings given t hand r v = limbo_changed_unborn (unborn_answer given) settings given t hand r v
+limbo_changed_at Gone settings given t hand r v = kept hand (limbo v) (gone_answer given)
+limbo_changed_at (Running c) settings given t hand r v = kept hand (limbo v) Nothing
+limbo_changed_at (Queued c k b) settings given t hand r v = kept hand (limbo v) Nothing
+limbo_changed_at (Asleep channel) settings given t hand r v = kept hand (limbo v) Nothing
+limbo_changed_at (Hand w) settings given t hand r v = kept hand (limbo v) Nothing
+
+-- a change of this thread's priority, if it is here
+abbrev pub limbo_changed : Settings → Change → ℕ → Option ThreadRecord → Option Standing → LimboValue → Stepped
+limbo_changed settings given t hand None v = kept hand (limbo v) Nothing
+limbo_changed settings given t hand (Some s) v = limbo_changed_at s.place settings given t hand s.thread v
+
+-- ---- the step under one lock
+
+-- an event on a CPU
+abbrev pub queue_step : ℕ → Event → ℕ → Option ThreadRecord → CpuValue → Stepped
+queue_step worker (Tick c) now hand v = queue_stepped hand (value_ticked now v)
+queue_step worker (Switch c why) now hand v = queue_stepped hand (value_switched why now v)
+queue_step worker (Drop c channel) now hand v = queue_dropped hand (value_taken sleeps now v)
+queue_step worker (Bed t channel) now hand v = kept hand (queue v) Nothing
+queue_step worker (Wake t) now hand v = kept hand (queue v) (not_asleep (found_on v t))
+queue_step worker (Look c) now hand v = kept hand (queue v) Nothing
+queue_step worker (Land t c) now hand v = queue_landed worker hand v
+queue_step worker (Move a b why) now hand v = kept hand (queue v) Nothing
+queue_step worker (Lend t p) now hand v = queue_stepped hand (value_changed t (change.Lend p) (not (worker == v.cpu)) v)
+queue_step worker (Unlend t) now hand v = queue_stepped hand (value_changed t change.Unlend (not (worker == v.cpu)) v)
+queue_step worker (Renice t n) now hand v = queue_stepped hand (value_changed t (change.Renice n) (not (worker == v.cpu)) v)
+queue_step worker (Hatch t) now hand v = kept hand (queue v) Nothing
+queue_step worker (Fork c t) now hand v = queue_forked now hand v
+queue_step worker (Return t) now hand v = kept hand (queue v) Nothing
+queue_step worker (Exit c) now hand v = queue_exited hand (value_taken ran now v)
+queue_step worker (Bury t) now hand v = kept hand (queue v) Nothing
+queue_step worker (Inherit t run) now hand v = queue_stepped hand (value_changed t (change.Inherit run) (not (worker == v.cpu)) v)
+
+-- an event on a sleep chain
+abbrev pub chain_step : Settings → Event → ℕ → Option ThreadRecord → ChainValue → Stepped
+chain_step settings (Tick c) now hand v = kept hand (chain v) Nothing
+chain_step settings (Switch c why) now hand v = kept hand (chain v) Nothing
+chain_step settings (Drop c channel) now hand v = kept hand (chain v) Nothing
+chain_step settings (Bed t channel) now hand v = chain_bedded channel hand v
+chain_step settings (Wake t) now hand v = chain_woken settings now t hand (standing_in v.slots t) v
+chain_step settings (Look c) now hand v = kept hand (chain v) Nothing
+chain_step settings (Land t c) now hand v = kept hand (chain v) Nothing
+chain_step settings (Move a b why) now hand v = kept hand (chain v) Nothing
+chain_step settings (Lend t p) now hand v = chain_changed settings (change.Lend p) t hand (standing_in v.slots t) v
+chain_step settings (Unlend t) now hand v = chain_changed settings change.Unlend t hand (standing_in v.slots t) v
+chain_step settings (Renice t n) now hand v = chain_changed settings (change.Renice n) t hand (standing_in v.slots t) v
+chain_step settings (Hatch t) now hand v = kept hand (chain v) Nothing
+chain_step settings (Fork c t) now hand v = kept hand (chain v) Nothing
+chain_step settings (Return t) now hand v = kept hand (chain v) Nothing
+chain_step settings (Exit c) now hand v = kept hand (chain v) Nothing
+chain_step settings (Bury t) now hand v = kept hand (chain v) Nothing
+chain_step settings (Inherit t run) now hand v = chain_changed settings (change.Inherit run) t hand (standing_in v.slots t) v
+
+-- an event on limbo
+abbrev pub limbo_step : Settings → Event → Option ThreadRecord → LimboValue → Stepped
+limbo_step settings (Tick c) hand v = kept hand (limbo v) Nothing
+limbo_step settings (Switch c why) hand v = kept hand (limbo v) Nothing
+limbo_step settings (Drop c channel) hand v = kept hand (limbo v) Nothing
+limbo_step settings (Bed t channel) hand v = kept hand (limbo v) Nothing
+limbo_step settings (Wake t) hand v = kept hand (limbo v) (not_asleep (standing_in v.slots t))
+limbo_step settings (Look c) hand v = kept hand (limbo v) Nothing
+limbo_step settings (Land t c) hand v = kept hand (limbo v) Nothing
+limbo_step settings (Move a b why) hand v = kept hand (limbo v) Nothing
+limbo_step settings (Lend t p) hand v = limbo_changed settings (change.Lend p) t hand (standing_in v.slots t) v
+limbo_step settings (Unlend t) hand v = limbo_changed settings change.Unlend t hand (standing_in v.slots t) v
+limbo_step settings (Renice t n) hand v = limbo_changed settings (change.Renice n) t hand (standing_in v.slots t) v
+limbo_step settings (Hatch t) hand v = limbo_hatched t hand (standing_in v.slots t) v
+limbo_step settings (Fork c t) hand v = kept hand (limbo v) Nothing
+limbo_step settings (Return t) hand v = limbo_returned hand v
+limbo_step settings (Exit c) hand v = kept hand (limbo v) Nothing
+limbo_step settings (Bury t) hand v = limbo_buried hand v
+limbo_step settings (Inherit t run) hand v = limbo_changed settings (change.Inherit run) t hand (standing_in v.slots t) v
+
+-- the step of an event under one lock
+abbrev pub lock_step : Settings → ℕ → Event → ℕ → Option ThreadRecord → LockValue → Stepped
+lock_step settings worker e now hand (queue v) = queue_step worker e now hand v
+lock_step settings worker e now hand (chain v) = chain_step settings e now hand v
+lock_step settings worker e now hand (limbo v) = limbo_step settings e hand v
+lock_step settings worker e now hand nothing = kept hand nothing Nothing
+
+-- the step of an event under two locks: no event under two has one yet
+abbrev pub pair_step : Settings → ℕ → Event → ℕ → LockValue → LockValue → LockValue × LockValue × Reply
+pair_step settings worker e now first second = (first, second, Nothing)

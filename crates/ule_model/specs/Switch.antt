@@ -1,5 +1,6 @@
 -- The switch of a CPU, after sched_switch and choosethread; and how a thread leaves its place on a CPU.
 use Rattle.std.specs.Prelude.{ℕ, ◌+◌, ◌-◌, ◌^◌, min, Bool, false, not, ◌==◌, pos, List, length, Option, Some, None, if◌then◌else◌}
+pub use Rattle.ule_io.specs.Counter.{one_more}
 use Rattle.ule_prio.specs.declared.kind.Kind.{Kind}
 use Rattle.ule_prio.specs.declared.kind.Kind.TheVariants.{Real, Batch, Idle}
 use Rattle.ule_score.specs.Changes.{RecordChange, ran, runs}
@@ -15,10 +16,6 @@ use Rattle.ule_model.specs.Choice.{choice_of}
 use Rattle.ule_model.specs.Insertion.{Insertion, Ordinary, Preempted, members_in, queued}
 use Rattle.ule_model.specs.World.{Member, Side, current_of, moved_to, others, with_change}
 
--- a count after one more; it stands still at its type's end
-abbrev pub one_more : ℕ → ℕ
-one_more n = min (n + 1) (2 ^ 64 - 1)
-
 -- ---- leaving a place
 
 -- the numbers of CPU c after a thread left the calendar, where these threads are left
@@ -27,14 +24,14 @@ after_batch_removal c line left =
     record line { ridx = ridx_after_removal line.idx line.ridx (length (members_in c Batch line.ridx left) == 0) }
 
 -- the numbers of CPU c after a thread left its queue of this kind
-abbrev pub after_removal : Kind → ℕ → CpuLine → List Member → CpuLine
-after_removal Real c line left = line
-after_removal Batch c line left = after_batch_removal c line left
-after_removal Idle c line left = line
+abbrev pub after_queue_removal : Kind → ℕ → CpuLine → List Member → CpuLine
+after_queue_removal Real c line left = line
+after_queue_removal Batch c line left = after_batch_removal c line left
+after_queue_removal Idle c line left = line
 
 -- the numbers of CPU c after a thread left this place
 abbrev pub after_leaving : Place → ℕ → CpuLine → List Member → CpuLine
-after_leaving (Queued d k b) c line left = after_removal k c line left
+after_leaving (Queued d k b) c line left = after_queue_removal k c line left
 after_leaving (Running d) c line left = line
 after_leaving (Asleep channel) c line left = line
 after_leaving Unborn c line left = line

@@ -19,7 +19,8 @@ use Rattle.ule_model.specs.Events.{Locking, locking, place_of, queues}
 use Rattle.ule_model.specs.Events as events
 use Rattle.ule_model.specs.Finals.{line_of}
 use Rattle.ule_model.specs.Frames.{thread_in_hand, thread_under}
-use Rattle.ule_model.specs.LockValue.{LockValue, Stepped, chain, has_under, limbo, line_under, lock_step, nothing, queue}
+use Rattle.ule_model.specs.LockValue.{LockValue, chain, has_under, limbo, line_under, nothing, queue}
+use Rattle.ule_model.specs.Step.{Stepped, lock_step}
 use Rattle.ule_model.specs.Step.{step}
 use Rattle.ule_model.specs.WellMade.{HaveIndexes, IsWellMade}
 use Rattle.ule_model.specs.World.{Member, World, side_of}

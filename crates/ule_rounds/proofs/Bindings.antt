@@ -1,5 +1,5 @@
 -- The CPUs that threads are bound to: no change binds a thread to another CPU.
-use Rattle.std.proofs.Common.{◌≡◌, ℕ, ◌-◌, ◌*◌, ◌<◌, ◌==◌, Bool, true, false, List, Option, Some, None, IfSome, if◌then◌else◌, refl, sym, ◌∙◌, subst}
+use Rattle.std.proofs.Common.{◌≡◌, ℕ, ◌-◌, ◌*◌, ◌==◌, Bool, true, false, None, IfSome, if◌then◌else◌, refl, sym, ◌∙◌, subst}
 use Rattle.std.specs.List.{AllByRecursion}
 use Rattle.ule_history.specs.CpuUseUpdate.{updated_use}
 use Rattle.ule_history.specs.HistoryUpdate.{charged_history, rested_history}
@@ -10,19 +10,12 @@ use Rattle.ule_score.specs.Changes.{RecordChange, after_sleep, changed, charged_
 use Rattle.ule_score.specs.declared.record.Change.TheVariants.{Lend, Unlend, Renice, Inherit}
 use Rattle.ule_score.specs.declared.record.Settings.{Settings}
 use Rattle.ule_score.specs.declared.record.ThreadRecord.{ThreadRecord}
-use Rattle.ule_score.specs.declared.place.Place.{Place}
-use Rattle.ule_score.specs.declared.place.Place.TheVariants.{Running, Queued, Asleep, Unborn, Gone, Hand}
 use Rattle.ule_types.specs.declared.event.Event.{Event}
-use Rattle.ule_types.specs.declared.stage.Stage.TheVariants as stage
 use Rattle.ule_model.specs.Conditions.{IsPossible}
-use Rattle.ule_model.specs.Program.{Stage, landing_cpu}
-use Rattle.ule_model.specs.Sleep.{woken as woken_of, woken_at, woken_with}
 use Rattle.ule_model.specs.Step.{step}
 use Rattle.ule_model.specs.WellMade.{IsWellMadeWorld}
-use Rattle.ule_model.specs.World.{Member, World, thread_of}
-use Rattle.ule_members.proofs.Membership.{all_has, has_thread_of}
+use Rattle.ule_model.specs.World.{World}
 use Rattle.ule_members.proofs.Numbered.{step_records}
-use Rattle.ule_rounds.proofs.Stages.{AtItem, IsSoundReply, LandsWithin}
 
 -- ---- one record
 
@@ -86,41 +79,3 @@ pub step_binds : (P : ℕ → Type 0) (w : World) (worker : ℕ) (e : Event) (no
     AllByRecursion (λ m. IfSome m.thread.bound P) w.members → AllByRecursion (λ m. IfSome m.thread.bound P) (step w worker e now).0.members
 step_binds P w worker e now made can all =
     step_records w worker e now made can (λ r. IfSome r.bound P) (λ change r sound binds. change_binds P w.settings now change r binds) all
-
--- ---- where a woken thread lands
-
--- a thread that is bound to one of so many CPUs, or to none, lands on one of them
-pub landing_within : (cpus : ℕ) (bound : Option ℕ) → 0 < cpus → IfSome bound (λ c. c < cpus) → landing_cpu bound < cpus
-landing_within cpus None some within = some
-landing_within cpus (Some c) some within = within
-
--- the reply of a wake says that the thread lands on one of them
-wake_lands : (cpus now t worker : ℕ) (settings : Settings) (ms : List Member) → 0 < cpus → AllByRecursion (λ m. IfSome m.thread.bound (λ c. c < cpus)) ms →
-    LandsWithin cpus (woken_of t worker now settings ms).1
-wake_lands cpus now t worker settings ms some bound = at_thread (thread_of t ms) refl
-  where
-    at_place : (m : Member) → thread_of t ms ≡ Some m → (place : Place) → LandsWithin cpus (woken_at place worker now settings m ms).1
-    at_place m found (Asleep channel) =
-        landing_within cpus (after_sleep settings now m.thread).bound some
-        (change_binds (λ c. c < cpus) settings now woken m.thread (all_has (λ n. IfSome n.thread.bound (λ c. c < cpus)) m ms bound (has_thread_of t m ms found).0))
-    at_place m found (Running c) = tt
-    at_place m found (Queued c k b) = tt
-    at_place m found Unborn = tt
-    at_place m found Gone = tt
-    at_place m found (Hand w) = tt
-
-    at_thread : (o : Option Member) → thread_of t ms ≡ o → LandsWithin cpus (woken_with o worker now settings ms).1
-    at_thread None none = tt
-    at_thread (Some m) found = at_place m found m.place
-
--- the reply to the event at a stage makes the next stage sound
-pub step_replies : (cpus : ℕ) (w : World) (worker now : ℕ) (st : Stage) → 0 < cpus → AllByRecursion (λ m. IfSome m.thread.bound (λ c. c < cpus)) w.members →
-    AtItem worker st (λ e. IsSoundReply cpus st (step w worker e now).1) (λ k. Unit {0})
-step_replies cpus w worker now stage.Ended some bound = tt
-step_replies cpus w worker now stage.Ticks some bound = tt
-step_replies cpus w worker now (stage.Advances k) some bound = tt
-step_replies cpus w worker now (stage.Switches why) some bound = tt
-step_replies cpus w worker now (stage.Drops channel) some bound = tt
-step_replies cpus w worker now (stage.Beds t channel) some bound = tt
-step_replies cpus w worker now (stage.Wakes t) some bound = wake_lands cpus now t worker w.settings w.members some bound
-step_replies cpus w worker now (stage.Lands t c) some bound = tt

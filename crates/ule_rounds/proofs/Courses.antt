@@ -1,10 +1,10 @@
 -- Courses: where a program finds its next item, what it keeps on the way, and how its items run out.
-use Rattle.std.proofs.Common.{◌≡◌, ℕ, ◌+◌, ◌≤◌, true, List, [], ◌∷◌, ◌++◌, sum_by, Option, Some, None, IfSome, refl, sym, ◌∙◌, ap, subst, arith}
+use Rattle.std.proofs.Common.{◌≡◌, ℕ, ◌+◌, ◌≤◌, true, List, [], ◌∷◌, ◌++◌, flat_map, sum_by, Option, Some, None, IfSome, refl, sym, ◌∙◌, ap, subst, arith}
 use Rattle.std.specs.List.{list_all}
 use Rattle.std.proofs.lemmas.Bool.{and_parts}
 use Rattle.std.proofs.lemmas.List.Sums.{sum_by-cons}
 use Rattle.std.proofs.lemmas.Option.{none-some, some_pair_parts}
-use Rattle.ule_types.specs.Commands.{greatest_of, is_command}
+use Rattle.ule_types.specs.Commands.{forked_by, greatest_of, is_command}
 use Rattle.ule_types.specs.declared.command.Command.{Command}
 use Rattle.ule_types.specs.declared.event.Entry.{Entry}
 use Rattle.ule_types.specs.declared.event.Event.{Event}
@@ -15,7 +15,9 @@ use Rattle.ule_types.specs.declared.stage.Stage.TheVariants as stage
 use Rattle.ule_model.specs.Events.{handling, sought_by}
 use Rattle.ule_model.specs.Legal.{Performs, Timed, acts, advances, amount_in, amount_of, stays}
 use Rattle.ule_model.specs.Program.{Course, Own, after_giving, begun, course_of, in_hand, item_at, most_from, next_in, next_of, next_step, or_else, stage_after, stepped, told_last}
-use Rattle.ule_rounds.proofs.Stages.{FitsHand, IsSoundReply, IsSoundStage, advance_lowers, at_advance, at_event, ended_stage, first_charged, first_hand, first_sound, first_time, given_sound, given_stage, item_fits, item_time, reply_lowers, reply_sound, reply_time, time_at}
+use Rattle.ule_members.proofs.Unborn.{hatched_by}
+use Rattle.ule_rounds.proofs.Stages.{IsSoundReply, reply_sound}
+use Rattle.ule_rounds.proofs.Stages.{FitsHand, IsSoundStage, advance_lowers, at_advance, at_event, ended_stage, first_charged, first_hand, first_hatching, first_sound, first_time, given_sound, given_stage, hatching, item_fits, item_hatching, item_time, reply_hatching, reply_lowers, reply_time, time_at}
 
 -- ---- where the next item is found
 
@@ -130,18 +132,29 @@ time_of course = time_from course.script (told_at course)
 abbrev pub held_at : Course → Option ℕ
 held_at course = in_hand (told_at course).stage
 
--- a worker with valid commands before it and at a sound stage, with so many items and so much time left, and this hand
-pub record IsOrderly (ids : List ℕ) (cpus worker most amount : ℕ) (hand : Option ℕ) (script : List Command) (own : Own) : Type 0 where
+-- the threads that a worker is still to fork: one that it is to hatch next, and those of the commands not begun
+abbrev pub to_fork : List Command → Own → List ℕ
+to_fork script own = hatching own.stage ++ flat_map forked_by script
+
+-- the threads that the worker of a course is still to fork
+abbrev pub forks_ahead : Course → List ℕ
+forks_ahead course = to_fork course.script (told_at course)
+
+-- a worker with valid commands before it and at a sound stage, with so many items and so much time left, this hand, and
+-- these threads to fork
+pub record IsOrderly (ids : List ℕ) (cpus worker most amount : ℕ) (hand : Option ℕ) (ahead : List ℕ) (script : List Command) (own : Own) : Type 0 where
   pub worker_is : own.worker ≡ worker
   pub valid : list_all (is_command ids cpus) script ≡ true
   pub sound : IsSoundStage ids cpus own.stage
   pub left : left_from cpus script own ≤ most
   pub time : time_from script own ≡ amount
   pub held : in_hand own.stage ≡ hand
+  pub forks : to_fork script own ≡ ahead
 
 -- a command that is begun keeps a worker orderly
-pub orderly_begun : (ids : List ℕ) (cpus worker most amount : ℕ) (hand : Option ℕ) → KeptAtBegin (IsOrderly ids cpus worker most amount hand)
-orderly_begun ids cpus worker most amount hand c cs own none orderly =
+pub orderly_begun : (ids : List ℕ) (cpus worker most amount : ℕ) (hand : Option ℕ) (ahead : List ℕ) →
+    KeptAtBegin (IsOrderly ids cpus worker most amount hand ahead)
+orderly_begun ids cpus worker most amount hand ahead c cs own none orderly =
     let ended = ended_stage own.worker own.stage none in
     let few : most_from own.stage ≡ 0 = ap most_from ended in
     let short : time_at own.stage ≡ 0 = ap time_at ended in
@@ -153,44 +166,49 @@ orderly_begun ids cpus worker most amount hand c cs own none orderly =
       left = omega (arith, few, orderly.left, first_charged own.worker cpus c, sum_by-cons (λ d. greatest_of d own.worker cpus) c cs);
       time = omega (arith, short, orderly.time, first_time c, sum_by-cons amount_of c cs);
       held = first_hand c ∙ sym (ap in_hand ended) ∙ orderly.held;
+      forks = ap (λ us. us ++ flat_map forked_by cs) (first_hatching c) ∙ sym (ap (λ st. hatching st ++ flat_map forked_by (c ∷ cs)) ended) ∙ orderly.forks;
     }
 
 -- a course of a worker that is orderly once it is told
 abbrev pub HasOrder : List ℕ → ℕ → ℕ → Course → Type 0
-HasOrder ids cpus worker course = IsOrderly ids cpus worker (left_of cpus course) (time_of course) (held_at course) course.script (told_at course)
+HasOrder ids cpus worker course = IsOrderly ids cpus worker (left_of cpus course) (time_of course) (held_at course) (forks_ahead course) course.script (told_at course)
 
 -- where the next item of an orderly course is found
 abbrev pub IsNextItem : List ℕ → ℕ → ℕ → Course → Item → Course → Type 0
-IsNextItem ids cpus worker course i after = IsFound (IsOrderly ids cpus worker (left_of cpus course) (time_of course) (held_at course)) i after
+IsNextItem ids cpus worker course i after = IsFound (IsOrderly ids cpus worker (left_of cpus course) (time_of course) (held_at course) (forks_ahead course)) i after
 
 -- the next item of an orderly course is found where the worker is orderly
 pub next_is : (ids : List ℕ) (cpus worker : ℕ) (course : Course) (i : Item) (after : Course) → HasOrder ids cpus worker course →
     next_step course ≡ Some (i, after) → IsNextItem ids cpus worker course i after
 next_is ids cpus worker course i after orderly next =
-    next_found (IsOrderly ids cpus worker (left_of cpus course) (time_of course) (held_at course)) (orderly_begun ids cpus worker (left_of cpus course) (time_of course) (held_at course)) course i after orderly next
+    next_found (IsOrderly ids cpus worker (left_of cpus course) (time_of course) (held_at course) (forks_ahead course)) (orderly_begun ids cpus worker (left_of cpus course) (time_of course) (held_at course) (forks_ahead course)) course i after orderly next
 
--- a course after another: it is orderly, with an item less, and so much time less
-pub record GoesOnAs (ids : List ℕ) (cpus worker k : ℕ) (course reached : Course) : Type 0 where
+-- a course after another: it is orderly, with an item less, so much time less, and these threads to fork less
+pub record GoesOnAs (ids : List ℕ) (cpus worker k : ℕ) (forked : List ℕ) (course reached : Course) : Type 0 where
   pub orderly : HasOrder ids cpus worker reached
   pub left : left_of cpus reached + 1 ≤ left_of cpus course
   pub time : k + time_of reached ≡ time_of course
+  pub forks : forked ++ forks_ahead reached ≡ forks_ahead course
 
 -- a course that is told the reply to its next event goes on
 pub course_told : (ids : List ℕ) (cpus worker : ℕ) (course : Course) (e : Event) (after : Course) (r : Reply) (now : ℕ)
-    (next : IsNextItem ids cpus worker course (item.Event e) after) → IsSoundReply cpus next.own.stage r →
-    GoesOnAs ids cpus worker 0 course (record after { last = Some (r, now) })
+    (next : IsNextItem ids cpus worker course (item.Event e) after) → IsSoundReply ids cpus next.own.stage r →
+    GoesOnAs ids cpus worker 0 (hatched_by e) course (record after { last = Some (r, now) })
 course_told ids cpus worker course e after r now next sound =
-    subst (λ a. GoesOnAs ids cpus worker 0 course (record a { last = Some (r, now) })) (sym next.gone) (record {
+    subst (λ a. GoesOnAs ids cpus worker 0 (hatched_by e) course (record a { last = Some (r, now) })) (sym next.gone) (record {
       orderly = record {
         worker_is = next.holds.worker_is;
         valid = next.holds.valid;
-        sound = subst (λ s. IsSoundStage ids cpus (stage_after r s)) (sym same) (reply_sound ids cpus r next.own.stage sound);
+        sound = subst (λ s. IsSoundStage ids cpus (stage_after r s)) (sym same) (reply_sound ids cpus r next.own.stage next.holds.sound sound);
         left = omega arith;
         time = refl;
         held = refl;
+        forks = refl;
       };
       left = omega (arith, next.holds.left, lower);
       time = omega (arith, next.holds.time, none, reply_time r (after_giving next.own.stage));
+      forks = ap (λ us. hatched_by e ++ (us ++ flat_map forked_by next.script)) (reply_hatching r (after_giving next.own.stage)) ∙
+          ap (λ us. us ++ flat_map forked_by next.script) (sym hatches) ∙ next.holds.forks;
     })
   where
     same : after_giving next.own.stage ≡ next.own.stage
@@ -199,14 +217,17 @@ course_told ids cpus worker course e after r now next sound =
     lower : most_from (stage_after r (after_giving next.own.stage)) + 1 ≤ most_from next.own.stage
     lower = subst (λ s. most_from (stage_after r s) + 1 ≤ most_from next.own.stage) (sym same) (at_event (λ x. most_from (stage_after r next.own.stage) + 1 ≤ most_from next.own.stage) (λ k. Unit {0}) next.own.worker next.own.stage e (reply_lowers r next.own.worker next.own.stage) next.item)
 
+    hatches : hatching next.own.stage ≡ hatched_by e
+    hatches = at_event (λ x. hatching next.own.stage ≡ hatched_by x) (λ k. hatching next.own.stage ≡ []) next.own.worker next.own.stage e (item_hatching next.own.worker next.own.stage) next.item
+
     none : time_at next.own.stage ≡ 0
     none = at_event (λ x. time_at next.own.stage ≡ 0) (λ k. time_at next.own.stage ≡ k) next.own.worker next.own.stage e (item_time next.own.worker next.own.stage) next.item
 
 -- a course that has its next advance of time goes on
 pub course_advanced : (ids : List ℕ) (cpus worker k : ℕ) (course after : Course) → IsNextItem ids cpus worker course (item.Advance k) after →
-    GoesOnAs ids cpus worker k course after
+    GoesOnAs ids cpus worker k [] course after
 course_advanced ids cpus worker k course after next =
-    subst (λ a. GoesOnAs ids cpus worker k course a) (sym next.gone) (record {
+    subst (λ a. GoesOnAs ids cpus worker k [] course a) (sym next.gone) (record {
       orderly = record {
         worker_is = next.holds.worker_is;
         valid = next.holds.valid;
@@ -214,9 +235,11 @@ course_advanced ids cpus worker k course after next =
         left = omega arith;
         time = refl;
         held = refl;
+        forks = refl;
       };
       left = omega (arith, next.holds.left, lower);
       time = omega (arith, next.holds.time, own, none);
+      forks = ap (λ st. hatching st ++ flat_map forked_by next.script) same ∙ ap (λ us. us ++ flat_map forked_by next.script) (sym hatches) ∙ next.holds.forks;
     })
   where
     same : after_giving next.own.stage ≡ stage.Ended
@@ -228,13 +251,16 @@ course_advanced ids cpus worker k course after next =
     none : time_at (after_giving next.own.stage) ≡ 0
     none = ap time_at same
 
+    hatches : hatching next.own.stage ≡ []
+    hatches = at_advance (λ x. hatching next.own.stage ≡ hatched_by x) (λ j. hatching next.own.stage ≡ []) next.own.worker next.own.stage k (item_hatching next.own.worker next.own.stage) next.item
+
     own : time_at next.own.stage ≡ k
     own = at_advance (λ x. time_at next.own.stage ≡ 0) (λ j. time_at next.own.stage ≡ j) next.own.worker next.own.stage k (item_time next.own.worker next.own.stage) next.item
 
 -- a course without a next item adds no time
 pub ended_time : (ids : List ℕ) (cpus worker : ℕ) (course : Course) → HasOrder ids cpus worker course → next_step course ≡ None → time_of course ≡ 0
 ended_time ids cpus worker course orderly none =
-    let end = ended_from (IsOrderly ids cpus worker (left_of cpus course) (time_of course) (held_at course)) (orderly_begun ids cpus worker (left_of cpus course) (time_of course) (held_at course)) course.script (told_at course) orderly
+    let end = ended_from (IsOrderly ids cpus worker (left_of cpus course) (time_of course) (held_at course) (forks_ahead course)) (orderly_begun ids cpus worker (left_of cpus course) (time_of course) (held_at course) (forks_ahead course)) course.script (told_at course) orderly
     (sym (next_in_is course.script course.own course.last) ∙ none) in
     let short : time_at end.own.stage ≡ 0 = ap time_at end.ended in
     omega (arith, end.holds.time, short)

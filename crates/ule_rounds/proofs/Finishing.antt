@@ -13,7 +13,7 @@ use Rattle.ule_model.specs.Program.{Course, next_step}
 use Rattle.ule_model.specs.Rounds.{Play, after_item, entry_of, performed, round, rounds, turn}
 use Rattle.ule_members.proofs.Reach.{number_from_test}
 use Rattle.ule_rounds.proofs.Courses.{held_at, held_goes_on}
-use Rattle.ule_rounds.proofs.Hands.{hand_at, held_found, sought_held}
+use Rattle.ule_rounds.proofs.Hands.{hand_at, held_in_hand, sought_held}
 use Rattle.ule_rounds.proofs.Keeping.{HasNext, IsUnderWay, advance_within, has_next, left_advanced, left_performed, under_way_turn}
 use Rattle.ule_rounds.proofs.Plays.{all_left}
 use Rattle.ule_rounds.proofs.RoundsLaws.{IsFinished, round_finished, rounds_none, rounds_still, rounds_suc, turn_cases, turns, turns_keep, turns_more}
@@ -148,7 +148,7 @@ idle_finished s p kept idle worker course got =
     is_lost : IsLost p worker → ⊥
     is_lost lost =
         let held = sought_held (holder_of p.world.members) worker (sought_by lost.event) lost.ready in
-        let in_hand = sym (kept.hands held.1 held.0) ∙ held_found held.1 held.0 p.world.members held.2 in
+        let in_hand = sym (kept.hands held.1 held.0) ∙ held_in_hand held.1 held.0 p.world.members held.2 in
         held_not_idle s p held.0 held.1 kept (number_from_test held.0 (hand_at p.courses held.1) in_hand) idle
 
 -- a round performs an item, or all workers are at their ends

@@ -1,42 +1,34 @@
 -- The threads in hands: each worker has in hand the thread that its program says.
-use Rattle.std.proofs.Common.{◌≡◌, ◌≢◌, ℕ, ◌==◌, ◌&&◌, Bool, true, false, List, [], ◌∷◌, slice_get, slice_set, is_some, Option, Some, None, if◌then◌else◌, option_and_then, refl, sym, ◌∙◌, ap, subst, ⊎_elim, eq-eqb}
-use Rattle.std.specs.Option.{option_map}
+use Rattle.std.proofs.Common.{◌≡◌, ◌≢◌, ℕ, ◌&&◌, Bool, true, false, List, [], ◌∷◌, slice_get, slice_set, is_some, Option, Some, None, if◌then◌else◌, option_and_then, refl, sym, ◌∙◌, ap, subst, ⊎_elim, eq-eqb}
 use Rattle.std.proofs.lemmas.Bool.{and_parts, cases_eq, eqb-true, false≢true, true≢false}
 use Rattle.std.proofs.lemmas.Option.{none-some, slice_get_within}
-use Rattle.ule_score.specs.declared.place.Place.{Place}
-use Rattle.ule_score.specs.declared.place.Place.TheVariants.{Running, Queued, Asleep, Unborn, Gone, Hand}
 use Rattle.ule_types.specs.declared.event.Event.{Event}
-use Rattle.ule_types.specs.declared.event.Event.TheVariants as event
 use Rattle.ule_types.specs.declared.event.Item.TheVariants as item
-use Rattle.ule_types.specs.declared.stage.Stage.TheVariants as stage
-use Rattle.ule_model.specs.Conditions.{IsHandled, IsPossible}
-use Rattle.ule_model.specs.Events.{Handling, any, empty, has, has_handled, holder_of, is_no_others, is_own, unborn}
+use Rattle.ule_model.specs.Conditions.{HasEmptyHand, IsHandled, IsPossible}
+use Rattle.ule_model.specs.Events.{Handling, any, empty, handling, has, has_handled, holder_of, is_no_others, is_own, unborn}
 use Rattle.ule_model.specs.Frames.{thread_in_hand}
 use Rattle.ule_model.specs.Places.{hand_of, is_hand_of, is_number}
 use Rattle.ule_model.specs.Program.{Course, Stage, in_hand, item_at, stage_after}
-use Rattle.ule_model.specs.Sleep.{dropped_with, woken_at, woken_with}
 use Rattle.ule_model.specs.Step.{step}
 use Rattle.ule_model.specs.WellMade.{IsWellMade, IsWellMadeWorld}
-use Rattle.ule_model.specs.Words.{change_of}
-use Rattle.ule_model.specs.World.{Member, World, current_of, is_thread, side_of, thread_of}
-use Rattle.ule_members.proofs.Done.{held_member, in_hand_after, taken_member, taken_record}
+use Rattle.ule_model.specs.World.{Member, World, is_numbered, thread_of}
 use Rattle.ule_members.proofs.Lists.{slice_get-set_other, slice_get-set_same}
 use Rattle.ule_members.proofs.Reach.{number_from_test}
 use Rattle.ule_members.proofs.Steps.{step_own_hand}
-use Rattle.ule_members.proofs.Threads.{thread_of_within, within_current}
+use Rattle.ule_members.proofs.Threads.{thread_of_within}
 use Rattle.ule_members.proofs.Untouched.{step_in_hand}
 use Rattle.ule_members.proofs.Within.{found_at, within_found}
 use Rattle.ule_rounds.proofs.Courses.{held_at}
-use Rattle.ule_rounds.proofs.Stages.{AtItem, FitsHand, at_event}
+use Rattle.ule_rounds.proofs.Stages.{FindsUnborn, FitsHand, at_event, FollowsHand, hand_follows}
 
 -- ---- look-ups in a hand
 
 -- a thread whose place is a worker's hand is found there
-pub held_found : (h t : ℕ) (ms : List Member) → holder_of ms t ≡ Some h → is_some (thread_in_hand h t ms) ≡ true
-held_found h t [] held = absurd (none-some h held)
-held_found h t (m ∷ ms) held = step (is_thread t m) refl held (held_found h t ms)
+pub held_in_hand : (h t : ℕ) (ms : List Member) → holder_of ms t ≡ Some h → is_some (thread_in_hand h t ms) ≡ true
+held_in_hand h t [] held = absurd (none-some h held)
+held_in_hand h t (m ∷ ms) held = step (is_numbered t m) refl held (held_in_hand h t ms)
   where
-    step : (b : Bool) → is_thread t m ≡ b → option_and_then (λ (x : Member). hand_of x.place) (if b then Some m else thread_of t ms) ≡ Some h →
+    step : (b : Bool) → is_numbered t m ≡ b → option_and_then (λ (x : Member). hand_of x.place) (if b then Some m else thread_of t ms) ≡ Some h →
         (holder_of ms t ≡ Some h → is_some (thread_in_hand h t ms) ≡ true) →
         is_some (if b && is_hand_of h m.place then Some m else thread_in_hand h t ms) ≡ true
     step true is here rest =
@@ -51,89 +43,11 @@ found_held h t ms made found = at_found (thread_in_hand h t ms) refl found
     at_found : (o : Option Member) → thread_in_hand h t ms ≡ o → is_some o ≡ true → holder_of ms t ≡ Some h
     at_found None is some = absurd (false≢true some)
     at_found (Some m) is some =
-        let test = λ (n : Member). is_thread t n && is_hand_of h n.place in
-        let both = and_parts (is_thread t m) (is_hand_of h m.place) (found_at test ms m is).passes in
+        let test = λ (n : Member). is_numbered t n && is_hand_of h n.place in
+        let both = and_parts (is_numbered t m) (is_hand_of h m.place) (found_at test ms m is).passes in
         let by_number : thread_of m.thread.id ms ≡ Some m = thread_of_within m.thread.id m ms (within_found test ms m made is) in
         ap (holder_of ms) (sym (eqb-true m.thread.id t both.0)) ∙ ap (option_and_then (λ (x : Member). hand_of x.place)) by_number ∙
         number_from_test h (hand_of m.place) both.1
-
--- ---- the event of a stage
-
--- a thread that is taken is the one that is found in the hand
-found_taken : (u t : ℕ) (taken old : Option Member) → is_some taken ≡ true → is_some old ≡ false → is_some (if u == t then taken else old) ≡ (u == t)
-found_taken u t taken old some none = by_test (u == t)
-  where
-    by_test : (b : Bool) → is_some (if b then taken else old) ≡ b
-    by_test true = some
-    by_test false = none
-
--- a thread that is put down is found in the hand no longer
-found_put : (u t : ℕ) (old : Option Member) → is_some old ≡ (u == t) → is_some (if u == t then None else old) ≡ false
-found_put u t old was = by_test (u == t) was
-  where
-    by_test : (b : Bool) → is_some old ≡ b → is_some (if b then None else old) ≡ false
-    by_test true was = refl
-    by_test false was = was
-
--- the worker's hand after the step of an event, by look-up, is the one that the stage after the reply says
-abbrev pub FollowsHand : World → ℕ → ℕ → Stage → Event → Type 0
-FollowsHand w worker now st e =
-    (u : ℕ) (old : Option Member) → is_some old ≡ is_number u (in_hand st) →
-    is_some (in_hand_after w worker e now (change_of e (step w worker e now).1) u old) ≡ is_number u (in_hand (stage_after (step w worker e now).1 st))
-
--- a thread that stands in the world can be taken
-taken_some : (w : World) (worker now : ℕ) (e : Event) (t : ℕ) (m : Member) → thread_of t w.members ≡ Some m → is_some (taken_member w worker e now t) ≡ true
-taken_some w worker now e t m found =
-    ap (λ o. is_some (option_map (λ (n : Member). held_member worker (taken_record w.settings now e n.thread)) o)) found
-
--- after a drop the thread that left is in the hand
-drop_follows : (w : World) (worker channel now : ℕ) → IsWellMade w.members → FollowsHand w worker now (stage.Drops channel) (event.Drop worker channel)
-drop_follows w worker channel now made u old was = at_current (current_of worker w.members) refl
-  where
-    e : Event
-    e = event.Drop worker channel
-
-    at_current : (o : Option Member) → current_of worker w.members ≡ o →
-        is_some (in_hand_after w worker e now (change_of e (dropped_with o worker worker now (side_of worker w)).1) u old) ≡
-        is_number u (in_hand (stage_after (dropped_with o worker worker now (side_of worker w)).1 (stage.Drops channel)))
-    at_current None none = was
-    at_current (Some m) found =
-        found_taken u m.thread.id (taken_member w worker e now m.thread.id) old
-        (taken_some w worker now e m.thread.id m (thread_of_within m.thread.id m w.members (within_current worker w.members m made found))) was
-
--- after a wake the woken thread is in the hand
-wake_follows : (w : World) (worker t now : ℕ) → FollowsHand w worker now (stage.Wakes t) (event.Wake t)
-wake_follows w worker t now u old was = at_thread (thread_of t w.members) refl
-  where
-    e : Event
-    e = event.Wake t
-
-    at_place : (m : Member) → thread_of t w.members ≡ Some m → (place : Place) →
-        is_some (in_hand_after w worker e now (change_of e (woken_at place worker now w.settings m w.members).1) u old) ≡
-        is_number u (in_hand (stage_after (woken_at place worker now w.settings m w.members).1 (stage.Wakes t)))
-    at_place m found (Asleep channel) = found_taken u t (taken_member w worker e now t) old (taken_some w worker now e t m found) was
-    at_place m found (Running c) = was
-    at_place m found (Queued c k b) = was
-    at_place m found Unborn = was
-    at_place m found Gone = was
-    at_place m found (Hand h) = was
-
-    at_thread : (o : Option Member) → thread_of t w.members ≡ o →
-        is_some (in_hand_after w worker e now (change_of e (woken_with o worker now w.settings w.members).1) u old) ≡
-        is_number u (in_hand (stage_after (woken_with o worker now w.settings w.members).1 (stage.Wakes t)))
-    at_thread None none = was
-    at_thread (Some m) found = at_place m found m.place
-
--- the hand follows what the event at a stage and its reply did to it
-pub hand_follows : (w : World) (worker now : ℕ) (st : Stage) → IsWellMade w.members → AtItem worker st (FollowsHand w worker now st) (λ k. Unit {0})
-hand_follows w worker now stage.Ended made = tt
-hand_follows w worker now stage.Ticks made = λ u old was. was
-hand_follows w worker now (stage.Advances k) made = tt
-hand_follows w worker now (stage.Switches why) made = λ u old was. was
-hand_follows w worker now (stage.Drops channel) made = drop_follows w worker channel now made
-hand_follows w worker now (stage.Beds t channel) made = λ u old was. found_put u t old was
-hand_follows w worker now (stage.Wakes t) made = wake_follows w worker t now
-hand_follows w worker now (stage.Lands t c) made = λ u old was. found_put u t old was
 
 -- ---- all hands
 
@@ -165,19 +79,24 @@ agree_step w worker e now courses course reached st made can got agree before at
     agree_set courses worker course reached w.members (step w worker e now).0.members got agree
     (λ h t other. ap (λ o. is_some o) (step_in_hand w worker e now made can h t other))
     (λ t. ap (λ o. is_some o) (step_own_hand w worker e now made can t) ∙
-    at_event (FollowsHand w worker now st) (λ k. Unit {0}) worker st e (hand_follows w worker now st made.members) at t (thread_in_hand worker t w.members)
+    at_event (λ x. IsHandled w worker (handling x) → FollowsHand w worker now st x) (λ k. Unit {0}) worker st e (hand_follows w worker now st made.members) at can.hand t
+    (thread_in_hand worker t w.members)
     (agree worker t ∙ ap (is_number t) before) ∙ ap (is_number t) (sym after))
 
 -- ---- what an event needs
 
+-- a worker whose course says that its hand is empty has an empty hand
+pub empty_handled : (w : World) (worker : ℕ) (courses : List Course) → DoAgree w.members courses → hand_at courses worker ≡ None → HasEmptyHand w worker
+empty_handled w worker courses agree none t held =
+    true≢false (sym (held_in_hand worker t w.members held) ∙ agree worker t ∙ ap (is_number t) none)
+
 -- a worker whose hand is as its event needs it
 pub hand_handled : (w : World) (worker : ℕ) (courses : List Course) (hand : Option ℕ) (needs : Handling) → IsWellMade w.members → DoAgree w.members courses →
-    hand_at courses worker ≡ hand → FitsHand hand needs → IsHandled w worker needs
-hand_handled w worker courses hand any made agree is fits = tt
-hand_handled w worker courses hand empty made agree is fits = λ t held.
-    true≢false (sym (held_found worker t w.members held) ∙ agree worker t ∙ ap (is_number t) (is ∙ fits))
-hand_handled w worker courses hand (unborn t) made agree is fits = absurd fits
-hand_handled w worker courses hand (has t) made agree is fits =
+    hand_at courses worker ≡ hand → FitsHand hand needs → FindsUnborn w.members needs → IsHandled w worker needs
+hand_handled w worker courses hand any made agree is fits finds = tt
+hand_handled w worker courses hand empty made agree is fits finds = empty_handled w worker courses agree (is ∙ fits)
+hand_handled w worker courses hand (unborn t) made agree is fits finds = (empty_handled w worker courses agree (is ∙ fits), finds)
+hand_handled w worker courses hand (has t) made agree is fits finds =
     found_held worker t w.members made (agree worker t ∙ ap (is_number t) (is ∙ fits) ∙ eq-eqb t t refl)
 
 -- an event with the hand that it needs has its thread

@@ -9,7 +9,7 @@ use Rattle.ule_types.specs.declared.setup.Setup.{Setup}
 use Rattle.ule_model.specs.Ends.{end_time}
 use Rattle.ule_model.specs.History.{GoesOn, HasEmptyHands, IsHistoryOf, RoundsGoOn}
 use Rattle.ule_model.specs.Events.{holder_of}
-use Rattle.ule_model.specs.Legal.{Begins, Completes, IsInTime, IsLegal, IsWhole, Timed, amount_in_all, with_locks}
+use Rattle.ule_model.specs.Legal.{BeginsProgram, Completes, IsInTime, IsLegal, IsWhole, Timed, amount_in_all, with_locks}
 use Rattle.ule_model.specs.Places.{hand_of}
 use Rattle.ule_model.specs.Program.{Course, course_of, own_of}
 use Rattle.ule_model.specs.Rounds.{Play, greatest_rounds, opening, play_of, round, rounds}
@@ -20,7 +20,7 @@ use Rattle.ule_members.proofs.Within.{all_along}
 use Rattle.ule_members.proofs.Reach.{number_from_test}
 use Rattle.ule_rounds.proofs.Courses.{ended_time, held_at, held_goes_on, time_of}
 use Rattle.ule_rounds.proofs.Finishing.{IsFurther, round_goes, rounds_finish}
-use Rattle.ule_rounds.proofs.Hands.{hand_at, held_found}
+use Rattle.ule_rounds.proofs.Hands.{hand_at, held_in_hand}
 use Rattle.ule_rounds.proofs.Keeping.{IsUnderWay, ids_in, under_way_opening, under_way_turn}
 use Rattle.ule_rounds.proofs.LegalLaws.{IsLegalSoFar, StandsAt}
 use Rattle.ule_rounds.proofs.Plays.{all_time, opening_left, sum_none}
@@ -37,7 +37,7 @@ course_there : (s : Setup) (p : Play) (worker : ℕ) → IsLegalSoFar s p → wo
 course_there s p worker legal below = slice_get-get_or p.courses worker spare (subst (λ n. worker < n) (sym legal.count) below)
 
 -- a worker of a legal play has begun its program
-begins_so_far : (s : Setup) (p : Play) (es : List Timed) (worker : ℕ) (course : Course) → StandsAt s es p.now worker course → Begins s s.scripts es worker
+begins_so_far : (s : Setup) (p : Play) (es : List Timed) (worker : ℕ) (course : Course) → StandsAt s es p.now worker course → BeginsProgram s s.scripts es worker
 begins_so_far s p es worker course at = record { end = course; total = at.total; performs = at.performs }
 
 -- what holds of the time of each entry holds of each with its amount
@@ -94,7 +94,7 @@ hands_empty s p kept ended = all_from_has (λ m. hand_of m.place ≡ None) p.wor
         let found : thread_of m.thread.id p.world.members ≡ Some m = thread_of_has m p.world.members kept.made.members.apart has in
         let held : holder_of p.world.members m.thread.id ≡ Some h = ap (option_and_then (λ (x : Member). hand_of x.place)) found ∙ is in
         absurd (at_worker m.thread.id h (slice_get p.courses h) refl
-        (number_from_test m.thread.id (hand_at p.courses h) (sym (kept.hands h m.thread.id) ∙ held_found h m.thread.id p.world.members held)))
+        (number_from_test m.thread.id (hand_at p.courses h) (sym (kept.hands h m.thread.id) ∙ held_in_hand h m.thread.id p.world.members held)))
 
 -- a play under way whose workers are at their ends is a history of its setup
 pub history_of : (s : Setup) (p : Play) → IsUnderWay s p → ((worker : ℕ) → IsFinished p worker) → IsHistoryOf s p

@@ -1,5 +1,5 @@
 -- What every play of a setup that can be spelled so far keeps, and what its next event needs.
-use Rattle.std.proofs.Common.{◌≡◌, ℕ, ◌+◌, ◌*◌, ◌^◌, ◌<◌, ◌≤◌, ◌&&◌, ◌||◌, Bool, true, false, nat_le, List, [], ◌∷◌, length, slice_get, take, Some, None, IfSome, IsSome, IsTrue, is_some, if◌then◌else◌, option_and_then, refl, sym, ◌∙◌, ap, subst, arith}
+use Rattle.std.proofs.Common.{◌≡◌, ℕ, ◌+◌, ◌*◌, ◌^◌, ◌<◌, ◌≤◌, ◌&&◌, ◌||◌, Bool, true, false, nat_le, List, [], ◌∷◌, flat_map, length, slice_get, take, Some, None, IfSome, IsSome, IsTrue, is_some, if◌then◌else◌, option_and_then, refl, sym, ◌∙◌, ap, subst, arith}
 use Rattle.std.specs.List.{AllByRecursion}
 use Rattle.std.proofs.lemmas.Bool.{and_parts, cond_both, false≢true, leb-true}
 use Rattle.std.proofs.lemmas.List.{length_push}
@@ -7,7 +7,8 @@ use Rattle.std.proofs.lemmas.Option.{IfSome_then, slice_get_within}
 use Rattle.ule_prio.specs.Class.{is_within}
 use Rattle.ule_score.specs.Bounds.{KeepsBounds}
 use Rattle.ule_score.specs.Changes.{HasSlice, IsBy}
-use Rattle.ule_types.specs.Commands.{is_among}
+use Rattle.ule_types.proofs.Repeats.{among_front}
+use Rattle.ule_types.specs.Commands.{forked_by, is_among}
 use Rattle.ule_types.specs.Form.{IsOfForm}
 use Rattle.ule_types.specs.Rules.{declared_ids}
 use Rattle.ule_types.specs.declared.event.Event.{Event}
@@ -23,16 +24,17 @@ use Rattle.ule_model.specs.Legal.{after_entry}
 use Rattle.ule_model.specs.Places.{is_hand_of, is_number}
 use Rattle.ule_model.specs.Program.{Course, in_hand, item_at, next_step}
 use Rattle.ule_model.specs.Rounds.{Play, after_item, entry_of, greatest_rounds, opening, performed, turn}
-use Rattle.ule_model.specs.Shows.{ids_of}
+use Rattle.ule_model.specs.Shows.{numbers_of}
 use Rattle.ule_model.specs.Start.{starting_time, world_at_start}
 use Rattle.ule_model.specs.Step.{step}
 use Rattle.ule_model.specs.WellMade.{IsWellMadeWorld}
-use Rattle.ule_model.specs.World.{Member, is_thread, thread_of}
+use Rattle.ule_model.specs.World.{Member, is_numbered, thread_of}
 use Rattle.ule_members.proofs.Numbered.{step_bounds, step_by_now, step_numbers}
-use Rattle.ule_members.proofs.Rest.{step_leaves_rest}
+use Rattle.ule_members.proofs.Parents.{step_parents}
+use Rattle.ule_members.proofs.Steps.{step_leaves_rest}
 use Rattle.ule_members.proofs.Steps.{step_is_made}
 use Rattle.ule_members.proofs.Within.{all_along}
-use Rattle.ule_rounds.proofs.Bindings.{step_binds, step_replies}
+use Rattle.ule_rounds.proofs.Bindings.{step_binds}
 use Rattle.ule_rounds.proofs.Courses.{GoesOnAs, HasOrder, IsNextItem, course_advanced, course_told, held_advanced, held_at, held_told, left_of, next_is, time_of}
 use Rattle.ule_rounds.proofs.Hands.{DoAgree, agree_set, agree_step, hand_at, hand_handled, handled_thread}
 use Rattle.ule_rounds.proofs.Histories.{HoldsThroughout-push, HoldsThroughout-start}
@@ -40,7 +42,11 @@ use Rattle.ule_rounds.proofs.LegalLaws.{IsLegalSoFar, each_after_set, legal_adva
 use Rattle.ule_rounds.proofs.Plays.{all_left, all_time, hands_at_start, opening_count, opening_is, opening_left, opening_order, sum_set, time_at_start}
 use Rattle.ule_rounds.proofs.RoundsLaws.{turn_cases}
 use Rattle.ule_members.proofs.Setups.{setup_end, setup_scripts, setup_slice}
-use Rattle.ule_rounds.proofs.Stages.{FitsHand, IsSoundReply, NamesWhatIs, at_advance, at_event, item_fits, item_names}
+use Rattle.ule_members.proofs.Unborn.{IsStillUnborn, hatched_by, unborn_stays}
+use Rattle.ule_rounds.proofs.Forks.{HasForksAhead, forks_opening, forks_set}
+use Rattle.ule_rounds.proofs.Parents.{numbered_among, start_parents}
+use Rattle.ule_rounds.proofs.Stages.{HasDeclaredParent, IsSoundReply, step_replies}
+use Rattle.ule_rounds.proofs.Stages.{FindsUnborn, FitsHand, NamesWhatIs, at_advance, at_event, hatching, item_finds, item_fits, item_names}
 use Rattle.ule_members.proofs.Starts.{AreFree, IsFreshRecord, IsLaid, IsPlaceAtStart, start_free, start_laid}
 
 -- ---- what a play keeps
@@ -55,12 +61,14 @@ pub record IsUnderWay (s : Setup) (p : Play) : Type 0 where
   pub courses : (worker : ℕ) (course : Course) → slice_get p.courses worker ≡ Some course → HasOrder (ids_in s) s.cpus worker course
   pub settings : p.world.settings ≡ s.settings
   pub lines : length p.world.lines ≡ s.cpus
-  pub ids : ids_of p.world.members ≡ ids_in s
+  pub ids : numbers_of p.world.members ≡ ids_in s
   pub made : IsWellMadeWorld p.world
   pub bounds : KeepsRecords p.world
   pub by_now : AllByRecursion (λ m. IsBy p.now m.thread) p.world.members
   pub bound : AllByRecursion (λ m. IfSome m.thread.bound (λ c. c < s.cpus)) p.world.members
+  pub parents : AllByRecursion (HasDeclaredParent (ids_in s)) p.world.members
   pub hands : DoAgree p.world.members p.courses
+  pub forks : HasForksAhead p.world.members p.courses
   pub begun : starting_time ≤ p.now
   pub time : p.now + all_time p.courses ≡ end_time s.scripts
   pub bounded : p.now + 1000000 * all_left s.cpus p.courses ≤ starting_time + 1000000 * greatest_rounds
@@ -81,7 +89,7 @@ worker_below s p worker course kept got = subst (λ n. worker < n) kept.legal.co
 -- threads of which none is in a hand are found in no hand
 free_hands : (h t : ℕ) (ms : List Member) → AreFree ms → is_some (thread_in_hand h t ms) ≡ false
 free_hands h t [] free = refl
-free_hands h t (m ∷ ms) free = by_test (is_thread t m) (ap (is_number h) free.0) (free_hands h t ms free.1)
+free_hands h t (m ∷ ms) free = by_test (is_numbered t m) (ap (is_number h) free.0) (free_hands h t ms free.1)
   where
     by_test : (b : Bool) → is_hand_of h m.place ≡ false → is_some (thread_in_hand h t ms) ≡ false →
         is_some (if b && is_hand_of h m.place then Some m else thread_in_hand h t ms) ≡ false
@@ -100,6 +108,8 @@ under_way_opening s form = record {
   bounds = bounds;
   by_now = all_along (λ (m : Member). IsFreshRecord s.cpus m.thread) (λ m. IsBy starting_time m.thread) (world_at_start s).members (λ m fresh. fresh.by_now) start.records;
   bound = all_along (λ (m : Member). IsFreshRecord s.cpus m.thread) (λ m. IfSome m.thread.bound (λ c. c < s.cpus)) (world_at_start s).members (λ m fresh. fresh.bound) start.records;
+  parents = start_parents s (ids_in s);
+  forks = forks_opening s form;
   hands = λ h t.
       free_hands h t (world_at_start s).members (start_free s form) ∙
       sym (ap (is_number t) (hands_at_start s.jitter s.cpus 0 (take s.cpus s.scripts) h));
@@ -120,11 +130,11 @@ under_way_opening s form = record {
 -- ---- what the next event needs
 
 -- a number among those of the threads finds one
-pub found_among : (t : ℕ) (ms : List Member) → is_among (ids_of ms) t ≡ true → IsSome (thread_of t ms)
+pub found_among : (t : ℕ) (ms : List Member) → is_among (numbers_of ms) t ≡ true → IsSome (thread_of t ms)
 found_among t [] among = absurd (false≢true among)
-found_among t (m ∷ ms) among = by_test (is_thread t m) among (found_among t ms)
+found_among t (m ∷ ms) among = by_test (is_numbered t m) among (found_among t ms)
   where
-    by_test : (b : Bool) → (b || is_among (ids_of ms) t) ≡ true → (is_among (ids_of ms) t ≡ true → IsSome (thread_of t ms)) → IsSome (if b then Some m else thread_of t ms)
+    by_test : (b : Bool) → (b || is_among (numbers_of ms) t) ≡ true → (is_among (numbers_of ms) t ≡ true → IsSome (thread_of t ms)) → IsSome (if b then Some m else thread_of t ms)
     by_test true is rest = refl
     by_test false is rest = rest is
 
@@ -140,6 +150,7 @@ pub record HasNext (s : Setup) (p : Play) (worker : ℕ) (course : Course) (e : 
   pub item : item_at worker next.own.stage ≡ Some (item.Event e)
   pub hand : hand_at p.courses worker ≡ in_hand next.own.stage
   pub fits : FitsHand (in_hand next.own.stage) (handling e) × IfSome (in_hand next.own.stage) (λ t. sought_by e ≡ None)
+  pub finds : FindsUnborn p.world.members (handling e)
   pub names : NamesWhatIs (ids_in s) s.cpus e
 
 -- what is known of a worker's next event
@@ -151,6 +162,7 @@ has_next s p worker course after e kept got found = record {
   item = at;
   hand = ap (option_and_then held_at) got ∙ sym next.holds.held;
   fits = at_event (λ x. FitsHand (in_hand next.own.stage) (handling x) × IfSome (in_hand next.own.stage) (λ t. sought_by x ≡ None)) (λ k. in_hand next.own.stage ≡ None) worker next.own.stage e (item_fits worker next.own.stage) at;
+  finds = at_event (λ x. FindsUnborn p.world.members (handling x)) (λ k. Unit {0}) worker next.own.stage e (item_finds p.world.members worker next.own.stage hatches) at;
   names = at_event (NamesWhatIs (ids_in s) s.cpus) (λ k. is_within 1 1000000 k ≡ true) worker next.own.stage e (item_names (ids_in s) s.cpus worker next.own.stage below next.holds.sound) at;
 }
   where
@@ -159,6 +171,11 @@ has_next s p worker course after e kept got found = record {
 
     below : worker < s.cpus
     below = worker_below s p worker course kept got
+
+    hatches : (t : ℕ) → is_among (hatching next.own.stage) t ≡ true → IsStillUnborn t p.world.members
+    hatches t among =
+        kept.forks.unborn worker course t got
+        (ap (λ us. is_among us t) (sym next.holds.forks) ∙ among_front (hatching next.own.stage) (flat_map forked_by next.script) t among)
 
     at : item_at worker next.own.stage ≡ Some (item.Event e)
     at = ap (λ u. item_at u next.own.stage) (sym next.holds.worker_is) ∙ next.item
@@ -171,7 +188,8 @@ possible s p worker course after e kept has ready = record {
   cpus = subst (λ n. IsTrue (names_cpus n e)) (sym kept.lines) has.names.0;
   declared = IfSome_then (sought_by e) has.names.1 (λ t among. found_among t p.world.members (subst (λ us. is_among us t ≡ true) (sym kept.ids) among));
   ready = ready;
-  hand = hand_handled p.world worker p.courses (in_hand has.next.own.stage) (handling e) kept.made.members kept.hands has.hand has.fits.0;
+  hand = hand_handled p.world worker p.courses (in_hand has.next.own.stage) (handling e) kept.made.members kept.hands has.hand has.fits.0 has.finds;
+  numbers = has.names.2;
   begun = kept.begun;
   bounded = time_below s p kept;
   in_time = all_along (λ (m : Member). IsBy p.now m.thread) (λ m. is_reached p.world worker e m.place ≡ true → IsBy p.now m.thread) p.world.members (λ m by reached. by) kept.by_now;
@@ -214,6 +232,8 @@ under_way_advanced s p worker k course after kept got found = record {
   bounds = kept.bounds;
   by_now = by_later p.now (p.now + k) p.world.members (omega arith) kept.by_now;
   bound = kept.bound;
+  parents = kept.parents;
+  forks = forks_set p.courses worker course after [] got went.forks p.world.members p.world.members (λ t other unborn. unborn) kept.forks;
   hands = agree_set p.courses worker course after p.world.members p.world.members got kept.hands (λ h t other. refl)
       (λ t. kept.hands worker t ∙ ap (λ o. is_number t (option_and_then held_at o)) got ∙ ap (is_number t) (sym (held_advanced (ids_in s) s.cpus worker k course after next)));
   begun = omega (arith, kept.begun);
@@ -227,15 +247,16 @@ under_way_advanced s p worker k course after kept got found = record {
     next : IsNextItem (ids_in s) s.cpus worker course (item.Advance k) after
     next = kept_next s p worker course after (item.Advance k) kept got found
 
-    went : GoesOnAs (ids_in s) s.cpus worker k course after
+    went : GoesOnAs (ids_in s) s.cpus worker k [] course after
     went = course_advanced (ids_in s) s.cpus worker k course after next
 
 -- the course that is told the reply of its next event goes on
 pub next_told : (s : Setup) (p : Play) (worker : ℕ) (course after : Course) (e : Event) → IsUnderWay s p → HasNext s p worker course e after →
-    GoesOnAs (ids_in s) s.cpus worker 0 course (record after { last = Some ((step p.world worker e p.now).1, p.now) })
+    GoesOnAs (ids_in s) s.cpus worker 0 (hatched_by e) course (record after { last = Some ((step p.world worker e p.now).1, p.now) })
 next_told s p worker course after e kept has =
     course_told (ids_in s) s.cpus worker course e after (step p.world worker e p.now).1 p.now has.next
-    (at_event (λ x. IsSoundReply s.cpus has.next.own.stage (step p.world worker x p.now).1) (λ k. Unit {0}) worker has.next.own.stage e (step_replies s.cpus p.world worker p.now has.next.own.stage (setup_scripts s).some kept.bound) has.item)
+    (at_event (λ x. IsSoundReply (ids_in s) s.cpus has.next.own.stage (step p.world worker x p.now).1) (λ k. Unit {0}) worker has.next.own.stage e
+    (step_replies (ids_in s) s.cpus p.world worker p.now has.next.own.stage (setup_scripts s).some kept.bound kept.parents kept.bounds) has.item)
 
 -- an event leaves fewer items
 pub left_performed : (s : Setup) (p : Play) (worker : ℕ) (e : Event) (course after : Course) → IsUnderWay s p → slice_get p.courses worker ≡ Some course →
@@ -256,6 +277,9 @@ under_way_performed s p worker e course after kept got found ready = record {
   bounds = bounds;
   by_now = step_by_now p.world worker e p.now kept.made can kept.by_now;
   bound = step_binds (λ c. c < s.cpus) p.world worker e p.now kept.made can kept.bound;
+  parents = step_parents (λ u. is_among (ids_in s) u ≡ true) p.world worker e p.now kept.made can (numbered_among (ids_in s) p.world.members kept.ids) kept.parents;
+  forks = forks_set p.courses worker course reached (hatched_by e) got went.forks p.world.members (step p.world worker e p.now).0.members
+      (λ t other unborn. unborn_stays p.world worker e p.now t kept.made can few other unborn) kept.forks;
   hands = agree_step p.world worker e p.now p.courses course reached has.next.own.stage kept.made can got kept.hands has.hand has.item
       (held_told (ids_in s) s.cpus worker course e after (step p.world worker e p.now).1 p.now has.next);
   begun = kept.begun;
@@ -274,10 +298,13 @@ under_way_performed s p worker e course after kept got found ready = record {
     can : IsPossible p.world worker e p.now
     can = possible s p worker course after e kept has ready
 
+    few : length p.world.lines ≤ 16
+    few = omega (arith, kept.lines, (setup_scripts s).cpus)
+
     reached : Course
     reached = record after { last = Some ((step p.world worker e p.now).1, p.now) }
 
-    went : GoesOnAs (ids_in s) s.cpus worker 0 course reached
+    went : GoesOnAs (ids_in s) s.cpus worker 0 (hatched_by e) course reached
     went = next_told s p worker course after e kept has
 
     rest : LeavesRest p.world e (step p.world worker e p.now).0

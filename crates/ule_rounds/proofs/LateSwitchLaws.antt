@@ -8,7 +8,7 @@ use Rattle.ule_score.specs.declared.record.Why.TheVariants as why
 use Rattle.ule_types.specs.declared.command.Command.TheVariants.{Yield}
 use Rattle.ule_types.specs.declared.stage.Stage.TheVariants as stage
 use Rattle.ule_model.specs.Conditions.{IsPossible}
-use Rattle.ule_model.specs.Legal.{Begins, IsEntryOf, IsInTime, IsReplayed, KeepsTime, Timed, acts, advances, opening_of, stays, with_locks}
+use Rattle.ule_model.specs.Legal.{BeginsProgram, IsEntryOf, IsInTime, IsReplayed, KeepsTime, Timed, acts, advances, opening_of, stays, with_locks}
 use Rattle.ule_model.specs.Program.{Course, next_in}
 use Rattle.ule_model.specs.Start.{world_at_start}
 use Rattle.ule_rounds.specs.LateSwitch.{LateSwitchIsLegal, between_switches, earlier_switch, late_lists, later_switch, two_cpus}
@@ -45,7 +45,7 @@ course_at worker = record {
 }
 
 -- the first worker lets five ticks pass and yields
-first_begins : Begins two_cpus late_lists timed 0
+first_begins : BeginsProgram two_cpus late_lists timed 0
 unfolding next_in timed
 first_begins = record {
   end = record (course_at 0) { last = Some (later_switch.reply, later_switch.now) };
@@ -65,7 +65,7 @@ first_begins = record {
     }
 
 -- the second worker yields
-second_begins : Begins two_cpus late_lists timed 1
+second_begins : BeginsProgram two_cpus late_lists timed 1
 unfolding next_in timed
 second_begins = record {
   end = record (course_at 1) { last = Some (earlier_switch.reply, earlier_switch.now) };
@@ -76,7 +76,7 @@ second_begins = record {
 }
 
 -- each worker has begun its list
-both_begin : (worker : ℕ) → worker < 2 → Begins two_cpus late_lists timed worker
+both_begin : (worker : ℕ) → worker < 2 → BeginsProgram two_cpus late_lists timed worker
 both_begin zero below = first_begins
 both_begin (suc zero) below = second_begins
 both_begin (suc (suc worker)) below = absurd (omega arith)
@@ -103,6 +103,7 @@ later_can = record {
   declared = tt;
   ready = refl;
   hand = tt;
+  numbers = tt;
   begun = omega arith;
   bounded = omega arith;
   in_time = (
@@ -120,6 +121,7 @@ earlier_can = record {
   declared = tt;
   ready = refl;
   hand = tt;
+  numbers = tt;
   begun = omega arith;
   bounded = omega arith;
   in_time = (

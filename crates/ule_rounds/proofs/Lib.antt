@@ -1,11 +1,13 @@
+pub mod Bindings
 pub mod Stages
 pub mod Courses
-pub mod Bindings
 pub mod Hands
 pub mod Histories
 pub mod LegalLaws
 pub mod RoundsLaws
 pub mod Plays
+pub mod Forks
+pub mod Parents
 pub mod Keeping
 pub mod Finishing
 pub mod HistoryLaws

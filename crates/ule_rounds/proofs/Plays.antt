@@ -111,7 +111,7 @@ order_at_start : (ids : List ℕ) (jitter cpus n : ℕ) (scripts : List (List Co
 order_at_start ids jitter cpus n [] all worker course got = absurd (none-some course got)
 order_at_start ids jitter cpus n (script ∷ scripts) all zero course got =
     subst (HasOrder ids cpus (n + 0)) (same_Some (course_of (own_of jitter cpus n) script) course got)
-    (record { worker_is = omega arith; valid = all.0; sound = tt; left = omega arith; time = refl; held = refl })
+    (record { worker_is = omega arith; valid = all.0; sound = tt; left = omega arith; time = refl; held = refl; forks = refl })
 order_at_start ids jitter cpus n (script ∷ scripts) all (suc worker) course got =
     let e : n + 1 + worker ≡ n + suc worker = omega arith in
     subst (λ u. HasOrder ids cpus u course) e (order_at_start ids jitter cpus (n + 1) scripts all.1 worker course got)

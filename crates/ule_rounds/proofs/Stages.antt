@@ -1,9 +1,10 @@
--- The laws of programs, with a line for each stage: that items run out, what an item and its reply do to the
--- worker's hand, that each item names threads and CPUs that there are, and the time that it adds.
-use Rattle.std.proofs.Common.{◌≡◌, ℕ, ◌+◌, ◌*◌, ◌<◌, ◌≤◌, ◌==◌, ◌&&◌, true, nat_lt, List, Option, Some, None, IfSome, IsTrue, refl, subst, lt-ltb, arith}
-use Rattle.std.proofs.lemmas.Bool.{cond_both}
+-- The laws of programs, with a line for each stage: that items run out, the time that they add, that each item names
+-- threads and CPUs that there are, and what an item and its reply do to the worker's hand and to the next stage.
+use Rattle.std.proofs.Common.{◌≡◌, ℕ, ◌+◌, ◌*◌, ◌^◌, ◌<◌, ◌≤◌, ◌==◌, ◌&&◌, true, nat_lt, List, [], ◌∷◌, Option, Some, None, IfSome, IsTrue, refl, sym, ◌∙◌, subst, lt-ltb, arith, Bool, false, is_some, if◌then◌else◌, ap}
+use Rattle.std.proofs.lemmas.Bool.{and_parts, cond_both}
 use Rattle.ule_prio.specs.Class.{is_within}
-use Rattle.ule_types.specs.Commands.{greatest_of, greatest_of_tick, is_among, is_command}
+use Rattle.ule_score.specs.TimesharePriority.{IsNice}
+use Rattle.ule_types.specs.Commands.{forked_by, greatest_of, greatest_of_tick, is_among, is_command, is_nice}
 use Rattle.ule_types.specs.declared.command.Command.{Command}
 use Rattle.ule_types.specs.declared.command.Command.TheVariants.{Tick, Time, Yield, Resched, Sleep, Wake, Lend, Unlend, Renice, Fork, Exit, Idle, Balance, Look}
 use Rattle.ule_types.specs.declared.event.Event.{Event}
@@ -11,10 +12,35 @@ use Rattle.ule_types.specs.declared.event.Item.{Item}
 use Rattle.ule_types.specs.declared.event.Item.TheVariants as item
 use Rattle.ule_types.specs.declared.event.Reply.{Reply}
 use Rattle.ule_types.specs.declared.event.Reply.TheVariants as reply
-use Rattle.ule_model.specs.Events.{Handling, any, empty, handling, has, names_cpus, sought_by, unborn}
+use Rattle.ule_model.specs.Birth.{exited_with, exited}
+use Rattle.ule_model.specs.Conditions.{HasSoundNumbers, IsHandled}
+use Rattle.ule_model.specs.Events.{Handling, any, empty, handling, has, is_unborn_thread, names_cpus, sought_by, unborn}
 use Rattle.ule_model.specs.Legal.{amount_of}
-use Rattle.ule_model.specs.Program.{Stage, after_drop, after_giving, after_wake, first_stage, in_hand, item_at, landing_cpu, most_from, stage_after}
+use Rattle.ule_model.specs.PriorityChange.{forked_with}
+use Rattle.ule_model.specs.Program.{Stage, after_burial, after_drop, after_exit, after_forking, after_giving, after_hatch, after_wake, first_stage, in_hand, item_at, most_from, stage_after, landing_cpu}
 use Rattle.ule_types.specs.declared.stage.Stage.TheVariants as stage
+use Rattle.std.specs.Option.{option_map}
+use Rattle.ule_score.specs.declared.place.Place.{Place}
+use Rattle.ule_score.specs.declared.place.Place.TheVariants.{Running, Queued, Asleep, Unborn, Gone, Hand}
+use Rattle.ule_types.specs.declared.event.Event.TheVariants as event
+use Rattle.ule_model.specs.Places.{is_number, runs_on}
+use Rattle.ule_model.specs.Sleep.{dropped_with, woken_at, woken_with, woken as woken_of}
+use Rattle.ule_model.specs.Step.{step}
+use Rattle.ule_model.specs.WellMade.{IsWellMade}
+use Rattle.ule_model.specs.Words.{change_of}
+use Rattle.ule_model.specs.World.{Member, Side, World, current_of, side_of, thread_of}
+use Rattle.ule_members.proofs.Done.{held_member, in_hand_after, kept_some, taken_member, taken_record}
+use Rattle.ule_members.proofs.Reach.{takes_itself, unborn_found}
+use Rattle.ule_members.proofs.Starts.{nice_is, within_byte}
+use Rattle.ule_members.proofs.Threads.{thread_of_within, within_current}
+use Rattle.ule_members.proofs.Unborn.{hatched_by}
+use Rattle.std.specs.List.{AllByRecursion}
+use Rattle.ule_score.specs.Bounds.{KeepsBounds}
+use Rattle.ule_score.specs.Changes.{after_sleep, woken}
+use Rattle.ule_score.specs.declared.record.Settings.{Settings}
+use Rattle.ule_members.proofs.Membership.{Has, all_has, has_between, has_thread_of}
+use Rattle.ule_members.proofs.Within.{found_at}
+use Rattle.ule_rounds.proofs.Bindings.{change_binds}
 
 -- ---- the item at a stage
 
@@ -45,6 +71,15 @@ ended_stage worker (stage.Drops channel) none = cc
 ended_stage worker (stage.Beds t channel) none = cc
 ended_stage worker (stage.Wakes t) none = cc
 ended_stage worker (stage.Lands t c) none = cc
+ended_stage worker (stage.Lends t p) none = cc
+ended_stage worker (stage.Unlends t) none = cc
+ended_stage worker (stage.Renices t n) none = cc
+ended_stage worker (stage.Hatches t) none = cc
+ended_stage worker (stage.Forks t) none = cc
+ended_stage worker (stage.Returns t) none = cc
+ended_stage worker stage.Exits none = cc
+ended_stage worker (stage.Buries t parent run) none = cc
+ended_stage worker (stage.Inherits t run) none = cc
 
 -- only an advance of time leaves its stage when it is given
 pub given_stage : (worker : ℕ) (st : Stage) → AtItem worker st (λ e. after_giving st ≡ st) (λ k. after_giving st ≡ stage.Ended)
@@ -56,18 +91,50 @@ given_stage worker (stage.Drops channel) = refl
 given_stage worker (stage.Beds t channel) = refl
 given_stage worker (stage.Wakes t) = refl
 given_stage worker (stage.Lands t c) = refl
+given_stage worker (stage.Lends t p) = refl
+given_stage worker (stage.Unlends t) = refl
+given_stage worker (stage.Renices t n) = refl
+given_stage worker (stage.Hatches t) = refl
+given_stage worker (stage.Forks t) = refl
+given_stage worker (stage.Returns t) = refl
+given_stage worker stage.Exits = refl
+given_stage worker (stage.Buries t parent run) = refl
+given_stage worker (stage.Inherits t run) = refl
+
+-- ---- where replies lead
+
+-- a drop leads to the end, or to the bed of the thread that left
+pub drop_leads : (P : Stage → Type 0) (channel : ℕ) (r : Reply) → P stage.Ended → ((t : ℕ) → P (stage.Beds t channel)) → P (after_drop channel r)
+drop_leads P channel (reply.Dropped out into) ended beds = beds out
+drop_leads P channel _ ended beds = ended
+
+-- a wake leads to the end, or to a landing
+pub wake_leads : (P : Stage → Type 0) (t : ℕ) (r : Reply) → P stage.Ended → ((c : ℕ) → P (stage.Lands t c)) → P (after_wake t r)
+wake_leads P t (reply.Woken p bound last last_run) ended lands = lands (landing_cpu bound)
+wake_leads P t _ ended lands = ended
+
+-- a hatch leads to the end, or to the fork
+pub hatch_leads : (P : Stage → Type 0) (t : ℕ) (r : Reply) → P stage.Ended → P (stage.Forks t) → P (after_hatch t r)
+hatch_leads P t reply.Hatched ended forks = forks
+hatch_leads P t _ ended forks = ended
+
+-- a fork leads to the end, to the child's landing, or to its return
+pub fork_leads : (P : Stage → Type 0) (t : ℕ) (r : Reply) → P stage.Ended → P (stage.Lands t 0) → P (stage.Returns t) → P (after_forking t r)
+fork_leads P t (reply.Forked parent priority) ended lands returns = lands
+fork_leads P t reply.Nothing ended lands returns = returns
+fork_leads P t _ ended lands returns = ended
+
+-- an exit leads to the end, or to the burial of the thread that left
+pub exit_leads : (P : Stage → Type 0) (r : Reply) → P stage.Ended → ((t : ℕ) (parent : Option ℕ) (run : ℕ) → P (stage.Buries t parent run)) → P (after_exit r)
+exit_leads P (reply.Exited out into parent run) ended buries = buries out parent run
+exit_leads P _ ended buries = ended
+
+-- a burial leads to the end, or to the charge of the parent
+pub burial_leads : (P : Stage → Type 0) (parent : Option ℕ) (run : ℕ) → P stage.Ended → ((p : ℕ) → P (stage.Inherits p run)) → P (after_burial parent run)
+burial_leads P None run ended inherits = ended
+burial_leads P (Some p) run ended inherits = inherits p
 
 -- ---- items run out
-
--- after a drop there is one item more at most
-drop_few : (channel : ℕ) (r : Reply) → most_from (after_drop channel r) ≤ 1
-drop_few channel (reply.Dropped out into) = omega arith
-drop_few channel _ = omega arith
-
--- after a wake there is one item more at most
-wake_few : (t : ℕ) (r : Reply) → most_from (after_wake t r) ≤ 1
-wake_few t (reply.Woken p bound last last_run) = omega arith
-wake_few t _ = omega arith
 
 -- a reply leaves fewer items
 pub reply_lowers : (r : Reply) (worker : ℕ) (st : Stage) → AtItem worker st (λ e. most_from (stage_after r st) + 1 ≤ most_from st) (λ k. Unit {0})
@@ -75,10 +142,19 @@ reply_lowers r worker stage.Ended = tt
 reply_lowers r worker stage.Ticks = omega arith
 reply_lowers r worker (stage.Advances k) = tt
 reply_lowers r worker (stage.Switches why) = omega arith
-reply_lowers r worker (stage.Drops channel) = omega (arith, drop_few channel r)
+reply_lowers r worker (stage.Drops channel) = drop_leads (λ next. most_from next + 1 ≤ 2) channel r (omega arith) (λ t. omega arith)
 reply_lowers r worker (stage.Beds t channel) = omega arith
-reply_lowers r worker (stage.Wakes t) = omega (arith, wake_few t r)
+reply_lowers r worker (stage.Wakes t) = wake_leads (λ next. most_from next + 1 ≤ 2) t r (omega arith) (λ c. omega arith)
 reply_lowers r worker (stage.Lands t c) = omega arith
+reply_lowers r worker (stage.Lends t p) = omega arith
+reply_lowers r worker (stage.Unlends t) = omega arith
+reply_lowers r worker (stage.Renices t n) = omega arith
+reply_lowers r worker (stage.Hatches t) = hatch_leads (λ next. most_from next + 1 ≤ 3) t r (omega arith) (omega arith)
+reply_lowers r worker (stage.Forks t) = fork_leads (λ next. most_from next + 1 ≤ 2) t r (omega arith) (omega arith) (omega arith)
+reply_lowers r worker (stage.Returns t) = omega arith
+reply_lowers r worker stage.Exits = exit_leads (λ next. most_from next + 1 ≤ 3) r (omega arith) (λ t parent run. omega arith)
+reply_lowers r worker (stage.Buries t parent run) = burial_leads (λ next. most_from next + 1 ≤ 2) parent run (omega arith) (λ p. omega arith)
+reply_lowers r worker (stage.Inherits t run) = omega arith
 
 -- an advance that is given leaves fewer items
 pub advance_lowers : (worker : ℕ) (st : Stage) → AtItem worker st (λ e. Unit {0}) (λ k. most_from (after_giving st) + 1 ≤ most_from st)
@@ -90,6 +166,15 @@ advance_lowers worker (stage.Drops channel) = tt
 advance_lowers worker (stage.Beds t channel) = tt
 advance_lowers worker (stage.Wakes t) = tt
 advance_lowers worker (stage.Lands t c) = tt
+advance_lowers worker (stage.Lends t p) = tt
+advance_lowers worker (stage.Unlends t) = tt
+advance_lowers worker (stage.Renices t n) = tt
+advance_lowers worker (stage.Hatches t) = tt
+advance_lowers worker (stage.Forks t) = tt
+advance_lowers worker (stage.Returns t) = tt
+advance_lowers worker stage.Exits = tt
+advance_lowers worker (stage.Buries t parent run) = tt
+advance_lowers worker (stage.Inherits t run) = tt
 
 -- a tick is charged an item at least
 tick_charged : (worker cpus : ℕ) → 1 ≤ greatest_of_tick worker cpus
@@ -125,6 +210,15 @@ time_at (stage.Drops channel) = 0
 time_at (stage.Beds t channel) = 0
 time_at (stage.Wakes t) = 0
 time_at (stage.Lands t c) = 0
+time_at (stage.Lends t p) = 0
+time_at (stage.Unlends t) = 0
+time_at (stage.Renices t n) = 0
+time_at (stage.Hatches t) = 0
+time_at (stage.Forks t) = 0
+time_at (stage.Returns t) = 0
+time_at stage.Exits = 0
+time_at (stage.Buries t parent run) = 0
+time_at (stage.Inherits t run) = 0
 
 -- an event adds none, and an advance adds its own
 pub item_time : (worker : ℕ) (st : Stage) → AtItem worker st (λ e. time_at st ≡ 0) (λ k. time_at st ≡ k)
@@ -136,16 +230,15 @@ item_time worker (stage.Drops channel) = refl
 item_time worker (stage.Beds t channel) = refl
 item_time worker (stage.Wakes t) = refl
 item_time worker (stage.Lands t c) = refl
-
--- what follows a drop adds no time
-drop_time : (channel : ℕ) (r : Reply) → time_at (after_drop channel r) ≡ 0
-drop_time channel (reply.Dropped out into) = refl
-drop_time channel _ = refl
-
--- what follows a wake adds no time
-wake_time : (t : ℕ) (r : Reply) → time_at (after_wake t r) ≡ 0
-wake_time t (reply.Woken p bound last last_run) = refl
-wake_time t _ = refl
+item_time worker (stage.Lends t p) = refl
+item_time worker (stage.Unlends t) = refl
+item_time worker (stage.Renices t n) = refl
+item_time worker (stage.Hatches t) = refl
+item_time worker (stage.Forks t) = refl
+item_time worker (stage.Returns t) = refl
+item_time worker stage.Exits = refl
+item_time worker (stage.Buries t parent run) = refl
+item_time worker (stage.Inherits t run) = refl
 
 -- what follows a reply adds no time
 pub reply_time : (r : Reply) (st : Stage) → time_at (stage_after r st) ≡ 0
@@ -153,10 +246,19 @@ reply_time r stage.Ended = refl
 reply_time r stage.Ticks = refl
 reply_time r (stage.Advances k) = refl
 reply_time r (stage.Switches why) = refl
-reply_time r (stage.Drops channel) = drop_time channel r
+reply_time r (stage.Drops channel) = drop_leads (λ next. time_at next ≡ 0) channel r refl (λ t. refl)
 reply_time r (stage.Beds t channel) = refl
-reply_time r (stage.Wakes t) = wake_time t r
+reply_time r (stage.Wakes t) = wake_leads (λ next. time_at next ≡ 0) t r refl (λ c. refl)
 reply_time r (stage.Lands t c) = refl
+reply_time r (stage.Lends t p) = refl
+reply_time r (stage.Unlends t) = refl
+reply_time r (stage.Renices t n) = refl
+reply_time r (stage.Hatches t) = hatch_leads (λ next. time_at next ≡ 0) t r refl refl
+reply_time r (stage.Forks t) = fork_leads (λ next. time_at next ≡ 0) t r refl refl refl
+reply_time r (stage.Returns t) = refl
+reply_time r stage.Exits = exit_leads (λ next. time_at next ≡ 0) r refl (λ t parent run. refl)
+reply_time r (stage.Buries t parent run) = burial_leads (λ next. time_at next ≡ 0) parent run refl (λ p. refl)
+reply_time r (stage.Inherits t run) = refl
 
 -- a command adds the time of its first stage
 pub first_time : (c : Command) → time_at (first_stage c) ≡ amount_of c
@@ -177,8 +279,12 @@ first_time (Look c) = refl
 
 -- ---- what an item names
 
--- a stage that names declared threads, CPUs that there are, and an amount of time in range; the thread of a stage
--- that has it in hand is declared, since it stands there
+-- a charge of a parent, if there is one: it is a declared thread, and its child's run time is in range
+abbrev pub IsSoundCharge : List ℕ → Option ℕ → ℕ → Type 0
+IsSoundCharge ids parent run = IfSome parent (λ p. is_among ids p ≡ true) × (run < 2 ^ 62)
+
+-- a stage that names declared threads, CPUs that there are, and numbers in range; the thread of a stage that has
+-- it in hand is declared, since it stands there, and so is the thread that is to be hatched, since it is unborn
 abbrev pub IsSoundStage : List ℕ → ℕ → Stage → Type 0
 IsSoundStage ids cpus stage.Ended = Unit {0}
 IsSoundStage ids cpus stage.Ticks = Unit {0}
@@ -188,22 +294,40 @@ IsSoundStage ids cpus (stage.Drops channel) = Unit {0}
 IsSoundStage ids cpus (stage.Beds t channel) = Unit {0}
 IsSoundStage ids cpus (stage.Wakes t) = is_among ids t ≡ true
 IsSoundStage ids cpus (stage.Lands t c) = c < cpus
+IsSoundStage ids cpus (stage.Lends t p) = (is_among ids t ≡ true) × (p < 256)
+IsSoundStage ids cpus (stage.Unlends t) = is_among ids t ≡ true
+IsSoundStage ids cpus (stage.Renices t n) = (is_among ids t ≡ true) × IsNice n
+IsSoundStage ids cpus (stage.Hatches t) = Unit {0}
+IsSoundStage ids cpus (stage.Forks t) = Unit {0}
+IsSoundStage ids cpus (stage.Returns t) = Unit {0}
+IsSoundStage ids cpus stage.Exits = Unit {0}
+IsSoundStage ids cpus (stage.Buries t parent run) = IsSoundCharge ids parent run
+IsSoundStage ids cpus (stage.Inherits t run) = IsSoundCharge ids (Some t) run
 
--- an event that names CPUs that there are, and that seeks no thread or a declared one
+-- an event that names CPUs that there are, that seeks no thread or a declared one, and whose numbers are in range
 abbrev pub NamesWhatIs : List ℕ → ℕ → Event → Type 0
-NamesWhatIs ids cpus e = IsTrue (names_cpus cpus e) × IfSome (sought_by e) (λ t. is_among ids t ≡ true)
+NamesWhatIs ids cpus e = IsTrue (names_cpus cpus e) × IfSome (sought_by e) (λ t. is_among ids t ≡ true) × HasSoundNumbers e
 
 -- the item at a sound stage of one of so many workers names what there is
 pub item_names : (ids : List ℕ) (cpus worker : ℕ) (st : Stage) → worker < cpus → IsSoundStage ids cpus st →
     AtItem worker st (NamesWhatIs ids cpus) (λ k. is_within 1 1000000 k ≡ true)
 item_names ids cpus worker stage.Ended below sound = tt
-item_names ids cpus worker stage.Ticks below sound = (lt-ltb worker cpus below, tt)
+item_names ids cpus worker stage.Ticks below sound = (lt-ltb worker cpus below, tt, tt)
 item_names ids cpus worker (stage.Advances k) below sound = sound
-item_names ids cpus worker (stage.Switches why) below sound = (lt-ltb worker cpus below, tt)
-item_names ids cpus worker (stage.Drops channel) below sound = (lt-ltb worker cpus below, tt)
-item_names ids cpus worker (stage.Beds t channel) below sound = (refl, tt)
-item_names ids cpus worker (stage.Wakes t) below sound = (refl, sound)
-item_names ids cpus worker (stage.Lands t c) below sound = (lt-ltb c cpus sound, tt)
+item_names ids cpus worker (stage.Switches why) below sound = (lt-ltb worker cpus below, tt, tt)
+item_names ids cpus worker (stage.Drops channel) below sound = (lt-ltb worker cpus below, tt, tt)
+item_names ids cpus worker (stage.Beds t channel) below sound = (refl, tt, tt)
+item_names ids cpus worker (stage.Wakes t) below sound = (refl, sound, tt)
+item_names ids cpus worker (stage.Lands t c) below sound = (lt-ltb c cpus sound, tt, tt)
+item_names ids cpus worker (stage.Lends t p) below sound = (refl, sound.0, sound.1)
+item_names ids cpus worker (stage.Unlends t) below sound = (refl, sound, tt)
+item_names ids cpus worker (stage.Renices t n) below sound = (refl, sound.0, sound.1)
+item_names ids cpus worker (stage.Hatches t) below sound = (refl, tt, tt)
+item_names ids cpus worker (stage.Forks t) below sound = (lt-ltb worker cpus below, tt, tt)
+item_names ids cpus worker (stage.Returns t) below sound = (refl, tt, tt)
+item_names ids cpus worker stage.Exits below sound = (lt-ltb worker cpus below, tt, tt)
+item_names ids cpus worker (stage.Buries t parent run) below sound = (refl, tt, tt)
+item_names ids cpus worker (stage.Inherits t run) below sound = (refl, sound.0, sound.1)
 
 -- a valid command begins at a sound stage
 pub first_sound : (ids : List ℕ) (cpus : ℕ) (c : Command) → is_command ids cpus c ≡ true → IsSoundStage ids cpus (first_stage c)
@@ -213,9 +337,9 @@ first_sound ids cpus Yield valid = tt
 first_sound ids cpus Resched valid = tt
 first_sound ids cpus (Sleep channel) valid = tt
 first_sound ids cpus (Wake t) valid = valid
-first_sound ids cpus (Lend t p) valid = tt
-first_sound ids cpus (Unlend t) valid = tt
-first_sound ids cpus (Renice t n) valid = tt
+first_sound ids cpus (Lend t p) valid = let both = and_parts (is_among ids t) (is_within 0 255 p) valid in (both.0, within_byte 0 255 p (omega arith) both.1)
+first_sound ids cpus (Unlend t) valid = valid
+first_sound ids cpus (Renice t n) valid = let both = and_parts (is_among ids t) (is_nice n) valid in (both.0, nice_is n both.1)
 first_sound ids cpus (Fork t) valid = tt
 first_sound ids cpus Exit valid = tt
 first_sound ids cpus Idle valid = tt
@@ -232,52 +356,31 @@ given_sound ids cpus (stage.Drops channel) sound = tt
 given_sound ids cpus (stage.Beds t channel) sound = tt
 given_sound ids cpus (stage.Wakes t) sound = sound
 given_sound ids cpus (stage.Lands t c) sound = sound
-
--- a reply of which a woken thread lands on one of so many CPUs
-abbrev pub LandsWithin : ℕ → Reply → Type 0
-LandsWithin cpus (reply.Woken p bound last last_run) = landing_cpu bound < cpus
-LandsWithin cpus _ = Unit {0}
-
--- what the reply at a stage must say for the next stage to be sound
-abbrev pub IsSoundReply : ℕ → Stage → Reply → Type 0
-IsSoundReply cpus stage.Ended r = Unit {0}
-IsSoundReply cpus stage.Ticks r = Unit {0}
-IsSoundReply cpus (stage.Advances k) r = Unit {0}
-IsSoundReply cpus (stage.Switches why) r = Unit {0}
-IsSoundReply cpus (stage.Drops channel) r = Unit {0}
-IsSoundReply cpus (stage.Beds t channel) r = Unit {0}
-IsSoundReply cpus (stage.Wakes t) r = LandsWithin cpus r
-IsSoundReply cpus (stage.Lands t c) r = Unit {0}
-
--- what follows a drop is sound
-drop_sound : (ids : List ℕ) (cpus channel : ℕ) (r : Reply) → IsSoundStage ids cpus (after_drop channel r)
-drop_sound ids cpus channel (reply.Dropped out into) = tt
-drop_sound ids cpus channel _ = tt
-
--- what follows a wake whose thread lands on a CPU that there is is sound
-wake_sound : (ids : List ℕ) (cpus t : ℕ) (r : Reply) → LandsWithin cpus r → IsSoundStage ids cpus (after_wake t r)
-wake_sound ids cpus t (reply.Woken p bound last last_run) lands = lands
-wake_sound ids cpus t _ lands = tt
-
--- what follows a sound reply is sound
-pub reply_sound : (ids : List ℕ) (cpus : ℕ) (r : Reply) (st : Stage) → IsSoundReply cpus st r → IsSoundStage ids cpus (stage_after r st)
-reply_sound ids cpus r stage.Ended sound = tt
-reply_sound ids cpus r stage.Ticks sound = tt
-reply_sound ids cpus r (stage.Advances k) sound = tt
-reply_sound ids cpus r (stage.Switches why) sound = tt
-reply_sound ids cpus r (stage.Drops channel) sound = drop_sound ids cpus channel r
-reply_sound ids cpus r (stage.Beds t channel) sound = tt
-reply_sound ids cpus r (stage.Wakes t) sound = wake_sound ids cpus t r sound
-reply_sound ids cpus r (stage.Lands t c) sound = tt
+given_sound ids cpus (stage.Lends t p) sound = sound
+given_sound ids cpus (stage.Unlends t) sound = sound
+given_sound ids cpus (stage.Renices t n) sound = sound
+given_sound ids cpus (stage.Hatches t) sound = tt
+given_sound ids cpus (stage.Forks t) sound = tt
+given_sound ids cpus (stage.Returns t) sound = tt
+given_sound ids cpus stage.Exits sound = tt
+given_sound ids cpus (stage.Buries t parent run) sound = sound
+given_sound ids cpus (stage.Inherits t run) sound = sound
 
 -- ---- the worker's hand
 
--- what an event needs of the hand, told who is in it; no stage has the hatch of an unborn thread yet
+-- what an event needs of the hand, told who is in it
 abbrev pub FitsHand : Option ℕ → Handling → Type 0
 FitsHand hand any = Unit {0}
 FitsHand hand empty = hand ≡ None
-FitsHand hand (unborn t) = ⊥
+FitsHand hand (unborn t) = hand ≡ None
 FitsHand hand (has t) = hand ≡ Some t
+
+-- the unborn thread that an event fills a hand with is there, if it does
+abbrev pub FindsUnborn : List Member → Handling → Type 0
+FindsUnborn ms any = Unit {0}
+FindsUnborn ms empty = Unit {0}
+FindsUnborn ms (unborn t) = is_unborn_thread (thread_of t ms) ≡ true
+FindsUnborn ms (has t) = Unit {0}
 
 -- an event has the hand that it needs, and one that a thread in hand waits for seeks no other
 pub item_fits : (worker : ℕ) (st : Stage) →
@@ -290,6 +393,15 @@ item_fits worker (stage.Drops channel) = (refl, tt)
 item_fits worker (stage.Beds t channel) = (refl, refl)
 item_fits worker (stage.Wakes t) = (refl, tt)
 item_fits worker (stage.Lands t c) = (refl, refl)
+item_fits worker (stage.Lends t p) = (refl, tt)
+item_fits worker (stage.Unlends t) = (refl, tt)
+item_fits worker (stage.Renices t n) = (refl, tt)
+item_fits worker (stage.Hatches t) = (refl, tt)
+item_fits worker (stage.Forks t) = (refl, refl)
+item_fits worker (stage.Returns t) = (refl, refl)
+item_fits worker stage.Exits = (refl, tt)
+item_fits worker (stage.Buries t parent run) = (refl, refl)
+item_fits worker (stage.Inherits t run) = (refl, tt)
 
 -- a command begins with an empty hand
 pub first_hand : (c : Command) → in_hand (first_stage c) ≡ None
@@ -307,3 +419,359 @@ first_hand Exit = refl
 first_hand Idle = refl
 first_hand Balance = refl
 first_hand (Look c) = refl
+
+-- ---- the hand after an event
+
+-- a thread that is taken is the one that is found in the hand
+found_taken : (u t : ℕ) (taken old : Option Member) → is_some taken ≡ true → is_some old ≡ false → is_some (if u == t then taken else old) ≡ (u == t)
+found_taken u t taken old some none = by_test (u == t)
+  where
+    by_test : (b : Bool) → is_some (if b then taken else old) ≡ b
+    by_test true = some
+    by_test false = none
+
+-- a thread that is put down is found in the hand no longer
+found_put : (u t : ℕ) (old : Option Member) → is_some old ≡ (u == t) → is_some (if u == t then None else old) ≡ false
+found_put u t old was = by_test (u == t) was
+  where
+    by_test : (b : Bool) → is_some old ≡ b → is_some (if b then None else old) ≡ false
+    by_test true was = refl
+    by_test false was = was
+
+-- the worker's hand after the step of an event, by look-up, is the one that the stage after the reply says
+abbrev pub FollowsHand : World → ℕ → ℕ → Stage → Event → Type 0
+FollowsHand w worker now st e =
+    (u : ℕ) (old : Option Member) → is_some old ≡ is_number u (in_hand st) →
+    is_some (in_hand_after w worker e now (change_of e (step w worker e now).1) u old) ≡ is_number u (in_hand (stage_after (step w worker e now).1 st))
+
+-- a thread that stands in the world can be taken
+taken_some : (w : World) (worker now : ℕ) (e : Event) (t : ℕ) (m : Member) → thread_of t w.members ≡ Some m → is_some (taken_member w worker e now t) ≡ true
+taken_some w worker now e t m found =
+    ap (λ o. is_some (option_map (λ (n : Member). held_member worker (taken_record w.settings now e n.thread)) o)) found
+
+-- after a drop the thread that left is in the hand
+drop_follows : (w : World) (worker channel now : ℕ) → IsWellMade w.members → FollowsHand w worker now (stage.Drops channel) (event.Drop worker channel)
+drop_follows w worker channel now made u old was = at_current (current_of worker w.members) refl
+  where
+    e : Event
+    e = event.Drop worker channel
+
+    at_current : (o : Option Member) → current_of worker w.members ≡ o →
+        is_some (in_hand_after w worker e now (change_of e (dropped_with o worker worker now (side_of worker w)).1) u old) ≡
+        is_number u (in_hand (stage_after (dropped_with o worker worker now (side_of worker w)).1 (stage.Drops channel)))
+    at_current None none = was
+    at_current (Some m) found =
+        found_taken u m.thread.id (taken_member w worker e now m.thread.id) old
+        (taken_some w worker now e m.thread.id m (thread_of_within m.thread.id m w.members (within_current worker w.members m made found))) was
+
+-- after a wake the woken thread is in the hand
+wake_follows : (w : World) (worker t now : ℕ) → FollowsHand w worker now (stage.Wakes t) (event.Wake t)
+wake_follows w worker t now u old was = at_thread (thread_of t w.members) refl
+  where
+    e : Event
+    e = event.Wake t
+
+    at_place : (m : Member) → thread_of t w.members ≡ Some m → (place : Place) →
+        is_some (in_hand_after w worker e now (change_of e (woken_at place worker now w.settings m w.members).1) u old) ≡
+        is_number u (in_hand (stage_after (woken_at place worker now w.settings m w.members).1 (stage.Wakes t)))
+    at_place m found (Asleep channel) = found_taken u t (taken_member w worker e now t) old (taken_some w worker now e t m found) was
+    at_place m found (Running c) = was
+    at_place m found (Queued c k b) = was
+    at_place m found Unborn = was
+    at_place m found Gone = was
+    at_place m found (Hand h) = was
+
+    at_thread : (o : Option Member) → thread_of t w.members ≡ o →
+        is_some (in_hand_after w worker e now (change_of e (woken_with o worker now w.settings w.members).1) u old) ≡
+        is_number u (in_hand (stage_after (woken_with o worker now w.settings w.members).1 (stage.Wakes t)))
+    at_thread None none = was
+    at_thread (Some m) found = at_place m found m.place
+
+-- after an exit the thread that left is in the hand
+exit_follows : (w : World) (worker now : ℕ) → IsWellMade w.members → FollowsHand w worker now stage.Exits (event.Exit worker)
+exit_follows w worker now made u old was = at_current (current_of worker w.members) refl
+  where
+    e : Event
+    e = event.Exit worker
+
+    at_current : (o : Option Member) → current_of worker w.members ≡ o →
+        is_some (in_hand_after w worker e now (change_of e (exited_with o worker worker now (side_of worker w)).1) u old) ≡
+        is_number u (in_hand (stage_after (exited_with o worker worker now (side_of worker w)).1 stage.Exits))
+    at_current None none = was
+    at_current (Some m) found =
+        found_taken u m.thread.id (taken_member w worker e now m.thread.id) old
+        (taken_some w worker now e m.thread.id m (thread_of_within m.thread.id m w.members (within_current worker w.members m made found))) was
+
+-- after a hatch the thread that was unborn is in the hand
+hatch_follows : (w : World) (worker t now : ℕ) → is_unborn_thread (thread_of t w.members) ≡ true → FollowsHand w worker now (stage.Hatches t) (event.Hatch t)
+hatch_follows w worker t now still u old was =
+    let there = unborn_found w.members t still in
+    found_taken u t (taken_member w worker (event.Hatch t) now t) old (taken_some w worker now (event.Hatch t) t there.member there.found) was
+
+-- after a fork the child is still in the hand, also where none ran to fork it
+forked_stays : (t c now : ℕ) (parent child : Option Member) (s : Side) → in_hand (after_forking t (forked_with parent child c now s).1) ≡ Some t
+forked_stays t c now None child s = refl
+forked_stays t c now (Some m) None s = refl
+forked_stays t c now (Some m) (Some child) s = refl
+
+-- after a fork the thread that was in the hand is in it
+fork_follows : (w : World) (worker t now : ℕ) → FollowsHand w worker now (stage.Forks t) (event.Fork worker t)
+fork_follows w worker t now u old was =
+    kept_some w now (event.Fork worker t) old ∙ was ∙
+    ap (is_number u) (sym (forked_stays t worker now (current_of worker w.members) (thread_of t w.members) (side_of worker w)))
+
+-- the hand follows what the event at a stage and its reply did to it, where it was as the event needs it
+pub hand_follows : (w : World) (worker now : ℕ) (st : Stage) → IsWellMade w.members →
+    AtItem worker st (λ e. IsHandled w worker (handling e) → FollowsHand w worker now st e) (λ k. Unit {0})
+hand_follows w worker now stage.Ended made = tt
+hand_follows w worker now stage.Ticks made = λ handled u old was. was
+hand_follows w worker now (stage.Advances k) made = tt
+hand_follows w worker now (stage.Switches why) made = λ handled u old was. was
+hand_follows w worker now (stage.Drops channel) made = λ handled. drop_follows w worker channel now made
+hand_follows w worker now (stage.Beds t channel) made = λ handled u old was. found_put u t old was
+hand_follows w worker now (stage.Wakes t) made = λ handled. wake_follows w worker t now
+hand_follows w worker now (stage.Lands t c) made = λ handled u old was. found_put u t old was
+hand_follows w worker now (stage.Lends t p) made = λ handled u old was. was
+hand_follows w worker now (stage.Unlends t) made = λ handled u old was. was
+hand_follows w worker now (stage.Renices t n) made = λ handled u old was. was
+hand_follows w worker now (stage.Hatches t) made = λ handled. hatch_follows w worker t now handled.1
+hand_follows w worker now (stage.Forks t) made = λ handled. fork_follows w worker t now
+hand_follows w worker now (stage.Returns t) made = λ handled u old was. found_put u t old was
+hand_follows w worker now stage.Exits made = λ handled. exit_follows w worker now made
+hand_follows w worker now (stage.Buries t parent run) made = λ handled u old was. found_put u t old was ∙ ap (is_number u) (sym (burial_leads (λ next. in_hand next ≡ None) parent run refl (λ p. refl)))
+hand_follows w worker now (stage.Inherits t run) made = λ handled u old was. was
+
+-- ---- the threads to fork
+
+-- the thread that a stage is to hatch, if it is
+abbrev pub hatching : Stage → List ℕ
+hatching stage.Ended = []
+hatching stage.Ticks = []
+hatching (stage.Advances k) = []
+hatching (stage.Switches why) = []
+hatching (stage.Drops channel) = []
+hatching (stage.Beds t channel) = []
+hatching (stage.Wakes t) = []
+hatching (stage.Lands t c) = []
+hatching (stage.Lends t p) = []
+hatching (stage.Unlends t) = []
+hatching (stage.Renices t n) = []
+hatching (stage.Hatches t) = t ∷ []
+hatching (stage.Forks t) = []
+hatching (stage.Returns t) = []
+hatching stage.Exits = []
+hatching (stage.Buries t parent run) = []
+hatching (stage.Inherits t run) = []
+
+-- a command is first to hatch the thread that it forks
+pub first_hatching : (c : Command) → hatching (first_stage c) ≡ forked_by c
+first_hatching Tick = refl
+first_hatching (Time k) = refl
+first_hatching Yield = refl
+first_hatching Resched = refl
+first_hatching (Sleep channel) = refl
+first_hatching (Wake t) = refl
+first_hatching (Lend t p) = refl
+first_hatching (Unlend t) = refl
+first_hatching (Renice t n) = refl
+first_hatching (Fork t) = refl
+first_hatching Exit = refl
+first_hatching Idle = refl
+first_hatching Balance = refl
+first_hatching (Look c) = refl
+
+-- an event hatches the thread that its stage is to hatch, and an advance of time hatches none
+pub item_hatching : (worker : ℕ) (st : Stage) → AtItem worker st (λ e. hatching st ≡ hatched_by e) (λ k. hatching st ≡ [])
+item_hatching worker stage.Ended = tt
+item_hatching worker stage.Ticks = refl
+item_hatching worker (stage.Advances k) = refl
+item_hatching worker (stage.Switches why) = refl
+item_hatching worker (stage.Drops channel) = refl
+item_hatching worker (stage.Beds t channel) = refl
+item_hatching worker (stage.Wakes t) = refl
+item_hatching worker (stage.Lands t c) = refl
+item_hatching worker (stage.Lends t p) = refl
+item_hatching worker (stage.Unlends t) = refl
+item_hatching worker (stage.Renices t n) = refl
+item_hatching worker (stage.Hatches t) = refl
+item_hatching worker (stage.Forks t) = refl
+item_hatching worker (stage.Returns t) = refl
+item_hatching worker stage.Exits = refl
+item_hatching worker (stage.Buries t parent run) = refl
+item_hatching worker (stage.Inherits t run) = refl
+
+-- what follows a reply is to hatch none
+pub reply_hatching : (r : Reply) (st : Stage) → hatching (stage_after r st) ≡ []
+reply_hatching r stage.Ended = refl
+reply_hatching r stage.Ticks = refl
+reply_hatching r (stage.Advances k) = refl
+reply_hatching r (stage.Switches why) = refl
+reply_hatching r (stage.Drops channel) = drop_leads (λ next. hatching next ≡ []) channel r refl (λ t. refl)
+reply_hatching r (stage.Beds t channel) = refl
+reply_hatching r (stage.Wakes t) = wake_leads (λ next. hatching next ≡ []) t r refl (λ c. refl)
+reply_hatching r (stage.Lands t c) = refl
+reply_hatching r (stage.Lends t p) = refl
+reply_hatching r (stage.Unlends t) = refl
+reply_hatching r (stage.Renices t n) = refl
+reply_hatching r (stage.Hatches t) = hatch_leads (λ next. hatching next ≡ []) t r refl refl
+reply_hatching r (stage.Forks t) = fork_leads (λ next. hatching next ≡ []) t r refl refl refl
+reply_hatching r (stage.Returns t) = refl
+reply_hatching r stage.Exits = exit_leads (λ next. hatching next ≡ []) r refl (λ t parent run. refl)
+reply_hatching r (stage.Buries t parent run) = burial_leads (λ next. hatching next ≡ []) parent run refl (λ p. refl)
+reply_hatching r (stage.Inherits t run) = refl
+
+-- where the thread that a stage is to hatch is unborn, its event finds it
+pub item_finds : (ms : List Member) (worker : ℕ) (st : Stage) → ((t : ℕ) → is_among (hatching st) t ≡ true → is_unborn_thread (thread_of t ms) ≡ true) →
+    AtItem worker st (λ e. FindsUnborn ms (handling e)) (λ k. Unit {0})
+item_finds ms worker stage.Ended each = tt
+item_finds ms worker stage.Ticks each = tt
+item_finds ms worker (stage.Advances k) each = tt
+item_finds ms worker (stage.Switches why) each = tt
+item_finds ms worker (stage.Drops channel) each = tt
+item_finds ms worker (stage.Beds t channel) each = tt
+item_finds ms worker (stage.Wakes t) each = tt
+item_finds ms worker (stage.Lands t c) each = tt
+item_finds ms worker (stage.Lends t p) each = tt
+item_finds ms worker (stage.Unlends t) each = tt
+item_finds ms worker (stage.Renices t n) each = tt
+item_finds ms worker (stage.Hatches t) each = each t (takes_itself t)
+item_finds ms worker (stage.Forks t) each = tt
+item_finds ms worker (stage.Returns t) each = tt
+item_finds ms worker stage.Exits each = tt
+item_finds ms worker (stage.Buries t parent run) each = tt
+item_finds ms worker (stage.Inherits t run) each = tt
+
+-- ---- what a reply says of the next stage
+
+-- a reply of which a woken thread lands on one of so many CPUs
+abbrev pub LandsWithin : ℕ → Reply → Type 0
+LandsWithin cpus (reply.Woken p bound last last_run) = landing_cpu bound < cpus
+LandsWithin cpus _ = Unit {0}
+
+-- a reply of which an exited thread's parent is charged soundly
+abbrev pub ChargesSoundly : List ℕ → Reply → Type 0
+ChargesSoundly ids (reply.Exited out into parent run) = IsSoundCharge ids parent run
+ChargesSoundly ids _ = Unit {0}
+
+-- what the reply at a stage must say for the next stage to be sound; a child lands on CPU 0
+abbrev pub IsSoundReply : List ℕ → ℕ → Stage → Reply → Type 0
+IsSoundReply ids cpus stage.Ended r = Unit {0}
+IsSoundReply ids cpus stage.Ticks r = Unit {0}
+IsSoundReply ids cpus (stage.Advances k) r = Unit {0}
+IsSoundReply ids cpus (stage.Switches why) r = Unit {0}
+IsSoundReply ids cpus (stage.Drops channel) r = Unit {0}
+IsSoundReply ids cpus (stage.Beds t channel) r = Unit {0}
+IsSoundReply ids cpus (stage.Wakes t) r = LandsWithin cpus r
+IsSoundReply ids cpus (stage.Lands t c) r = Unit {0}
+IsSoundReply ids cpus (stage.Lends t p) r = Unit {0}
+IsSoundReply ids cpus (stage.Unlends t) r = Unit {0}
+IsSoundReply ids cpus (stage.Renices t n) r = Unit {0}
+IsSoundReply ids cpus (stage.Hatches t) r = Unit {0}
+IsSoundReply ids cpus (stage.Forks t) r = 0 < cpus
+IsSoundReply ids cpus (stage.Returns t) r = Unit {0}
+IsSoundReply ids cpus stage.Exits r = ChargesSoundly ids r
+IsSoundReply ids cpus (stage.Buries t parent run) r = Unit {0}
+IsSoundReply ids cpus (stage.Inherits t run) r = Unit {0}
+
+-- what follows a wake whose thread lands on a CPU that there is is sound
+wake_sound : (ids : List ℕ) (cpus t : ℕ) (r : Reply) → LandsWithin cpus r → IsSoundStage ids cpus (after_wake t r)
+wake_sound ids cpus t (reply.Woken p bound last last_run) lands = lands
+wake_sound ids cpus t _ lands = tt
+
+-- what follows an exit whose thread's parent is charged soundly is sound
+exit_sound : (ids : List ℕ) (cpus : ℕ) (r : Reply) → ChargesSoundly ids r → IsSoundStage ids cpus (after_exit r)
+exit_sound ids cpus (reply.Exited out into parent run) charge = charge
+exit_sound ids cpus _ charge = tt
+
+-- what follows a burial of which the parent is charged soundly is sound
+burial_sound : (ids : List ℕ) (cpus : ℕ) (parent : Option ℕ) (run : ℕ) → IsSoundCharge ids parent run → IsSoundStage ids cpus (after_burial parent run)
+burial_sound ids cpus None run charge = tt
+burial_sound ids cpus (Some parent) run charge = charge
+
+-- what follows a sound stage and a sound reply is sound
+pub reply_sound : (ids : List ℕ) (cpus : ℕ) (r : Reply) (st : Stage) → IsSoundStage ids cpus st → IsSoundReply ids cpus st r →
+    IsSoundStage ids cpus (stage_after r st)
+reply_sound ids cpus r stage.Ended before sound = tt
+reply_sound ids cpus r stage.Ticks before sound = tt
+reply_sound ids cpus r (stage.Advances k) before sound = tt
+reply_sound ids cpus r (stage.Switches why) before sound = tt
+reply_sound ids cpus r (stage.Drops channel) before sound = drop_leads (IsSoundStage ids cpus) channel r tt (λ t. tt)
+reply_sound ids cpus r (stage.Beds t channel) before sound = tt
+reply_sound ids cpus r (stage.Wakes t) before sound = wake_sound ids cpus t r sound
+reply_sound ids cpus r (stage.Lands t c) before sound = tt
+reply_sound ids cpus r (stage.Lends t p) before sound = tt
+reply_sound ids cpus r (stage.Unlends t) before sound = tt
+reply_sound ids cpus r (stage.Renices t n) before sound = tt
+reply_sound ids cpus r (stage.Hatches t) before sound = hatch_leads (IsSoundStage ids cpus) t r tt tt
+reply_sound ids cpus r (stage.Forks t) before sound = fork_leads (IsSoundStage ids cpus) t r tt sound tt
+reply_sound ids cpus r (stage.Returns t) before sound = tt
+reply_sound ids cpus r stage.Exits before sound = exit_sound ids cpus r sound
+reply_sound ids cpus r (stage.Buries t parent run) before sound = burial_sound ids cpus parent run before
+reply_sound ids cpus r (stage.Inherits t run) before sound = tt
+
+-- ---- where a woken thread lands
+
+-- a thread that is bound to one of so many CPUs, or to none, lands on one of them
+pub landing_within : (cpus : ℕ) (bound : Option ℕ) → 0 < cpus → IfSome bound (λ c. c < cpus) → landing_cpu bound < cpus
+landing_within cpus None some within = some
+landing_within cpus (Some c) some within = within
+
+-- the reply of a wake says that the thread lands on one of them
+wake_lands : (cpus now t worker : ℕ) (settings : Settings) (ms : List Member) → 0 < cpus → AllByRecursion (λ m. IfSome m.thread.bound (λ c. c < cpus)) ms →
+    LandsWithin cpus (woken_of t worker now settings ms).1
+wake_lands cpus now t worker settings ms some bound = at_thread (thread_of t ms) refl
+  where
+    at_place : (m : Member) → thread_of t ms ≡ Some m → (place : Place) → LandsWithin cpus (woken_at place worker now settings m ms).1
+    at_place m found (Asleep channel) =
+        landing_within cpus (after_sleep settings now m.thread).bound some
+        (change_binds (λ c. c < cpus) settings now woken m.thread (all_has (λ n. IfSome n.thread.bound (λ c. c < cpus)) m ms bound (has_thread_of t m ms found).0))
+    at_place m found (Running c) = tt
+    at_place m found (Queued c k b) = tt
+    at_place m found Unborn = tt
+    at_place m found Gone = tt
+    at_place m found (Hand w) = tt
+
+    at_thread : (o : Option Member) → thread_of t ms ≡ o → LandsWithin cpus (woken_with o worker now settings ms).1
+    at_thread None none = tt
+    at_thread (Some m) found = at_place m found m.place
+
+-- ---- what an exited thread's parent is charged
+
+-- a parent, if there is one, among the declared threads
+abbrev pub HasDeclaredParent : List ℕ → Member → Type 0
+HasDeclaredParent ids m = IfSome m.thread.parent (λ p. is_among ids p ≡ true)
+
+-- the reply of an exit says that the parent is declared, and a run time in range
+exit_charges : (ids : List ℕ) (c worker now : ℕ) (s : Side) → AllByRecursion (HasDeclaredParent ids) s.members → AllByRecursion (λ m. KeepsBounds m.thread) s.members →
+    ChargesSoundly ids (exited c worker now s).1
+exit_charges ids c worker now s parents bounds = at_current (current_of c s.members) refl
+  where
+    at_current : (o : Option Member) → current_of c s.members ≡ o → ChargesSoundly ids (exited_with o c worker now s).1
+    at_current None none = tt
+    at_current (Some m) found =
+        let at = found_at (λ n. runs_on c n.place) s.members m found in
+        let has : Has m s.members = subst (Has m) (sym at.whole) (has_between at.before m at.after) in
+        let bounded : KeepsBounds m.thread = all_has (λ n. KeepsBounds n.thread) m s.members bounds has in
+        (all_has (HasDeclaredParent ids) m s.members parents has, omega (arith, bounded.history))
+
+-- the reply to the event at a stage makes the next stage sound
+pub step_replies : (ids : List ℕ) (cpus : ℕ) (w : World) (worker now : ℕ) (st : Stage) → 0 < cpus →
+    AllByRecursion (λ m. IfSome m.thread.bound (λ c. c < cpus)) w.members → AllByRecursion (HasDeclaredParent ids) w.members →
+    AllByRecursion (λ m. KeepsBounds m.thread) w.members → AtItem worker st (λ e. IsSoundReply ids cpus st (step w worker e now).1) (λ k. Unit {0})
+step_replies ids cpus w worker now stage.Ended some bound parents bounds = tt
+step_replies ids cpus w worker now stage.Ticks some bound parents bounds = tt
+step_replies ids cpus w worker now (stage.Advances k) some bound parents bounds = tt
+step_replies ids cpus w worker now (stage.Switches why) some bound parents bounds = tt
+step_replies ids cpus w worker now (stage.Drops channel) some bound parents bounds = tt
+step_replies ids cpus w worker now (stage.Beds t channel) some bound parents bounds = tt
+step_replies ids cpus w worker now (stage.Wakes t) some bound parents bounds = wake_lands cpus now t worker w.settings w.members some bound
+step_replies ids cpus w worker now (stage.Lands t c) some bound parents bounds = tt
+step_replies ids cpus w worker now (stage.Lends t p) some bound parents bounds = tt
+step_replies ids cpus w worker now (stage.Unlends t) some bound parents bounds = tt
+step_replies ids cpus w worker now (stage.Renices t n) some bound parents bounds = tt
+step_replies ids cpus w worker now (stage.Hatches t) some bound parents bounds = tt
+step_replies ids cpus w worker now (stage.Forks t) some bound parents bounds = some
+step_replies ids cpus w worker now (stage.Returns t) some bound parents bounds = tt
+step_replies ids cpus w worker now stage.Exits some bound parents bounds = exit_charges ids worker worker now (side_of worker w) parents bounds
+step_replies ids cpus w worker now (stage.Buries t parent run) some bound parents bounds = tt
+step_replies ids cpus w worker now (stage.Inherits t run) some bound parents bounds = tt

@@ -37,7 +37,8 @@ removed_written q t b k i m x y sound found same spot read write =
     let here : x ≡ list_at q b = get_or_read q i x (omega arith) read [] ∙ ap (list_at q) same in
     rw (write, here, same, spot) (removed_at_place q t b k (sound.once t) found)
 
-pub place_in_read : (q : List (List ℕ)) (t b i n : ℕ) (x : List ℕ) → IsRunq q → b < RQ_NQS → ((k : ℕ) → k < b → position (λ u. u == t) (list_at q k) ≡ None) → i ≡ b → x ≡ get_or q i x → position (λ u. u == t) x ≡ Some n → (place_in q t ≡ Some (b, n)) × (n < 256)
+pub place_in_read : (q : List (List ℕ)) (t b i n : ℕ) (x : List ℕ) → IsRunq q → b < RQ_NQS → ((k : ℕ) → k < b → position (λ u. u == t) (list_at q k) ≡ None) → i ≡ b →
+    x ≡ get_or q i x → position (λ u. u == t) x ≡ Some n → (place_in q t ≡ Some (b, n)) × (n < 256)
 unfolding bucket_in
 place_in_read q t b i n x sound bucket before same read found =
     let all = sound.buckets in
@@ -63,7 +64,8 @@ bucket_in_nowhere q t b sound all before =
     position-none (list_any (λ u. u == t)) q (list_any_none (list_any (λ u. u == t)) q
     (All-from_get_or (λ xs. list_any (λ u. u == t) xs ≡ false) q [] (λ k below. position_None (λ u. u == t) (list_at q k) (before k (omega arith)))))
 
-pub first_from_read : (q : List (List ℕ)) (b k i t : ℕ) (x : List ℕ) → IsRunq q → b < RQ_NQS → k < RQ_NQS → ((j : ℕ) → j < k → list_at q ((b + j) % RQ_NQS) ≡ []) → i ≡ (b + k) % RQ_NQS → x ≡ get_or q i x → slice_get x 0 ≡ Some t → first_from q b ≡ Some ((b + k) % RQ_NQS, t)
+pub first_from_read : (q : List (List ℕ)) (b k i t : ℕ) (x : List ℕ) → IsRunq q → b < RQ_NQS → k < RQ_NQS → ((j : ℕ) → j < k → list_at q ((b + j) % RQ_NQS) ≡ []) →
+    i ≡ (b + k) % RQ_NQS → x ≡ get_or q i x → slice_get x 0 ≡ Some t → first_from q b ≡ Some ((b + k) % RQ_NQS, t)
 first_from_read q b k i t x sound from step before same read head =
     let all = sound.buckets in
     let here : x ≡ list_at q ((b + k) % RQ_NQS) = get_or_read q i x (omega arith) read [] ∙ ap (list_at q) same in

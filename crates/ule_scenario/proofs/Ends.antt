@@ -20,7 +20,8 @@ empty_from_cut : (bytes : List ℕ) → cut bytes ≡ no_more → bytes ≡ []
 empty_from_cut bytes e = sym (uncut bytes) ∙ ap (λ all. join_with_byte 10 (map (join_with_byte 32) all)) e
 
 -- whether the last line stands first, and nothing after it
-pub last_line : (bytes rest : List ℕ) (line : Line) (empty : Bool) → cut bytes ≡ line ∷ cut rest → line ≡ end_line → empty ≡ (length rest == 0) → (IsTrue empty → cut bytes ≡ end_line ∷ no_more) × (cut bytes ≡ end_line ∷ no_more → IsTrue empty)
+pub last_line : (bytes rest : List ℕ) (line : Line) (empty : Bool) → cut bytes ≡ line ∷ cut rest → line ≡ end_line → empty ≡ (length rest == 0)
+    → (IsTrue empty → cut bytes ≡ end_line ∷ no_more) × (cut bytes ≡ end_line ∷ no_more → IsTrue empty)
 last_line bytes rest line empty e is_end is_empty = (
   λ h. let none : rest ≡ [] = nil_from_length rest (eqb-true (length rest) 0 (sym is_empty ∙ h)) in e ∙ rw (is_end, none) refl,
   λ over. let last : cut rest ≡ no_more = cc in is_empty ∙ eq-eqb (length rest) 0 (ap length (empty_from_cut rest last)),

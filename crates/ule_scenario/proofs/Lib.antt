@@ -1,7 +1,10 @@
 pub mod Causes
 pub mod Charges
 pub mod Commands
+pub mod Declarations
+pub mod Distinct
 pub mod Ends
+pub mod HeadLines
 pub mod Numbers
 pub mod Parts
 pub mod Pieces

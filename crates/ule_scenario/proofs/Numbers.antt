@@ -1,12 +1,13 @@
 -- Digits without a leading zero are the decimal text of their value, and no other.
-use Rattle.std.proofs.Common.{◌≡◌, ◌≢◌, ℕ, ◌^◌, ◌<◌, ◌≤◌, IsTrue, List, length, take, drop, get_or, sym, ap, ◌∙◌, arith, ⊎_elim, ℤ, pos, negsuc, suc, Option, Some, None, IfNone}
+use Rattle.std.proofs.Common.{◌≡◌, ◌≢◌, ℕ, ◌-◌, ◌^◌, ◌<◌, ◌≤◌, ◌==◌, false, refl, IsTrue, List, length, take, drop, get_or, sym, ap, ◌∙◌, arith, ⊎_elim, ℤ, pos, negsuc, suc, Option, Some, None, IfNone}
+use Rattle.std.specs.Prelude.{if◌then◌else◌}
 use Rattle.std.specs.Char.{IsNotAsciiDigit}
 use Rattle.std.specs.Fmt.{decimal, signed_decimal}
 use Rattle.std.specs.Str.Parse.{AllDigits, digits_value}
-use Rattle.std.proofs.lemmas.Bool.{leb-true, ltb-true, cases_eq}
+use Rattle.std.proofs.lemmas.Bool.{leb-true, ltb-true, ne_eqb, cases_eq}
 use Rattle.std.proofs.lemmas.Fmt.{decimal-digits_value, digits_decimal, digits_value-decimal, decimal_nonempty, first_decimal, decimal_digit, decimal_injective}
 use Rattle.std.proofs.lemmas.Str.Parse.{numerals_by_value, tells_digits, digits_value-take-le, digit_at, IsNumeralModel}
-use Rattle.ule_types.specs.Rules.{is_nice}
+use Rattle.ule_types.specs.Commands.{is_nice}
 
 pub none_then : {A : Type 0} (r : Option A) {P Q : Type 0} → IfNone r P → (P → Q) → IfNone r Q
 none_then None h f = f h
@@ -73,3 +74,17 @@ same_number m n fits fits' e = decimal_injective m n (omega arith) (omega arith)
 -- the digits of a number have it as their value
 pub value_of_decimal : (n : ℕ) → n < 2 ^ 32 → digits_value 10 (decimal n) ≡ n
 value_of_decimal n fits = digits_value-decimal own n (omega arith)
+
+-- the nice value that a word tells
+abbrev pub nice_told : List ℕ → ℤ
+nice_told word = if get_or word 0 0 == 45 then negsuc (digits_value 10 (drop 1 word) - 1) else pos (digits_value 10 word)
+
+-- the word of a nice value tells it
+pub nice_of_word : (n : ℤ) → IsTrue (is_nice n) → nice_told (signed_decimal n) ≡ n
+nice_of_word (pos n) fits =
+    let small : n < 2 ^ 32 = omega (arith, leb-true n 20 fits) in
+    let other : (get_or (decimal n) 0 0 == 45) ≡ false = ne_eqb (get_or (decimal n) 0 0) 45 (first_not_minus n small) in
+    rw (other, value_of_decimal n small) refl
+nice_of_word (negsuc n) fits =
+    let small : suc n < 2 ^ 32 = omega (arith, ltb-true n 20 fits) in
+    ap negsuc (omega (arith, value_of_decimal (suc n) small))

@@ -8,9 +8,9 @@ first_line e = cc
 pub other_lines : {a b : Line} {ls ms : List Line} → a ∷ ls ≡ b ∷ ms → ls ≡ ms
 other_lines e = cc
 
--- of three lines the last two, and those that follow
-pub second_lines : {a b c a' b' c' : Line} {ls ms : List Line} → a ∷ b ∷ c ∷ ls ≡ a' ∷ b' ∷ c' ∷ ms → (b ≡ b') × (c ≡ c') × (ls ≡ ms)
-second_lines e = (cc, cc, cc)
+-- of two lines each, and those that follow
+pub two_lines : {a b a' b' : Line} {ls ms : List Line} → a ∷ b ∷ ls ≡ a' ∷ b' ∷ ms → (a ≡ a') × (b ≡ b') × (ls ≡ ms)
+two_lines e = (cc, cc, cc)
 
 pub first_word : {w x : Word} {ws xs : Line} → w ∷ ws ≡ x ∷ xs → w ≡ x
 first_word e = cc
@@ -18,20 +18,20 @@ first_word e = cc
 pub second_word : {a b a' b' : Word} → ◌≡◌ {A = Line} (a ∷ b ∷ []) (a' ∷ b' ∷ []) → b ≡ b'
 second_word e = cc
 
--- the second word of a line that was read word by word
-pub second_of_two : {l w x : Line} {a b a' b' : Word} → l ≡ a ∷ w → w ≡ b ∷ x → l ≡ a' ∷ b' ∷ [] → b ≡ b'
-second_of_two p q r = cc
+pub second_of_three : {a b c a' b' c' : Word} → ◌≡◌ {A = Line} (a ∷ b ∷ c ∷ []) (a' ∷ b' ∷ c' ∷ []) → b ≡ b'
+second_of_three e = cc
 
--- the words that are left after one, three and four
+pub third_of_three : {a b c a' b' c' : Word} → ◌≡◌ {A = Line} (a ∷ b ∷ c ∷ []) (a' ∷ b' ∷ c' ∷ []) → c ≡ c'
+third_of_three e = cc
+
+-- what stands second in a list that was read step by step
+pub second_of : {A : Type 0} {l w x m : List A} {a b a' b' : A} → l ≡ a ∷ w → w ≡ b ∷ x → l ≡ a' ∷ b' ∷ m → b ≡ b'
+second_of p q r = cc
+
+-- the words that are left after one
 pub after_one : {l w m : Line} {a a' : Word} → l ≡ a ∷ w → l ≡ a' ∷ m → w ≡ m
 after_one p t = cc
 
-pub after_three : {l w x y m : Line} {a b c a' b' c' : Word} → l ≡ a ∷ w → w ≡ b ∷ x → x ≡ c ∷ y → l ≡ a' ∷ b' ∷ c' ∷ m → y ≡ m
-after_three p q r t = cc
-
-pub after_four : {l w x y z m : Line} {a b c d a' b' c' d' : Word} → l ≡ a ∷ w → w ≡ b ∷ x → x ≡ c ∷ y → y ≡ d ∷ z → l ≡ a' ∷ b' ∷ c' ∷ d' ∷ m → z ≡ m
-after_four p q r s t = cc
-
--- of a thread line all words but the keywords, and those that follow
-pub line_parts : {a b c d e a' b' c' d' e' : Word} {f f' : Line} → a ∷ b ∷ c ∷ d ∷ e ∷ f ≡ a' ∷ b' ∷ c' ∷ d' ∷ e' ∷ f' → (b ≡ b') × (d ≡ d') × (e ≡ e') × (f ≡ f')
-line_parts e = (cc, cc, cc, cc)
+-- the words that are left after two
+pub after_two : {l w x m : Line} {a b a' b' : Word} → l ≡ a ∷ w → w ≡ b ∷ x → l ≡ a' ∷ b' ∷ m → x ≡ m
+after_two p q t = cc

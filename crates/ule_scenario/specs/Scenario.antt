@@ -1,8 +1,9 @@
 -- Scenario text: how the words of a line spell a part of a setup, and the bytes a setup.
-use Rattle.std.specs.Prelude.{◌≡◌, ℕ, ◌+◌, ◌^◌, ◌<◌, ◌≤◌, nat_lt, Bool, true, false, List, [], ◌∷◌, ◌++◌, length, map, take, codes, IsTrue}
-use Rattle.std.specs.List.{list_all}
+use Rattle.std.specs.Prelude.{◌≡◌, ℕ, ◌+◌, ◌≤◌, Bool, true, false, Option, Some, None, unwrap_or, List, [], ◌∷◌, ◌++◌, length, map, take, codes}
+use Rattle.std.specs.List.{flat_map}
 use Rattle.std.specs.Fmt.{decimal, signed_decimal}
-use Rattle.ule_types.specs.Form.{IsOfForm}
+use Rattle.ule_score.specs.declared.record.Settings.{Settings}
+use Rattle.ule_types.specs.Form.{IsOfForm, default_settings}
 use Rattle.ule_types.specs.declared.command.Command.{Command}
 use Rattle.ule_types.specs.declared.command.Command.TheVariants.{Tick, Time, Yield, Resched, Sleep, Wake, Lend, Unlend, Renice, Fork, Exit, Idle, Balance, Look}
 use Rattle.ule_types.specs.declared.fault.ScenarioFault.{ScenarioFault}
@@ -12,6 +13,8 @@ use Rattle.ule_types.specs.declared.setup.Form.TheVariants as form
 use Rattle.ule_types.specs.declared.setup.ThreadSpec.{ThreadSpec}
 use Rattle.ule_types.specs.declared.setup.Setup.{Setup}
 use Rattle.ule_scenario.specs.Cut.{Word, Line, IsCut}
+use Rattle.ule_scenario.specs.declared.declaration.Declaration.{Declaration}
+use Rattle.ule_scenario.specs.declared.declaration.Declaration.TheVariants.{Queued, Unborn}
 
 -- the first line of a scenario
 abbrev pub header_line : Line
@@ -72,41 +75,86 @@ script_lines worker (script ∷ scripts) = script_line worker ∷ (map command_l
 abbrev pub end_line : Line
 end_line = codes "end" ∷ []
 
--- the lines are the head of a scenario: its first line, the jitter and the number of CPUs
-abbrev pub SpellsHead : List Line → ℕ → ℕ → Type 0
-SpellsHead lines jitter cpus = lines ≡ header_line ∷ jitter_line jitter ∷ cpus_line cpus ∷ []
+-- the settings that a scenario gives
+pub record GivenSettings : Type 0 where
+  pub interact : Option ℕ
+  pub slice : Option ℕ
+  pub preempt : Option ℕ
+  pub steal : Option ℕ
 
--- the lines declare the threads, each of them one
-abbrev pub SpellsThreads : List Line → List ThreadSpec → Type 0
-SpellsThreads lines threads = lines ≡ map thread_line threads
+-- the settings of a scenario: one that it doesn't give has its default
+abbrev pub settings_of : GivenSettings → Settings
+settings_of given = record {
+  interact = unwrap_or given.interact default_settings.interact;
+  slice = unwrap_or given.slice default_settings.slice;
+  preempt = unwrap_or given.preempt default_settings.preempt;
+  steal = unwrap_or given.steal default_settings.steal;
+}
+
+-- the line that gives a setting
+abbrev pub set_line : Word → ℕ → Line
+set_line name n = codes "set" ∷ name ∷ decimal n ∷ []
+
+-- the line of a setting, where it is given
+abbrev pub setting_lines : Word → Option ℕ → List Line
+setting_lines name None = []
+setting_lines name (Some n) = set_line name n ∷ []
+
+-- the lines of the settings that are given, in their order
+abbrev pub given_lines : GivenSettings → List Line
+given_lines given =
+    setting_lines (codes "interact") given.interact ++ setting_lines (codes "slice") given.slice ++
+    setting_lines (codes "preempt") given.preempt ++ setting_lines (codes "steal") given.steal
+
+-- the lines give the settings, each by a line at its place, or by none where it has its default
+pub record SpellsSettings (lines : List Line) (s : Settings) : Type 0 where
+  pub given : GivenSettings
+  pub whole : lines ≡ given_lines given
+  pub values : s ≡ settings_of given
+
+-- the line of a declaration
+abbrev pub declaration_line : Declaration → Line
+declaration_line (Queued spec) = thread_line spec
+declaration_line (Unborn t) = codes "unborn" ∷ decimal t ∷ []
+
+-- the thread that a declaration queues at the start, if it does
+abbrev pub queued_by : Declaration → List ThreadSpec
+queued_by (Queued spec) = spec ∷ []
+queued_by (Unborn t) = []
+
+-- the unborn thread of a declaration, if it is of one
+abbrev pub unborn_in : Declaration → List ℕ
+unborn_in (Queued spec) = []
+unborn_in (Unborn t) = t ∷ []
+
+-- the lines declare the threads and the unborn ones, mixed in any order
+pub record SpellsThreads (lines : List Line) (threads : List ThreadSpec) (unborn : List ℕ) : Type 0 where
+  pub declarations : List Declaration
+  pub each : lines ≡ map declaration_line declarations
+  pub queued : threads ≡ flat_map queued_by declarations
+  pub waiting : unborn ≡ flat_map unborn_in declarations
 
 -- the lines are the scripts of the workers of so many CPUs, each below its line
 abbrev pub SpellsScripts : List Line → ℕ → List (List Command) → Type 0
 SpellsScripts lines cpus scripts = lines ≡ script_lines 0 (take cpus scripts)
 
--- the lines spell a setup, section by section: the head, the threads, the scripts, and the last line
+-- the lines spell a setup, section by section
 pub record SpellsSetup (lines : List Line) (s : Setup) : Type 0 where
-  pub head : List Line
+  pub setting : List Line
   pub declaring : List Line
   pub commanding : List Line
-  pub whole : lines ≡ head ++ (declaring ++ (commanding ++ end_line ∷ []))
-  pub headed : SpellsHead head s.jitter s.cpus
-  pub threads : SpellsThreads declaring s.threads
+  pub whole : lines ≡ header_line ∷ (setting ++ jitter_line s.jitter ∷ cpus_line s.cpus ∷ (declaring ++ (commanding ++ end_line ∷ [])))
+  pub settings : SpellsSettings setting s.settings
+  pub threads : SpellsThreads declaring s.threads s.unborn
   pub scripts : SpellsScripts commanding s.cpus s.scripts
 
--- whether a thread's number is one of 0..255
-abbrev pub is_in_range : ThreadSpec → Bool
-is_in_range spec = nat_lt spec.id 256
-
--- the bytes, 1,048,576 at most, are lines that spell a setup of the form so far, whose numbers are in range
+-- the bytes, 1,048,576 at most, are lines that spell a setup of the form so far
 pub record Spells (bytes : List ℕ) (s : Setup) : Type 0 where
   pub limit : length bytes ≤ 1048576
   pub lines : List Line
   pub are_lines : IsCut bytes lines
   pub spelled : SpellsSetup lines s
   pub form : IsOfForm s
-  pub jitter : s.jitter < 2 ^ 32
-  pub threads : IsTrue (list_all is_in_range s.threads)
 
 -- two setups with the same fields
 pub record IsSame (s t : Setup) : Type 0 where

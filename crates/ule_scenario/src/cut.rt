@@ -3,7 +3,7 @@
 ghost use Rattle.std.specs.Prelude.{◌≡◌, ◌≢◌, ℕ, ◌<◌, ◌≤◌, ℤ, ◌==◌, Bool, List, [], ◌∷◌, length, position, IfSome, IfNone, IsTrue, ◌↔◌};
 ghost use Rattle.std.specs.List.{slice_split};
 ghost use Rattle.std.specs.Fmt.{decimal, signed_decimal};
-ghost use Rattle.ule_types.specs.Rules.{is_nice};
+ghost use Rattle.ule_types.specs.Commands.{is_nice};
 ghost use Rattle.ule_scenario.specs.Cut.{Word, words_of, cut};
 ghost use Rattle.ule_scenario.specs.Scenario.{bound_words};
 
@@ -115,6 +115,30 @@ impl<'a> Words<'a> {
         let (next, words) = self.next()?;
         let n = nice_value(next)?;
         Some((n, words))
+    }
+
+    /// The number that stands next and last, if it is in this range.
+    pub(crate) fn last_number(&self, least: u32, greatest: u32) -> Option<u32>
+        ensures found { IfSome result (λ n. self.now ≡ decimal n ∷ []) }
+        ensures from { IfSome result (λ n. least ≤ n) }
+        ensures within { IfSome result (λ n. n ≤ greatest) }
+        ensures none { IfNone result ((n : ℕ) → least ≤ n → n ≤ greatest → self.now ≢ decimal n ∷ []) }
+    {
+        let (n, words) = self.number(greatest)?;
+        if n < least {
+            return None;
+        }
+        if words.is_end() { Some(n) } else { None }
+    }
+
+    /// The nice value that stands next and last.
+    pub(crate) fn last_nice_value(&self) -> Option<Nice>
+        ensures found { IfSome result (λ n. self.now ≡ signed_decimal n ∷ []) }
+        ensures within { IfSome result (λ n. IsTrue (is_nice n)) }
+        ensures none { IfNone result ((n : ℤ) → IsTrue (is_nice n) → self.now ≢ signed_decimal n ∷ []) }
+    {
+        let (n, words) = self.nice_value()?;
+        if words.is_end() { Some(n) } else { None }
     }
 
     /// Whether the words are the one word `bound`, or none; absent where they are others.

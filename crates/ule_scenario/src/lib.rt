@@ -5,26 +5,23 @@ ghost use Rattle.std.specs.Prelude.{◌≤◌, length, IfOk, IfErr};
 ghost use Rattle.ule_types.specs.declared.setup.Setup.{Setup};
 ghost use Rattle.ule_scenario.specs.Scenario.{Spells, IsSame, IsCause};
 
-use crate::section::{REFUSED, is_last_line, read_head, read_scripts, read_threads};
+use crate::declaration::Declared;
+use crate::head::read_head;
+use crate::section::{REFUSED, is_last_line, read_scripts, read_threads};
 use std::alloc::Global;
-use ule_score::Settings;
-use ule_types::{Groups, ScenarioFault, Setup, Turns, Unborn};
+use ule_types::{Groups, ScenarioFault, Setup, Turns};
 
+mod class;
+mod command;
 mod cut;
+mod declaration;
+mod head;
 mod line;
 mod number;
 mod section;
 
 /// The most bytes that a scenario may have.
 const LIMIT: usize = 1_048_576;
-
-/// The settings of a scenario that sets none.
-const DEFAULT_SETTINGS: Settings = Settings {
-    interact: 30,
-    slice: 12,
-    preempt: 80,
-    steal: 2,
-};
 
 /// The setup that the bytes spell. They are refused where they spell none; line, reason and detail
 /// of the refusal are 0 while the grammar isn't whole.
@@ -48,25 +45,23 @@ fn read_within(alloc: Global, bytes: &[u8]) -> Result<Setup, ScenarioFault>
     ensures ok { IfOk result (λ s. Spells bytes.now s) }
     ensures refused { IfErr result (λ e. IsCause bytes.now e) }
 {
-    let Some((jitter, cpus, text)) = read_head(bytes) else {
+    let Some((settings, jitter, cpus, text)) = read_head(bytes) else {
         return Err(REFUSED);
     };
-    let (threads, text) = read_threads(alloc, text, cpus)?;
-    let (scripts, text) = read_scripts(alloc, text, cpus, threads.as_slice())?;
+    let (declared, text) = read_threads(alloc, text, cpus)?;
+    let (scripts, text) = read_scripts(alloc, text, cpus, &declared)?;
     if !is_last_line(text) {
         return Err(REFUSED);
     }
     let Ok(groups) = Groups::empty(alloc) else {
         return Err(ScenarioFault::Memory);
     };
-    let Ok(unborn) = Unborn::empty(alloc) else {
-        return Err(ScenarioFault::Memory);
-    };
     let Ok(turns) = Turns::empty(alloc) else {
         return Err(ScenarioFault::Memory);
     };
+    let Declared { threads, unborn } = declared;
     Ok(Setup {
-        settings: DEFAULT_SETTINGS,
+        settings,
         jitter,
         cpus,
         groups,

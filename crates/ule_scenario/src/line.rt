@@ -1,21 +1,21 @@
-//! The lines of a scenario, one reader for each kind.
+//! The lines of a scenario above its scripts, one reader for each kind, and the last line.
 
-ghost use Rattle.std.specs.Prelude.{◌≡◌, ◌≢◌, ℕ, ◌^◌, ◌<◌, ◌≤◌, ◌==◌, List, [], ◌∷◌, IfSome, IfNone, IsTrue, ◌↔◌, codes};
-ghost use Rattle.std.specs.List.{list_any};
+ghost use Rattle.std.specs.Prelude.{◌≡◌, ◌≢◌, ℕ, ◌^◌, ◌<◌, ◌≤◌, nat_lt, Bool, ◌||◌, [], ◌∷◌, IfSome, IfNone, IsTrue, ◌↔◌, codes};
 ghost use Rattle.std.specs.Fmt.{decimal};
-ghost use Rattle.ule_types.specs.declared.command.Command.{Command};
-ghost use Rattle.ule_types.specs.declared.command.Command.TheVariants.{Tick, Yield, Resched};
 ghost use Rattle.ule_types.specs.declared.setup.ThreadSpec.{ThreadSpec};
-ghost use Rattle.ule_scenario.specs.Scenario.{header_line, jitter_line, cpus_line, thread_line, script_line, command_line, end_line};
+ghost use Rattle.ule_scenario.specs.declared.declaration.Declaration.{Declaration};
 ghost use Rattle.ule_scenario.specs.Cut.{words_of};
-ghost use Rattle.ule_scenario.specs.Sections.{is_thread, is_spellable, ids_of};
+ghost use Rattle.ule_scenario.specs.Scenario.{header_line, jitter_line, cpus_line, set_line, bound_words, thread_line, declaration_line, script_line, end_line};
+ghost use Rattle.ule_scenario.specs.Sections.{is_thread, is_declaration};
 
+use crate::class::form_of;
 use crate::cut::Words;
+use crate::declaration::Declaration;
 use ule_prio::{Cpu, ThreadId};
-use ule_types::{Command, Form, ThreadSpec};
+use ule_types::ThreadSpec;
 
 /// Whether a line has this word alone.
-fn has_word(line: &[u8], word: &[u8]) -> bool
+pub(crate) fn has_word(line: &[u8], word: &[u8]) -> bool
     ensures { IsTrue result ↔ (words_of line.now ≡ word.now ∷ []) }
 {
     match Words::of(line).after(word) {
@@ -25,18 +25,14 @@ fn has_word(line: &[u8], word: &[u8]) -> bool
 }
 
 /// The number of a line that has a keyword and a number, if it is in this range.
-fn number_after(line: &[u8], keyword: &[u8], least: u32, greatest: u32) -> Option<u32>
+pub(crate) fn number_after(line: &[u8], keyword: &[u8], least: u32, greatest: u32) -> Option<u32>
     ensures found { IfSome result (λ n. words_of line.now ≡ keyword.now ∷ decimal n ∷ []) }
     ensures from { IfSome result (λ n. least ≤ n) }
     ensures within { IfSome result (λ n. n ≤ greatest) }
     ensures none { IfNone result ((n : ℕ) → least ≤ n → n ≤ greatest → words_of line.now ≢ keyword.now ∷ decimal n ∷ []) }
 {
     let words = Words::of(line).after(keyword)?;
-    let (n, words) = words.number(greatest)?;
-    if n < least {
-        return None;
-    }
-    if words.is_end() { Some(n) } else { None }
+    words.last_number(least, greatest)
 }
 
 /// Whether a line has this keyword and this number.
@@ -51,6 +47,18 @@ pub(crate) fn is_header(line: &[u8]) -> bool
     ensures { IsTrue result ↔ (words_of line.now ≡ header_line) }
 {
     has_number(line, b"ule-scenario", 1)
+}
+
+/// The number that a line gives this setting, if it is in this range.
+pub(crate) fn setting_of(line: &[u8], name: &[u8], least: u32, greatest: u32) -> Option<u32>
+    ensures found { IfSome result (λ n. words_of line.now ≡ set_line name.now n) }
+    ensures from { IfSome result (λ n. least ≤ n) }
+    ensures within { IfSome result (λ n. n ≤ greatest) }
+    ensures none { IfNone result ((n : ℕ) → least ≤ n → n ≤ greatest → words_of line.now ≢ set_line name.now n) }
+{
+    let words = Words::of(line).after(b"set")?;
+    let words = words.after(name)?;
+    words.last_number(least, greatest)
 }
 
 pub(crate) fn jitter_of(line: &[u8]) -> Option<u32>
@@ -78,9 +86,26 @@ pub(crate) fn is_script(line: &[u8], worker: u8) -> bool
     has_number(line, b"script", u32::from(worker))
 }
 
-/// The thread that a line declares on so many CPUs: a timeshare thread, which is bound where there
-/// are several.
-pub(crate) fn thread_of(line: &[u8], cpus: u8) -> Option<ThreadSpec>
+/// The CPU that stands next, one of so many, and whether the thread is bound to it, with nothing
+/// after that. It is bound where there are several CPUs.
+fn place_of(words: &Words<'_>, cpus: u8) -> Option<(Cpu, bool)>
+    requires least { 1 ≤ cpus }
+    requires greatest { cpus ≤ 16 }
+    ensures found { IfSome result (λ r. words.now ≡ decimal r.0 ∷ bound_words r.1) }
+    ensures within { IfSome result (λ r. r.0 < cpus) }
+    ensures bound { IfSome result (λ r. IsTrue (nat_lt cpus 2 || r.1)) }
+    ensures none { IfNone result ((c : ℕ) (b : Bool) → c < cpus → IsTrue (nat_lt cpus 2 || b) → words.now ≢ decimal c ∷ bound_words b) }
+{
+    let (cpu, words) = words.number(u32::from(cpus) - 1)?;
+    let bound = words.bound()?;
+    if cpus > 1 && !bound {
+        return None;
+    }
+    Some((Cpu(cpu as u8), bound))
+}
+
+/// The thread that a line queues at the start on so many CPUs. It is bound where there are several.
+fn thread_of(line: &[u8], cpus: u8) -> Option<ThreadSpec>
     requires least { 1 ≤ cpus }
     requires greatest { cpus ≤ 16 }
     ensures found { IfSome result (λ spec. words_of line.now ≡ thread_line spec) }
@@ -89,81 +114,43 @@ pub(crate) fn thread_of(line: &[u8], cpus: u8) -> Option<ThreadSpec>
 {
     let words = Words::of(line).after(b"thread")?;
     let (id, words) = words.number(255)?;
-    let words = words.after(b"ts")?;
-    let (nice, words) = words.nice_value()?;
-    let (cpu, words) = words.number(u32::from(cpus) - 1)?;
-    let bound = words.bound()?;
-    if cpus > 1 && !bound {
-        return None;
-    }
+    let (form, words) = form_of(&words)?;
+    let (cpu, bound) = place_of(&words, cpus)?;
     Some(ThreadSpec {
         id: ThreadId(id as u8),
-        form: Form::Ts(nice),
-        cpu: Cpu(cpu as u8),
+        form,
+        cpu,
         bound,
     })
 }
 
-/// Whether one of the threads has this number.
-pub(crate) fn is_declared(threads: &[ThreadSpec], id: ThreadId) -> bool
-    ensures { result ≡ list_any (λ spec. spec.id == id) threads.now }
-{
-    threads.iter().any(|spec| spec.id == id)
-}
-
-/// The declared thread that a line wakes.
-fn woken_by(line: &[u8], threads: &[ThreadSpec]) -> Option<ThreadId>
-    ensures found { IfSome result (λ t. words_of line.now ≡ codes "wake" ∷ decimal t ∷ []) }
+/// The unborn thread that a line declares on so many CPUs. There is none where there are several.
+fn unborn_of(line: &[u8], cpus: u8) -> Option<ThreadId>
+    ensures found { IfSome result (λ t. words_of line.now ≡ codes "unborn" ∷ decimal t ∷ []) }
     ensures within { IfSome result (λ t. t < 256) }
-    ensures declared { IfSome result (λ t. IsTrue (list_any (λ spec. spec.id == t) threads.now)) }
-    ensures none { IfNone result ((t : ℕ) → t < 256 → IsTrue (list_any (λ spec. spec.id == t) threads.now)
-        → words_of line.now ≢ codes "wake" ∷ decimal t ∷ []) }
+    ensures alone { IfSome result (λ t. cpus < 2) }
+    ensures none { IfNone result ((t : ℕ) → t < 256 → cpus < 2 → words_of line.now ≢ codes "unborn" ∷ decimal t ∷ []) }
 {
-    let t = number_after(line, b"wake", 0, 255)?;
-    let t = ThreadId(t as u8);
-    if is_declared(threads, t) {
-        Some(t)
-    } else {
-        None
+    if cpus > 1 {
+        return None;
     }
+    let t = number_after(line, b"unborn", 0, 255)?;
+    Some(ThreadId(t as u8))
 }
 
-/// The command of one word that a line gives.
-fn plain_command(line: &[u8]) -> Option<Command>
-    ensures found { IfSome result (λ command. words_of line.now ≡ command_line command) }
-    ensures within { (ids : List ℕ) (cpus : ℕ) → IfSome result (λ command. IsTrue (is_spellable ids cpus command)) }
-    ensures no_tick { IfNone result (words_of line.now ≢ command_line Tick) }
-    ensures no_yield { IfNone result (words_of line.now ≢ command_line Yield) }
-    ensures no_resched { IfNone result (words_of line.now ≢ command_line Resched) }
+/// What a line declares on so many CPUs.
+pub(crate) fn declaration_of(line: &[u8], cpus: u8) -> Option<Declaration>
+    requires least { 1 ≤ cpus }
+    requires greatest { cpus ≤ 16 }
+    ensures found { IfSome result (λ d. words_of line.now ≡ declaration_line d) }
+    ensures within { IfSome result (λ d. IsTrue (is_declaration cpus d)) }
+    ensures none { IfNone result ((d : Declaration) → IsTrue (is_declaration cpus d) → words_of line.now ≢ declaration_line d) }
 {
-    if has_word(line, b"tick") {
-        Some(Command::Tick)
-    } else if has_word(line, b"yield") {
-        Some(Command::Yield)
-    } else if has_word(line, b"resched") {
-        Some(Command::Resched)
-    } else {
-        None
+    if let Some(spec) = thread_of(line, cpus) {
+        return Some(Declaration::Queued(spec));
     }
-}
-
-/// The command that a line gives, where these threads are declared.
-pub(crate) fn command_of(line: &[u8], threads: &[ThreadSpec]) -> Option<Command>
-    ensures found { IfSome result (λ command. words_of line.now ≡ command_line command) }
-    ensures within { (cpus : ℕ) → IfSome result (λ command. IsTrue (is_spellable (ids_of threads.now) cpus command)) }
-    ensures none { IfNone result ((cpus : ℕ) (command : Command) → IsTrue (is_spellable (ids_of threads.now) cpus command) → words_of line.now ≢ command_line command) }
-{
-    if let Some(command) = plain_command(line) {
-        return Some(command);
-    }
-    if let Some(k) = number_after(line, b"time", 1, 1_000_000) {
-        return Some(Command::Time(k));
-    }
-    if let Some(channel) = number_after(line, b"sleep", 0, 65_535) {
-        return Some(Command::Sleep(channel as u16));
-    }
-    let t = woken_by(line, threads)?;
-    Some(Command::Wake(t))
+    let t = unborn_of(line, cpus)?;
+    Some(Declaration::Unborn(t))
 }
 
 pub(crate) fn is_end(line: &[u8]) -> bool

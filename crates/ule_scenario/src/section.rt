@@ -1,18 +1,20 @@
-//! The sections of a scenario: what stands above the threads, the threads, the scripts.
+//! The sections of a scenario below its head: the threads, the scripts, the last line.
 
-ghost use Rattle.std.specs.Prelude.{◌≡◌, ◌≢◌, ℕ, ◌+◌, ◌^◌, ◌<◌, ◌≤◌, Bool, List, [], ◌∷◌, length, replicate, count_by, slice_index_or, slice_set, IfOk, IfErr, OnOk, IfSome, IfNone, IsTrue, ◌↔◌};
-ghost use Rattle.ule_types.specs.Commands.{greatest_of};
+ghost use Rattle.std.specs.Prelude.{◌≡◌, ◌≢◌, ℕ, ◌+◌, ◌<◌, ◌≤◌, Bool, false, List, [], ◌∷◌, ◌++◌, length, count_by, slice_index_or, slice_set, IfOk, IfErr, OnOk, IfSome, IfNone, IsTrue, ◌↔◌};
+ghost use Rattle.ule_types.specs.Commands.{greatest_of, forked_by, is_among};
 ghost use Rattle.ule_types.specs.Form.{is_tick};
-ghost use Rattle.ule_scenario.specs.Scenario.{thread_line, script_line, command_line, end_line};
+ghost use Rattle.ule_types.specs.Rules.{is_distinct};
 ghost use Rattle.ule_scenario.specs.Cut.{Line, cut, no_more};
-ghost use Rattle.ule_scenario.specs.Sections.{is_thread, is_spellable, ids_of, head_lines, charge, are_few, Stops, TakesThreads, RepeatsThread, TakesScript, HasNoScript, TakesScripts, HasNoScripts, RefusedOnlyIf};
+ghost use Rattle.ule_scenario.specs.Scenario.{declaration_line, script_line, command_line, end_line};
+ghost use Rattle.ule_scenario.specs.Sections.{is_declaration, is_spellable, ids_of, id_in, with_declaration, charge, forked_in, are_few, Stops, TakesThreads, RepeatsThread, TakesScript, HasNoScript, TakesScripts, HasNoScripts, RefusedOnlyIf};
 
+use crate::command::{command_of, is_declared};
 use crate::cut::next_line;
-use crate::line::{
-    command_of, cpus_of, is_declared, is_end, is_header, is_script, jitter_of, thread_of,
-};
+use crate::declaration::{Declaration, Declared};
+use crate::line::{declaration_of, is_end, is_script};
 use std::alloc::Global;
-use ule_types::{Command, ScenarioFault, Scripts, Specs, ThreadSpec, greatest};
+use ule_prio::ThreadId;
+use ule_types::{Command, ScenarioFault, Scripts, Specs, Unborn, greatest};
 
 /// A refusal; lines and reasons are not told while the grammar isn't whole.
 pub(crate) const REFUSED: ScenarioFault = ScenarioFault::Refused {
@@ -27,68 +29,81 @@ const BUDGET: u32 = 65_536;
 /// The most ticks of worker 0 on several CPUs: one fewer than may make a balance due.
 const TICKS: u32 = 63;
 
-/// Reads the lines up to those of the threads: where the jitter words start, the number of CPUs,
-/// and the bytes that follow.
-pub(crate) fn read_head(text: &[u8]) -> Option<(u32, u8, &[u8])>
-    ensures found { IfSome result (λ r. cut text.now ≡ head_lines r.0 r.1 (cut r.2.now)) }
-    ensures within { IfSome result (λ r. r.0 < 2 ^ 32) }
-    ensures least { IfSome result (λ r. 1 ≤ r.1) }
-    ensures greatest { IfSome result (λ r. r.1 ≤ 16) }
-    ensures shorter { IfSome result (λ r. length r.2.now < length text.now) }
-    ensures none { IfNone result ((n cpus : ℕ) (next : Line) (more : List Line) → n < 2 ^ 32 → 1 ≤ cpus → cpus ≤ 16
-        → cut text.now ≢ head_lines n cpus (next ∷ more)) }
-{
-    let (line, text) = next_line(text)?;
-    if !is_header(line) {
-        return None;
-    }
-    let (line, text) = next_line(text)?;
-    let jitter = jitter_of(line)?;
-    let (line, text) = next_line(text)?;
-    let cpus = cpus_of(line)?;
-    Some((jitter, cpus, text))
-}
-
-/// The thread that the first line declares, and the bytes after that line.
-fn next_thread(text: &[u8], cpus: u8) -> Option<(ThreadSpec, &[u8])>
+/// What the first line declares, and the bytes after that line.
+fn next_declaration(text: &[u8], cpus: u8) -> Option<(Declaration, &[u8])>
     requires least { 1 ≤ cpus }
     requires greatest { cpus ≤ 16 }
-    ensures found { IfSome result (λ r. cut text.now ≡ thread_line r.0 ∷ cut r.1.now) }
-    ensures within { IfSome result (λ r. IsTrue (is_thread cpus r.0)) }
+    ensures found { IfSome result (λ r. cut text.now ≡ declaration_line r.0 ∷ cut r.1.now) }
+    ensures within { IfSome result (λ r. IsTrue (is_declaration cpus r.0)) }
     ensures shorter { IfSome result (λ r. length r.1.now < length text.now) }
-    ensures none { IfNone result (Stops (is_thread cpus) thread_line (cut text.now)) }
+    ensures none { IfNone result (Stops (is_declaration cpus) declaration_line (cut text.now)) }
 {
     let (line, rest) = next_line(text)?;
-    let spec = thread_of(line, cpus)?;
-    Some((spec, rest))
+    let declaration = declaration_of(line, cpus)?;
+    Some((declaration, rest))
 }
 
-/// Reads the thread lines: the threads, and the bytes that follow.
+/// The number of the thread that is declared.
+fn id_of(declaration: &Declaration) -> ThreadId
+    ensures { result ≡ id_in declaration.now }
+{
+    match *declaration {
+        Declaration::Queued(spec) => spec.id,
+        Declaration::Unborn(t) => t,
+    }
+}
+
+/// Puts a declaration to those before it, where its number isn't declared yet.
+fn declare(declared: &mut Declared, declaration: Declaration) -> Result<(), ScenarioFault>
+    requires queued { length declared.old.threads < 1048576 }
+    requires waiting { length declared.old.unborn < 1048576 }
+    ensures ok { OnOk result (declared.new ≡ with_declaration declared.old declaration) }
+    ensures fresh { OnOk result (is_among (ids_of declared.old) (id_in declaration) ≡ false) }
+    ensures refused { IfErr result (λ e. RefusedOnlyIf (IsTrue (is_among (ids_of declared.old) (id_in declaration))) e) }
+{
+    if is_declared(
+        declared.threads.as_slice(),
+        declared.unborn.as_slice(),
+        id_of(&declaration),
+    ) {
+        return Err(REFUSED);
+    }
+    let pushed = match declaration {
+        Declaration::Queued(spec) => declared.threads.push(spec),
+        Declaration::Unborn(t) => declared.unborn.push(t),
+    };
+    if pushed.is_err() {
+        Err(ScenarioFault::Memory)
+    } else {
+        Ok(())
+    }
+}
+
+/// Reads the declarations: the threads that are declared, and the bytes that follow.
 pub(crate) fn read_threads(
     alloc: Global,
     text: &[u8],
     cpus: u8,
-) -> Result<(Specs, &[u8]), ScenarioFault>
+) -> Result<(Declared, &[u8]), ScenarioFault>
     requires least { 1 ≤ cpus }
     requires greatest { cpus ≤ 16 }
     requires limit { length text.now ≤ 1048576 }
     ensures ok { IfOk result (λ r. TakesThreads cpus (cut text.now) r.0 (cut r.1.now)) }
     ensures refused { IfErr result (λ e. RefusedOnlyIf (RepeatsThread cpus (cut text.now)) e) }
 {
-    let Ok(mut threads) = Specs::empty(alloc) else {
+    let Ok(threads) = Specs::empty(alloc) else {
         return Err(ScenarioFault::Memory);
     };
+    let Ok(unborn) = Unborn::empty(alloc) else {
+        return Err(ScenarioFault::Memory);
+    };
+    let mut declared = Declared { threads, unborn };
     let mut rest = text;
-    while let Some((spec, after)) = next_thread(rest, cpus) {
-        if is_declared(threads.as_slice(), spec.id) {
-            return Err(REFUSED);
-        }
-        if threads.push(spec).is_err() {
-            return Err(ScenarioFault::Memory);
-        }
+    while let Some((declaration, after)) = next_declaration(rest, cpus) {
+        declare(&mut declared, declaration)?;
         rest = after;
     }
-    Ok((threads, rest))
+    Ok((declared, rest))
 }
 
 /// The bytes after the first line, which begins the script of this worker.
@@ -104,15 +119,15 @@ fn after_script_line(text: &[u8], worker: u8) -> Option<&[u8]>
     }
 }
 
-/// The command of the first line, and the bytes after that line.
-fn next_command<'a>(text: &'a [u8], threads: &[ThreadSpec]) -> Option<(Command, &'a [u8])>
+/// The command of the first line on so many CPUs, and the bytes after that line.
+fn next_command<'a>(text: &'a [u8], declared: &Declared, cpus: u8) -> Option<(Command, &'a [u8])>
     ensures found { IfSome result (λ r. cut text.now ≡ command_line r.0 ∷ cut r.1.now) }
-    ensures within { (cpus : ℕ) → IfSome result (λ r. IsTrue (is_spellable (ids_of threads.now) cpus r.0)) }
+    ensures within { IfSome result (λ r. IsTrue (is_spellable declared.now cpus r.0)) }
     ensures shorter { IfSome result (λ r. length r.1.now < length text.now) }
-    ensures none { IfNone result ((cpus : ℕ) → Stops (is_spellable (ids_of threads.now) cpus) command_line (cut text.now)) }
+    ensures none { IfNone result (Stops (is_spellable declared.now cpus) command_line (cut text.now)) }
 {
     let (line, rest) = next_line(text)?;
-    let command = command_of(line, threads)?;
+    let command = command_of(line, declared, cpus)?;
     Some((command, rest))
 }
 
@@ -159,26 +174,51 @@ fn are_few(worker: u8, cpus: u8, ticks: u32) -> bool
     worker != 0 || cpus < 2 || ticks <= TICKS
 }
 
-/// Reads the script of a worker, where so much is charged already: what is charged then, and the
-/// bytes that follow.
+/// Puts the thread that a command forks to those that are forked, where it isn't among them yet.
+fn note_fork(forked: &mut Unborn, command: &Command) -> Result<(), ScenarioFault>
+    requires room { length forked.old < 1048576 }
+    ensures ok { OnOk result (forked.new ≡ forked.old ++ forked_by command.now) }
+    ensures fresh { OnOk result (IsTrue (is_distinct forked.old) → IsTrue (is_distinct (forked.old ++ forked_by command.now))) }
+    ensures refused { IfErr result (λ e. RefusedOnlyIf (is_distinct (forked.old ++ forked_by command.now) ≡ false) e) }
+{
+    let Command::Fork(t) = *command else {
+        return Ok(());
+    };
+    if is_declared(&[], forked.as_slice(), t) {
+        return Err(REFUSED);
+    }
+    if forked.push(t).is_err() {
+        Err(ScenarioFault::Memory)
+    } else {
+        Ok(())
+    }
+}
+
+/// Reads the script of a worker, where so much is charged and these threads are forked already:
+/// what is charged then, and the bytes that follow.
 fn read_script<'a>(
     text: &'a [u8],
     worker: u8,
     cpus: u8,
-    threads: &[ThreadSpec],
+    declared: &Declared,
     scripts: &mut Scripts,
+    forked: &mut Unborn,
     spent: u32,
 ) -> Result<(u32, &'a [u8]), ScenarioFault>
     requires worker { worker < cpus }
     requires cpus { cpus ≤ 16 }
     requires spent { spent ≤ 65536 }
+    requires few { length forked.old ≤ spent }
+    requires once { IsTrue (is_distinct forked.old) }
     requires number { length scripts.old ≡ 16 }
     requires empty { slice_index_or scripts.old worker [] ≡ [] }
-    ensures ok { IfOk result (λ r. TakesScript (ids_of threads.now) worker cpus spent (cut text.now)
+    ensures ok { IfOk result (λ r. TakesScript declared.now worker cpus spent forked.old (cut text.now)
         (slice_index_or scripts.new worker []) (cut r.1.now)) }
     ensures spent { IfOk result (λ r. r.0 ≡ spent + charge worker cpus (slice_index_or scripts.new worker [])) }
+    ensures forked { OnOk result (forked.new ≡ forked.old ++ forked_in (slice_index_or scripts.new worker [])) }
+    ensures few { IfOk result (λ r. length forked.new ≤ r.0) }
     ensures put { OnOk result (scripts.new ≡ slice_set scripts.old worker (slice_index_or scripts.new worker [])) }
-    ensures refused { IfErr result (λ e. RefusedOnlyIf (HasNoScript (ids_of threads.now) worker cpus spent (cut text.now)) e) }
+    ensures refused { IfErr result (λ e. RefusedOnlyIf (HasNoScript declared.now worker cpus spent forked.old (cut text.now)) e) }
 {
     let Some(commands) = after_script_line(text, worker) else {
         return Err(REFUSED);
@@ -186,7 +226,7 @@ fn read_script<'a>(
     let mut rest = commands;
     let mut total = spent;
     let mut ticks = 0;
-    while let Some((command, after)) = next_command(rest, threads) {
+    while let Some((command, after)) = next_command(rest, declared, cpus) {
         let Some(sum) = charged(total, &command, worker, cpus) else {
             return Err(REFUSED);
         };
@@ -194,6 +234,7 @@ fn read_script<'a>(
         if !are_few(worker, cpus, ticks) {
             return Err(REFUSED);
         }
+        note_fork(forked, &command)?;
         if scripts.push(worker, command).is_err() {
             return Err(ScenarioFault::Memory);
         }
@@ -208,20 +249,31 @@ pub(crate) fn read_scripts<'a>(
     alloc: Global,
     text: &'a [u8],
     cpus: u8,
-    threads: &[ThreadSpec],
+    declared: &Declared,
 ) -> Result<(Scripts, &'a [u8]), ScenarioFault>
     requires least { 1 ≤ cpus }
     requires greatest { cpus ≤ 16 }
-    ensures ok { IfOk result (λ r. TakesScripts (ids_of threads.now) cpus cpus (cut text.now) r.0 (cut r.1.now)) }
-    ensures refused { IfErr result (λ e. RefusedOnlyIf (HasNoScripts (ids_of threads.now) cpus (cut text.now)) e) }
+    ensures ok { IfOk result (λ r. TakesScripts declared.now cpus cpus (cut text.now) r.0 (cut r.1.now)) }
+    ensures refused { IfErr result (λ e. RefusedOnlyIf (HasNoScripts declared.now cpus (cut text.now)) e) }
 {
     let Ok(mut scripts) = Scripts::empty(alloc) else {
+        return Err(ScenarioFault::Memory);
+    };
+    let Ok(mut forked) = Unborn::empty(alloc) else {
         return Err(ScenarioFault::Memory);
     };
     let mut rest = text;
     let mut spent = 0;
     for worker in 0..cpus {
-        let (total, after) = read_script(rest, worker, cpus, threads, &mut scripts, spent)?;
+        let (total, after) = read_script(
+            rest,
+            worker,
+            cpus,
+            declared,
+            &mut scripts,
+            &mut forked,
+            spent,
+        )?;
         spent = total;
         rest = after;
     }

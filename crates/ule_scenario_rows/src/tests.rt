@@ -1,6 +1,6 @@
 use std::alloc::{AllocError, Global};
 use std::test::Fail;
-use ule_prio::{Cpu, Nice, ThreadId};
+use ule_prio::{Cpu, Nice, Priority, ThreadId};
 use ule_scenario::read;
 use ule_score::Settings;
 use ule_types::{Command, Form, ScenarioFault, ThreadSpec};
@@ -139,7 +139,7 @@ fn refuses_what_a_script_may_not_have(rt: HostRuntime) -> Result<(), Fail> {
         b"sleep 65536\n",
         b"sleep\n",
         b"yield 1\n",
-        b"exit\n",
+        b"idle\n",
         b"\n",
     ];
     for command in commands {
@@ -196,5 +196,212 @@ fn keeps_the_budget_and_the_limit(rt: HostRuntime) -> Result<(), Fail> {
     }
     let long = vec![in rt.alloc(); b' '; 1_048_577]?;
     assert!(rt; is_refused(rt.alloc(), long.as_slice()));
+    Ok(())
+}
+
+/// A scenario of one CPU with this line above the jitter and these below the number of CPUs.
+fn with_lines(alloc: Global, above: &[u8], below: &[u8]) -> Result<Vec<u8>, AllocError> {
+    let mut text = Vec::new(alloc);
+    text.extend_from_slice(b"ule-scenario 1\n")?;
+    text.extend_from_slice(above)?;
+    text.extend_from_slice(b"jitter 0\ncpus 1\nthread 7 ts 0 0\nunborn 9\n")?;
+    text.extend_from_slice(below)?;
+    text.extend_from_slice(b"end\n")?;
+    Ok(text)
+}
+
+#[test]
+fn reads_the_settings_that_are_given(rt: HostRuntime) -> Result<(), Fail> {
+    let text = with_lines(
+        rt.alloc(),
+        b"set interact 1\nset slice 1000\nset steal 64\n",
+        b"script 0\n",
+    )?;
+    let some = read(rt.alloc(), text.as_slice())?;
+    let settings = Settings {
+        interact: 1,
+        slice: 1000,
+        preempt: 80,
+        steal: 64,
+    };
+    assert_eq!(rt; some.settings, settings);
+    let text = with_lines(rt.alloc(), b"set preempt 255\n", b"script 0\n")?;
+    let one = read(rt.alloc(), text.as_slice())?;
+    let settings = Settings {
+        interact: 30,
+        slice: 12,
+        preempt: 255,
+        steal: 2,
+    };
+    assert_eq!(rt; one.settings, settings);
+    Ok(())
+}
+
+#[test]
+fn refuses_settings_out_of_range_or_place(rt: HostRuntime) -> Result<(), Fail> {
+    let lines: [&[u8]; 14] = [
+        b"set interact 0\n",
+        b"set interact 101\n",
+        b"set interact 030\n",
+        b"set slice 5\n",
+        b"set slice 1001\n",
+        b"set preempt 256\n",
+        b"set steal 0\n",
+        b"set steal 65\n",
+        b"set slice 12\nset interact 30\n",
+        b"set slice 12\nset slice 12\n",
+        b"set speed 12\n",
+        b"set slice\n",
+        b"set slice 12 12\n",
+        b"jitter 0\nset slice 12\n",
+    ];
+    for above in lines {
+        let text = with_lines(rt.alloc(), above, b"script 0\n")?;
+        assert!(rt; is_refused(rt.alloc(), text.as_slice()), "{above:?}");
+    }
+    Ok(())
+}
+
+#[test]
+fn reads_all_classes_and_unborn_threads(rt: HostRuntime) -> Result<(), Fail> {
+    let below =
+        b"thread 0 ithd 47 0\nunborn 255\nthread 1 rt 48 0 bound\nthread 2 fifo 79 0\nunborn 3\nthread 4 idle 224 0\nthread 5 idle 255 0\nthread 6 ithd 0 0\nscript 0\n";
+    let text = with_lines(rt.alloc(), b"", below)?;
+    let setup = read(rt.alloc(), text.as_slice())?;
+    let forms = [
+        (7, Form::Ts(Nice(0)), false),
+        (0, Form::Ithd(Priority(47)), false),
+        (1, Form::Rt(Priority(48)), true),
+        (2, Form::Fifo(Priority(79)), false),
+        (4, Form::Idle(Priority(224)), false),
+        (5, Form::Idle(Priority(255)), false),
+        (6, Form::Ithd(Priority(0)), false),
+    ];
+    assert_eq!(rt; setup.threads.len(), 7);
+    let mut place = 0;
+    for (id, form, bound) in forms {
+        let spec = ThreadSpec {
+            id: ThreadId(id),
+            form,
+            cpu: Cpu(0),
+            bound,
+        };
+        assert!(rt; place < 7);
+        assert_eq!(rt; *setup.threads.at(place), spec);
+        place += 1;
+    }
+    assert_eq!(rt; setup.unborn.len(), 3);
+    assert_eq!(rt; *setup.unborn.at(0), ThreadId(9));
+    assert_eq!(rt; *setup.unborn.at(1), ThreadId(255));
+    assert_eq!(rt; *setup.unborn.at(2), ThreadId(3));
+    Ok(())
+}
+
+#[test]
+fn refuses_what_can_not_be_declared(rt: HostRuntime) -> Result<(), Fail> {
+    let lines: [&[u8]; 16] = [
+        b"thread 0 ithd 48 0\n",
+        b"thread 0 rt 47 0\n",
+        b"thread 0 rt 80 0\n",
+        b"thread 0 fifo 47 0\n",
+        b"thread 0 fifo 80 0\n",
+        b"thread 0 idle 223 0\n",
+        b"thread 0 idle 256 0\n",
+        b"thread 0 rt -5 0\n",
+        b"thread 0 batch 5 0\n",
+        b"thread 0 ts 0 0 0\n",
+        b"thread 9 ts 0 0\n",
+        b"unborn 7\n",
+        b"unborn 9\n",
+        b"unborn 256\n",
+        b"unborn 8 bound\n",
+        b"unborn\n",
+    ];
+    for line in lines {
+        let mut below = Vec::new(rt.alloc());
+        below.extend_from_slice(line)?;
+        below.extend_from_slice(b"script 0\n")?;
+        let text = with_lines(rt.alloc(), b"", below.as_slice())?;
+        assert!(rt; is_refused(rt.alloc(), text.as_slice()), "{line:?}");
+    }
+    Ok(())
+}
+
+#[test]
+fn refuses_commands_that_are_not_built(rt: HostRuntime) -> Result<(), Fail> {
+    let commands: [&[u8]; 6] = [
+        b"renice 7 -20\n",
+        b"lend 7 0\n",
+        b"unlend 7\n",
+        b"fork 9\n",
+        b"exit\n",
+        b"tick\nexit\n",
+    ];
+    for command in commands {
+        let mut below = Vec::new(rt.alloc());
+        below.extend_from_slice(b"script 0\n")?;
+        below.extend_from_slice(command)?;
+        let text = with_lines(rt.alloc(), b"", below.as_slice())?;
+        assert!(rt; is_refused(rt.alloc(), text.as_slice()), "{command:?}");
+    }
+    Ok(())
+}
+
+#[test]
+fn reads_a_wake_of_an_unborn_thread(rt: HostRuntime) -> Result<(), Fail> {
+    let text = with_lines(rt.alloc(), b"", b"script 0\nwake 9\nwake 7\n")?;
+    let setup = read(rt.alloc(), text.as_slice())?;
+    assert_eq!(rt; setup.scripts.len(0), 2);
+    assert_eq!(rt; *setup.scripts.at(0, 0), Command::Wake(ThreadId(9)));
+    assert_eq!(rt; *setup.scripts.at(0, 1), Command::Wake(ThreadId(7)));
+    Ok(())
+}
+
+#[test]
+fn refuses_commands_that_name_others(rt: HostRuntime) -> Result<(), Fail> {
+    let commands: [&[u8]; 14] = [
+        b"renice 7 21\n",
+        b"renice 7 -21\n",
+        b"renice 7 -0\n",
+        b"renice 8 0\n",
+        b"renice 7\n",
+        b"lend 7 256\n",
+        b"lend 8 100\n",
+        b"lend 7\n",
+        b"unlend 8\n",
+        b"fork 7\n",
+        b"fork 8\n",
+        b"fork 9\nfork 9\n",
+        b"exit 0\n",
+        b"look 0\n",
+    ];
+    for command in commands {
+        let mut below = Vec::new(rt.alloc());
+        below.extend_from_slice(b"script 0\n")?;
+        below.extend_from_slice(command)?;
+        let text = with_lines(rt.alloc(), b"", below.as_slice())?;
+        assert!(rt; is_refused(rt.alloc(), text.as_slice()), "{command:?}");
+    }
+    Ok(())
+}
+
+#[test]
+fn wants_one_cpu_for_unborn_threads(rt: HostRuntime) -> Result<(), Fail> {
+    let texts: [&[u8]; 3] = [
+        b"ule-scenario 1\njitter 1\ncpus 2\nunborn 9\nscript 0\nscript 1\nend\n",
+        b"ule-scenario 1\njitter 1\ncpus 2\nscript 0\nexit\nscript 1\nend\n",
+        b"ule-scenario 1\njitter 1\ncpus 2\nthread 9 rt 50 0 bound\nscript 0\nrenice 9 1\nscript 1\nend\n",
+    ];
+    for text in texts {
+        assert!(rt; is_refused(rt.alloc(), text), "{text:?}");
+    }
+    let text =
+        b"ule-scenario 1\njitter 1\ncpus 2\nthread 9 rt 50 1 bound\nthread 3 idle 230 0 bound\nscript 0\nscript 1\nwake 9\nend\n";
+    let setup = read(rt.alloc(), text)?;
+    assert_eq!(rt; setup.threads.len(), 2);
+    assert_eq!(rt; setup.threads.at(0).form, Form::Rt(Priority(50)));
+    assert_eq!(rt; setup.threads.at(1).form, Form::Idle(Priority(230)));
+    assert_eq!(rt; setup.scripts.len(1), 1);
+    assert_eq!(rt; *setup.scripts.at(1, 0), Command::Wake(ThreadId(9)));
     Ok(())
 }

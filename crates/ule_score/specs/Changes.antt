@@ -180,12 +180,6 @@ IsSoundChange now (changed (Inherit run)) = Unit {0}
 IsSoundChange now forks = Unit {0}
 IsSoundChange now (forked parent c load) = KeepsBounds parent × IsBy now parent × IsNice parent.nice × (parent.base < 256)
 
--- a record after any number of sound changes at one time
-pub data GoesThrough (settings : Settings) (now : ℕ) : ThreadRecord → ThreadRecord → Type 0 where
-  stays : (r : ThreadRecord) → GoesThrough settings now r r
-  goes : (change : RecordChange) (r n : ThreadRecord) → IsSoundChange now change →
-      GoesThrough settings now (record_after settings now change r) n → GoesThrough settings now r n
-
 -- settings whose slice is in range
 pub record HasSlice (settings : Settings) : Type 0 where
   pub low : 6 ≤ settings.slice

@@ -9,11 +9,11 @@ pub struct ThreadRecord {
     /// The thread that forked it, if one did.
     pub parent: Option<ThreadId>,
     pub class: Class,
-    /// Its nice value, which is 0 outside the timeshare class.
+    /// Its nice value; a thread outside the timeshare class is declared with 0.
     pub nice: Nice,
     /// Its own priority, before any that is lent to it.
     pub base: Priority,
-    /// A priority that was lent to it, as by the owner of a turnstile.
+    /// A priority that was lent to it, as by a thread that waits for it at a turnstile.
     pub lent: Option<Priority>,
     /// The better of `base` and `lent`: the priority that it is queued and compared by.
     pub priority: Priority,
@@ -57,7 +57,7 @@ pub struct CpuLine {
     pub resched: bool,
     /// The mark that the current thread's slice has ended, after `TDF_SLICEEND`.
     pub slice_end: bool,
-    /// The switches since the last tick, after `tdq_switchcnt`.
+    /// The switches since the last tick, after `tdq_switchcnt`, which a tick sets to the load.
     pub switches: u64,
     /// The switches before that tick, after `tdq_oldswitchcnt`.
     pub old_switches: u64,

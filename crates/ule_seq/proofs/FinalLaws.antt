@@ -14,7 +14,7 @@ use Rattle.ule_laws.proofs.TellLaws.{lines_shown}
 use Rattle.ule_members.proofs.Within.{all-append, all_along}
 use Rattle.ule_rounds.proofs.RoundsLaws.{range_push}
 use Rattle.ule_seq.specs.Locks.{lock_value}
-use Rattle.ule_seq.specs.Worlds.{value_of}
+use Rattle.ule_seq.specs.Worlds.{world_value}
 use Rattle.ule_seq.specs.declared.world.World.TheInside.{Inside}
 use Rattle.ule_seq.specs.declared.lock.Guarded.{Guarded}
 use Rattle.ule_seq.specs.Outcomes.{HasFinals, queue_line, queue_lines}
@@ -75,11 +75,11 @@ lines_below_next f n number all =
     last (Some l) is = (omega (arith, is), tt)
 
 -- an outcome in which the line of one thread more is set has the lines of one thread more
-pub set_line : (f : ℕ → Option ThreadLine) (n : ℕ) (l : ThreadLine) (first old new : OutcomeValue) →
+pub line_set : (f : ℕ → Option ThreadLine) (n : ℕ) (l : ThreadLine) (first old new : OutcomeValue) →
     old ≡ record first { threads = filter_map f (range_with_len 0 n) } → new ≡ record old { threads = placed l old.threads } →
     Some l ≡ f n → l.id ≡ n → AreBelow n (filter_map f (range_with_len 0 n)) →
     new ≡ record first { threads = filter_map f (range_with_len 0 (n + 1)) }
-set_line f n l first old new before after some number all =
+line_set f n l first old new before after some number all =
     after ∙ ap (λ (o : OutcomeValue). record o { threads = placed l o.threads }) before ∙
     ap (λ (ts : List ThreadLine). record first { threads = ts })
     (placed_last l (filter_map f (range_with_len 0 n)) (subst (λ (k : ℕ). AreBelow k (filter_map f (range_with_len 0 n))) (sym number) all) ∙
@@ -124,7 +124,7 @@ cpu_lines_shown v w shows =
     (λ k. subst (λ (i : ℕ). IfSome (slice_get v.values k) (StandsUnder w i)) (let e : k ≡ 0 + k = omega arith in e) (shows.under k))
 
 -- a scheduler's values are those of the locks in its fields
-pub values_shown : (w : Inside) (v : WorldValue) (items : List Guarded) → value_of w ≡ v → items ≡ w.values.items → v.values ≡ map lock_value items
+pub values_shown : (w : Inside) (v : WorldValue) (items : List Guarded) → world_value w ≡ v → items ≡ w.values.items → v.values ≡ map lock_value items
 values_shown w v items is same = ap (λ (u : WorldValue). u.values) (sym is) ∙ ap (map lock_value) (sym same)
 
 -- the value of the next lock is the first of those from it on

@@ -22,7 +22,7 @@ use Rattle.ule_model.specs.Events.{holder_of, is_no_others, is_ready, sought_by}
 use Rattle.ule_model.specs.Finals.{thread_lines}
 use Rattle.ule_model.specs.History.{IsHistoryOf}
 use Rattle.ule_model.specs.Program as program
-use Rattle.ule_model.specs.Program.{Own, begun, course_of, next_in, next_of, next_step, or_else, own_of, stepped}
+use Rattle.ule_model.specs.Program.{Own, begun, course_of, next_in, next_of, next_step, or_else, own_of, stepped, told_last}
 use Rattle.ule_model.specs.Rounds.{Play, after_item, after_step, entry_of, greatest_rounds, opening, opening_courses, performed, play_of, turn}
 use Rattle.ule_model.specs.Start.{starting_time, world_at_start}
 use Rattle.ule_model.specs.Step.{step}
@@ -35,10 +35,11 @@ use Rattle.ule_rounds.proofs.Plays.{all_left}
 use Rattle.ule_rounds.proofs.RoundsLaws.{turn_finished}
 use Rattle.ule_members.proofs.Lists.{drop_at}
 use Rattle.ule_seq.specs.Outcomes.{HasFinals, HasLines, IsOutcomeOf}
-use Rattle.ule_seq.specs.Playing.{IsAttempted, IsPerformed, IsPlay, IsReached, PlayerValue, opens, goes_on, advanced, course_at, courses_from, told}
+use Rattle.ule_seq.specs.Playing.{IsAttempted, IsPerformed, IsPlay, IsReached, PlayerValue, opens, goes_on, advanced, course_at, courses_from, settled, settled_at, settled_in}
 use Rattle.ule_seq.specs.Programs.{own_of_program}
 use Rattle.ule_seq.specs.Readiness.{ready_by, ready_in}
 use Rattle.ule_seq.specs.declared.program.Program.{Program}
+use Rattle.ule_seq.specs.declared.rounds.Ahead.{Ahead}
 use Rattle.ule_seq.specs.declared.rounds.Course.{Course}
 use Rattle.ule_seq.specs.declared.world.Ready.TheVariants.{Yes, InHand}
 
@@ -72,36 +73,50 @@ next_begins c cs own last has =
 abbrev pub script_of : Setup → ℕ → List Command
 script_of s worker = slice_index_or s.scripts worker []
 
--- what the program of a course gives next
-abbrev pub given_next : Course → Option Item × Own
-given_next c = next_of c.last (own_of_program c.program)
+-- what a program gives next that heard what its last event told
+abbrev pub given_next : Program → Option Item × Own
+given_next p = next_of None (own_of_program p)
+
+-- a worker at this command of its script, whose program heard what its last event told
+abbrev pub standing_at : ℕ → Program → Course
+standing_at n p = record { next = n; program = p; last = None }
+
+-- what is next of a program that is told something is what is next of it once it heard that
+pub next_once_told : (script : List Command) (own : Own) (last : Option (Reply × ℕ)) → next_in script own last ≡ next_in script (told_last last own) None
+unfolding next_in
+next_once_told [] own last = refl
+next_once_told (c ∷ cs) own last = refl
+
+-- what is next of a course is what is next of it once its program heard what its last event told
+pub step_told : (s : Setup) (worker : ℕ) (c : Course) (p : Program) → own_of_program p ≡ told_last c.last (own_of_program c.program) →
+    next_step (course_at s worker c) ≡ next_step (course_at s worker (standing_at c.next p))
+step_told s worker c p told =
+    next_once_told (drop c.next (script_of s worker)) (own_of_program c.program) c.last ∙
+    ap (λ (q : Own). next_in (drop c.next (script_of s worker)) q None) (sym told)
 
 -- a course whose command has a further item gives it, and its program goes on
-pub step_some : (s : Setup) (worker : ℕ) (c : Course) (rest : Option (Reply × ℕ)) (i : Item) (new : Program) →
-    rest ≡ None → Some i ≡ (given_next c).0 → own_of_program new ≡ (given_next c).1 →
-    next_step (course_at s worker c) ≡ Some (i, course_at s worker (record { next = c.next; program = new; last = rest }))
-step_some s worker c rest i new none has after =
-    next_begun (drop c.next (script_of s worker)) (own_of_program c.program) c.last i (sym has) ∙
-    ap (λ (q : Own). Some (i, going_on (drop c.next (script_of s worker)) q None)) (sym after) ∙
-    ap (λ (o : Option (Reply × ℕ)). Some (i, going_on (drop c.next (script_of s worker)) (own_of_program new) o)) (sym none)
+pub step_some : (s : Setup) (worker n : ℕ) (p new : Program) (i : Item) → Some i ≡ (given_next p).0 → own_of_program new ≡ (given_next p).1 →
+    next_step (course_at s worker (standing_at n p)) ≡ Some (i, course_at s worker (standing_at n new))
+step_some s worker n p new i has after =
+    next_begun (drop n (script_of s worker)) (own_of_program p) None i (sym has) ∙
+    ap (λ (q : Own). Some (i, going_on (drop n (script_of s worker)) q None)) (sym after)
 
 -- a course at the end of its last command gives none
-pub step_none : (s : Setup) (worker : ℕ) (c : Course) → length (script_of s worker) ≤ c.next → (given_next c).0 ≡ None →
-    next_step (course_at s worker c) ≡ None
-step_none s worker c past none =
-    ap (λ (script : List Command). next_in script (own_of_program c.program) c.last) (drop_all c.next (script_of s worker) past) ∙
-    next_ended (own_of_program c.program) c.last none
+pub step_none : (s : Setup) (worker n : ℕ) (p : Program) → length (script_of s worker) ≤ n → (given_next p).0 ≡ None →
+    next_step (course_at s worker (standing_at n p)) ≡ None
+step_none s worker n p past none =
+    ap (λ (script : List Command). next_in script (own_of_program p) None) (drop_all n (script_of s worker) past) ∙
+    next_ended (own_of_program p) None none
 
 -- a course at the end of a command that isn't its last gives what it gives with the next command begun
-pub step_more : (s : Setup) (worker : ℕ) (c : Course) (rest : Option (Reply × ℕ)) (mid new : Program) (command : Command) →
-    slice_get (script_of s worker) c.next ≡ Some command → rest ≡ None → (given_next c).0 ≡ None →
-    own_of_program mid ≡ (given_next c).1 → own_of_program new ≡ begun command (own_of_program mid) →
-    next_step (course_at s worker c) ≡ next_step (course_at s worker (record { next = c.next + 1; program = new; last = rest }))
-step_more s worker c rest mid new command got empty none after begins =
-    ap (λ (script : List Command). next_in script (own_of_program c.program) c.last) (drop_at (script_of s worker) c.next command got) ∙
-    next_begins command (drop (c.next + 1) (script_of s worker)) (own_of_program c.program) c.last none ∙
-    ap (λ (q : Own). next_in (drop (c.next + 1) (script_of s worker)) q None) (ap (begun command) (sym after) ∙ sym begins) ∙
-    ap (next_in (drop (c.next + 1) (script_of s worker)) (own_of_program new)) (sym empty)
+pub step_more : (s : Setup) (worker n : ℕ) (p mid new : Program) (command : Command) →
+    slice_get (script_of s worker) n ≡ Some command → (given_next p).0 ≡ None →
+    own_of_program mid ≡ (given_next p).1 → own_of_program new ≡ begun command (own_of_program mid) →
+    next_step (course_at s worker (standing_at n p)) ≡ next_step (course_at s worker (standing_at (n + 1) new))
+step_more s worker n p mid new command got none after begins =
+    ap (λ (script : List Command). next_in script (own_of_program p) None) (drop_at (script_of s worker) n command got) ∙
+    next_begins command (drop (n + 1) (script_of s worker)) (own_of_program p) None none ∙
+    ap (λ (q : Own). next_in (drop (n + 1) (script_of s worker)) q None) (ap (begun command) (sym after) ∙ sym begins)
 
 -- ---- numbered lists
 
@@ -188,14 +203,17 @@ course_got s v p worker c play got =
     let e : 0 + worker ≡ worker = omega arith in
     ap (λ cs. slice_get cs worker) play.courses ∙ numbered_get (course_at s) 0 v.courses worker c got ∙ ap (λ (k : ℕ). Some (course_at s k c)) e
 
--- a course set among those of a player
-pub courses_set : (s : Setup) (v : PlayerValue) (p : Play) (worker : ℕ) (c : Course) → IsPlay s v p →
-    slice_set p.courses worker (course_at s worker c) ≡ courses_from s 0 (slice_set v.courses worker c)
-courses_set s v p worker c play =
+-- the course of a worker settled among those of a player
+pub courses_settled : (s : Setup) (v : PlayerValue) (p : Play) (worker : ℕ) (c : Course) (ahead : Ahead) (last : Option (Reply × ℕ)) → IsPlay s v p →
+    slice_get v.courses worker ≡ Some c →
+    slice_set p.courses worker (course_at s worker (settled c ahead last)) ≡ courses_from s 0 (settled_at v.courses worker ahead last)
+courses_settled s v p worker c ahead last play got =
     let at : 0 + worker ≡ worker = omega arith in
-    ap (λ (cs : List program.Course). slice_set cs worker (course_at s worker c)) play.courses ∙
-    ap (λ (k : ℕ). slice_set (courses_from s 0 v.courses) worker (course_at s k c)) (sym at) ∙
-    sym (numbered_set (course_at s) 0 v.courses worker c)
+    let new : Course = settled c ahead last in
+    ap (λ (cs : List program.Course). slice_set cs worker (course_at s worker new)) play.courses ∙
+    ap (λ (k : ℕ). slice_set (courses_from s 0 v.courses) worker (course_at s k new)) (sym at) ∙
+    sym (numbered_set (course_at s) 0 v.courses worker new) ∙
+    ap (λ (o : Option Course). courses_from s 0 (settled_in v.courses worker ahead last o)) (sym got)
 
 -- ---- whether an event is ready
 
@@ -223,44 +241,50 @@ own_is_yes worker (Some holder) own = ap (λ (b : Bool). if b then Yes else InHa
 
 -- ---- a turn of the player
 
--- a player of a play reads where a worker stands, which has this item next and goes on to a course
-pub record IsAtTurn (s : Setup) (v : PlayerValue) (p : Play) (worker : ℕ) (i : Item) (ahead : Course) : Type 0 where
+-- where a worker stands that went so far ahead from a course
+abbrev pub course_ahead : Setup → ℕ → Course → Ahead → program.Course
+course_ahead s worker c ahead = course_at s worker (settled c ahead None)
+
+-- a player of a play reads where a worker stands, which has this item next and goes so far ahead
+pub record IsAtTurn (s : Setup) (v : PlayerValue) (p : Play) (worker : ℕ) (i : Item) (ahead : Ahead) : Type 0 where
   pub form : IsOfForm s
   pub play : IsPlay s v p
   pub course : Course
   pub got : slice_get v.courses worker ≡ Some course
-  pub next : next_step (course_at s worker course) ≡ Some (i, course_at s worker ahead)
+  pub next : next_step (course_at s worker course) ≡ Some (i, course_ahead s worker course ahead)
 
 -- what a player reads and finds is its turn
-pub turn_found : {s : Setup} {v : PlayerValue} {p : Play} {worker : ℕ} {i j : Item} {c ahead : Course} → IsOfForm s → IsPlay s v p → slice_get v.courses worker ≡ Some c →
-    Some (i, course_at s worker ahead) ≡ next_step (course_at s worker c) → i ≡ j → IsAtTurn s v p worker j ahead
+pub turn_found : {s : Setup} {v : PlayerValue} {p : Play} {worker : ℕ} {i j : Item} {c : Course} {ahead : Ahead} → IsOfForm s → IsPlay s v p →
+    slice_get v.courses worker ≡ Some c →
+    Some (i, course_ahead s worker c ahead) ≡ next_step (course_at s worker c) → i ≡ j → IsAtTurn s v p worker j ahead
 turn_found {s} {v} {p} {worker} {i} {j} {c} {ahead} form play got found is = record {
   form = form;
   play = play;
   course = c;
   got = got;
-  next = sym found ∙ ap (λ (x : Item). Some (x, course_at s worker ahead)) is;
+  next = sym found ∙ ap (λ (x : Item). Some (x, course_ahead s worker c ahead)) is;
 }
 
 -- the play at a turn is under way
-pub turn_kept : (s : Setup) (v : PlayerValue) (p : Play) (worker : ℕ) (i : Item) (ahead : Course) → IsAtTurn s v p worker i ahead → IsUnderWay s p
+pub turn_kept : (s : Setup) (v : PlayerValue) (p : Play) (worker : ℕ) (i : Item) (ahead : Ahead) → IsAtTurn s v p worker i ahead → IsUnderWay s p
 turn_kept s v p worker i ahead at = reached_kept s at.form p at.play.reached
 
 -- the course of the play at a turn
-pub turn_got : (s : Setup) (v : PlayerValue) (p : Play) (worker : ℕ) (i : Item) (ahead : Course) (at : IsAtTurn s v p worker i ahead) →
+pub turn_got : (s : Setup) (v : PlayerValue) (p : Play) (worker : ℕ) (i : Item) (ahead : Ahead) (at : IsAtTurn s v p worker i ahead) →
     slice_get p.courses worker ≡ Some (course_at s worker at.course)
 turn_got s v p worker i ahead at = course_got s v p worker at.course at.play at.got
 
 -- an event that the world finds ready is possible
-pub turn_possible : (s : Setup) (v : PlayerValue) (p : Play) (worker : ℕ) (e : Event) (ahead : Course) → IsAtTurn s v p worker (item.Event e) ahead →
+pub turn_possible : (s : Setup) (v : PlayerValue) (p : Play) (worker : ℕ) (e : Event) (ahead : Ahead) → IsAtTurn s v p worker (item.Event e) ahead →
     is_ready p.world worker e ≡ true → IsPossible p.world worker e v.now
 turn_possible s v p worker e ahead at ready =
     let kept = turn_kept s v p worker (item.Event e) ahead at in
-    let has = has_next s p worker (course_at s worker at.course) (course_at s worker ahead) e kept (turn_got s v p worker (item.Event e) ahead at) at.next in
-    subst (IsPossible p.world worker e) at.play.now (possible s p worker (course_at s worker at.course) (course_at s worker ahead) e kept has ready)
+    let next = course_ahead s worker at.course ahead in
+    let has = has_next s p worker (course_at s worker at.course) next e kept (turn_got s v p worker (item.Event e) ahead at) at.next in
+    subst (IsPossible p.world worker e) at.play.now (possible s p worker (course_at s worker at.course) next e kept has ready)
 
 -- a player that finds an event ready can perform it
-pub can_attempt : (s : Setup) (v : PlayerValue) (p : Play) (worker : ℕ) (e : Event) (ahead : Course) → IsAtTurn s v p worker (item.Event e) ahead →
+pub can_attempt : (s : Setup) (v : PlayerValue) (p : Play) (worker : ℕ) (e : Event) (ahead : Ahead) → IsAtTurn s v p worker (item.Event e) ahead →
     ready_in v.world worker e ≡ Yes → CanStep v.world worker e v.now
 can_attempt s v p worker e ahead at found = (
   p.world,
@@ -270,20 +294,23 @@ can_attempt s v p worker e ahead at found = (
 )
 
 -- a player has room for the entry of an event
-pub has_room : (s : Setup) (v : PlayerValue) (p : Play) (worker : ℕ) (e : Event) (ahead : Course) → IsAtTurn s v p worker (item.Event e) ahead → 0 < v.outcome.room
+pub has_room : (s : Setup) (v : PlayerValue) (p : Play) (worker : ℕ) (e : Event) (ahead : Ahead) → IsAtTurn s v p worker (item.Event e) ahead → 0 < v.outcome.room
 has_room s v p worker e ahead at = omega (arith, kept.count, left_among, at.play.room, ap (λ (es : List Entry). length es) at.play.entries)
   where
     kept : IsUnderWay s p
     kept = turn_kept s v p worker (item.Event e) ahead at
 
-    left_among : all_left s.cpus (performed worker e (course_at s worker ahead) p).courses + 1 ≤ all_left s.cpus p.courses
-    left_among = left_performed s p worker e (course_at s worker at.course) (course_at s worker ahead) kept (turn_got s v p worker (item.Event e) ahead at) at.next
+    left_among : all_left s.cpus (performed worker e (course_ahead s worker at.course ahead) p).courses + 1 ≤ all_left s.cpus p.courses
+    left_among =
+        left_performed s p worker e (course_at s worker at.course) (course_ahead s worker at.course ahead) kept
+        (turn_got s v p worker (item.Event e) ahead at) at.next
 
 -- time stays within its type
-pub advance_fits : (s : Setup) (v : PlayerValue) (p : Play) (worker k : ℕ) (ahead : Course) → IsAtTurn s v p worker (item.Advance k) ahead → v.now + k < 2 ^ 64
+pub advance_fits : (s : Setup) (v : PlayerValue) (p : Play) (worker k : ℕ) (ahead : Ahead) → IsAtTurn s v p worker (item.Advance k) ahead → v.now + k < 2 ^ 64
 advance_fits s v p worker k ahead at =
     let kept = turn_kept s v p worker (item.Advance k) ahead at in
-    let within = advance_within s p worker k (course_at s worker at.course) (course_at s worker ahead) kept (turn_got s v p worker (item.Advance k) ahead at) at.next in
+    let next = course_ahead s worker at.course ahead in
+    let within = advance_within s p worker k (course_at s worker at.course) next kept (turn_got s v p worker (item.Advance k) ahead at) at.next in
     omega (arith, at.play.now, time_below s p kept, within.1)
 
 -- the play after a turn in which the worker has no further item
@@ -294,14 +321,14 @@ turn_ended s v p worker c play got ended =
     (λ course found. subst (λ d. next_step d ≡ None) (same_Some (course_at s worker c) course (sym (course_got s v p worker c play got) ∙ found)) ended)
 
 -- the play after a turn that gave this item
-pub turn_item : (s : Setup) (v : PlayerValue) (p : Play) (worker : ℕ) (i : Item) (ahead : Course) → IsAtTurn s v p worker i ahead →
-    turn p worker ≡ after_item worker i (course_at s worker ahead) p
+pub turn_item : (s : Setup) (v : PlayerValue) (p : Play) (worker : ℕ) (i : Item) (ahead : Ahead) (at : IsAtTurn s v p worker i ahead) →
+    turn p worker ≡ after_item worker i (course_ahead s worker at.course ahead) p
 turn_item s v p worker i ahead at =
     ap (λ (o : Option program.Course). after_step worker (option_and_then next_step o) p) (turn_got s v p worker i ahead at) ∙
     ap (λ (o : Option (Item × program.Course)). after_step worker o p) at.next
 
 -- the play after a turn in which the worker's event was performed
-pub turn_performed : (s : Setup) (v new : PlayerValue) (p : Play) (worker : ℕ) (e : Event) (ahead : Course) → IsAtTurn s v p worker (item.Event e) ahead →
+pub turn_performed : (s : Setup) (v new : PlayerValue) (p : Play) (worker : ℕ) (e : Event) (ahead : Ahead) → IsAtTurn s v p worker (item.Event e) ahead →
     is_ready p.world worker e ≡ true → IsPerformed v worker e ahead new → IsPlay s new (turn p worker)
 turn_performed s v new p worker e ahead at ready done =
     subst (IsPlay s new) (sym turned) (record {
@@ -331,21 +358,23 @@ turn_performed s v new p worker e ahead at ready done =
     reply : (step p.world worker e p.now).1 ≡ done.reply
     reply = ap (λ (n : ℕ). (step p.world worker e n).1) at.play.now ∙ sym stepped_to.1
 
-    turned : turn p worker ≡ performed worker e (course_at s worker ahead) p
-    turned =
-        turn_item s v p worker (item.Event e) ahead at ∙
-        ap (λ (b : Bool). if b then performed worker e (course_at s worker ahead) p else p) ready
+    next : program.Course
+    next = course_ahead s worker at.course ahead
+
+    turned : turn p worker ≡ performed worker e next p
+    turned = turn_item s v p worker (item.Event e) ahead at ∙ ap (λ (b : Bool). if b then performed worker e next p else p) ready
 
     -- the course that the worker stands at
-    reached_course : record (course_at s worker ahead) { last = Some ((step p.world worker e p.now).1, p.now) } ≡ course_at s worker (told ahead done.reply v.now)
+    reached_course : record next { last = Some ((step p.world worker e p.now).1, p.now) } ≡
+        course_at s worker (settled at.course ahead (Some (done.reply, v.now)))
     reached_course =
-        ap (λ (r : Reply). record (course_at s worker ahead) { last = Some (r, p.now) }) reply ∙
-        ap (λ (n : ℕ). record (course_at s worker ahead) { last = Some (done.reply, n) }) at.play.now
+        ap (λ (r : Reply). record next { last = Some (r, p.now) }) reply ∙
+        ap (λ (n : ℕ). record next { last = Some (done.reply, n) }) at.play.now
 
-    courses : slice_set p.courses worker (record (course_at s worker ahead) { last = Some ((step p.world worker e p.now).1, p.now) }) ≡ courses_from s 0 new.courses
+    courses : slice_set p.courses worker (record next { last = Some ((step p.world worker e p.now).1, p.now) }) ≡ courses_from s 0 new.courses
     courses =
         ap (slice_set p.courses worker) reached_course ∙
-        courses_set s v p worker (told ahead done.reply v.now) at.play ∙ ap (courses_from s 0) (sym done.courses)
+        courses_settled s v p worker at.course ahead (Some (done.reply, v.now)) at.play at.got ∙ ap (courses_from s 0) (sym done.courses)
 
     entries : p.entries ++ entry_of p worker e ∷ [] ≡ new.outcome.entries
     entries =
@@ -355,17 +384,17 @@ turn_performed s v new p worker e ahead at ready done =
         sym (ap (λ (o : OutcomeValue). o.entries) done.outcome)
 
 -- the play after a turn that was lost is the play before it
-pub turn_lost : (s : Setup) (v : PlayerValue) (p : Play) (worker : ℕ) (e : Event) (ahead : Course) → IsAtTurn s v p worker (item.Event e) ahead →
+pub turn_lost : (s : Setup) (v : PlayerValue) (p : Play) (worker : ℕ) (e : Event) (ahead : Ahead) → IsAtTurn s v p worker (item.Event e) ahead →
     is_ready p.world worker e ≡ false → IsPlay s v (turn p worker)
 turn_lost s v p worker e ahead at unready = subst (IsPlay s v) (sym same) at.play
   where
     same : turn p worker ≡ p
     same =
         turn_item s v p worker (item.Event e) ahead at ∙
-        ap (λ (b : Bool). if b then performed worker e (course_at s worker ahead) p else p) unready
+        ap (λ (b : Bool). if b then performed worker e (course_ahead s worker at.course ahead) p else p) unready
 
 -- the play after a turn whose item was an event
-pub turn_attempted : (s : Setup) (v new : PlayerValue) (p : Play) (worker : ℕ) (e : Event) (ahead : Course) → IsAtTurn s v p worker (item.Event e) ahead →
+pub turn_attempted : (s : Setup) (v new : PlayerValue) (p : Play) (worker : ℕ) (e : Event) (ahead : Ahead) → IsAtTurn s v p worker (item.Event e) ahead →
     IsAttempted v worker e ahead new → IsPlay s new (turn p worker)
 turn_attempted s v new p worker e ahead at tried = split (is_ready p.world worker e) refl
   where
@@ -382,20 +411,20 @@ turn_attempted s v new p worker e ahead at tried = split (is_ready p.world worke
         subst (λ (u : PlayerValue). IsPlay s u (turn p worker)) (sym same) (turn_lost s v p worker e ahead at unready)
 
 -- the play after a turn that let time go on
-pub turn_advanced : (s : Setup) (v new : PlayerValue) (p : Play) (worker k : ℕ) (ahead : Course) → IsAtTurn s v p worker (item.Advance k) ahead →
+pub turn_advanced : (s : Setup) (v new : PlayerValue) (p : Play) (worker k : ℕ) (ahead : Ahead) → IsAtTurn s v p worker (item.Advance k) ahead →
     new ≡ advanced v worker k ahead → IsPlay s new (turn p worker)
 turn_advanced s v new p worker k ahead at is =
     subst (λ (u : PlayerValue). IsPlay s u (turn p worker)) (sym is) (subst (IsPlay s (advanced v worker k ahead)) (sym turned) (record {
       reached = subst (IsReached s) turned (goes_on p worker at.play.reached);
       world = at.play.world;
-      courses = courses_set s v p worker ahead at.play;
+      courses = courses_settled s v p worker at.course ahead None at.play at.got;
       now = ap (λ (n : ℕ). n + k) at.play.now;
       entries = at.play.entries;
       room = at.play.room;
       bare = at.play.bare;
     }))
   where
-    turned : turn p worker ≡ record p { now = p.now + k; courses = slice_set p.courses worker (course_at s worker ahead) }
+    turned : turn p worker ≡ record p { now = p.now + k; courses = slice_set p.courses worker (course_ahead s worker at.course ahead) }
     turned = turn_item s v p worker (item.Advance k) ahead at
 
 -- ---- the opening and the end

@@ -13,7 +13,7 @@ use Rattle.ule_members.proofs.Lists.{push_each}
 use Rattle.ule_laws.proofs.StartLaws.{start_shows}
 use Rattle.ule_seq.specs.Locks.{lock_value}
 use Rattle.ule_seq.specs.Starting.{AreEmptyHands, AreOpeningValues}
-use Rattle.ule_seq.specs.Worlds.{value_of}
+use Rattle.ule_seq.specs.Worlds.{world_value}
 use Rattle.ule_seq.specs.declared.lock.Guarded.{Guarded}
 use Rattle.ule_seq.specs.declared.world.World.TheInside.{Inside}
 
@@ -48,7 +48,7 @@ none_held (x ∷ xs) (suc h) each = none_held xs h each
 
 -- a world of these parts shows the world at the start
 pub parts_show : (s : Setup) (fields : Inside) → IsOfForm s → fields.settings ≡ s.settings → AreOpeningValues s 25 fields.values.items → AreEmptyHands s.cpus fields.hands.items →
-    Shows (value_of fields) (world_at_start s)
+    Shows (world_value fields) (world_at_start s)
 parts_show s fields form settings opening empty =
-    start_shows s (value_of fields) form settings (length-map fields.values.items lock_value ∙ opening.count)
+    start_shows s (world_value fields) form settings (length-map fields.values.items lock_value ∙ opening.count)
     (λ l. each_mapped (StandsUnder (world_at_start s)) l fields.values.items (opening.each l)) empty.count (λ h. none_held fields.hands.items h (empty.each h))

@@ -10,12 +10,13 @@ use Rattle.ule_types.specs.declared.event.Event.{Event}
 use Rattle.ule_types.specs.declared.event.Reply.{Reply}
 use Rattle.ule_model.specs.Events.{locking}
 use Rattle.ule_model.specs.LockConditions.{CanStepAt}
-use Rattle.ule_model.specs.LockValue.{LockValue, Stepped, lock_step}
+use Rattle.ule_model.specs.LockValue.{LockValue}
+use Rattle.ule_model.specs.Step.{Stepped, lock_step}
 use Rattle.ule_model.specs.WorldValue.{CanStep, WorldValue, held_by, lock_for, value_step}
 use Rattle.ule_laws.proofs.StepConditions.{CanStepUnder, can_step_under}
 use Rattle.ule_laws.proofs.WorldSteps.{IsMadeAt, made_is_step}
 use Rattle.ule_seq.specs.Locks.{lock_value}
-use Rattle.ule_seq.specs.Worlds.{value_of}
+use Rattle.ule_seq.specs.Worlds.{world_value}
 use Rattle.ule_seq.specs.declared.lock.Guarded.{Guarded}
 use Rattle.ule_seq.specs.declared.world.World.TheInside.{Inside}
 
@@ -25,7 +26,7 @@ written s l g i hand = record { settings = s.settings; values = with_item s.valu
 
 -- a step reads lock l's value g and what worker i has in hand from a world's fields
 pub record ReadsFields (s : Inside) (v : WorldValue) (worker : ℕ) (e : Event) (now l : ℕ) (g : Guarded) (i : ℕ) (held : Option ThreadRecord) : Type 0 where
-  pub view : value_of s ≡ v
+  pub view : world_value s ≡ v
   pub can : CanStep v worker e now
   pub lock : lock_for v.values (locking e) ≡ Some l
   pub value : g ≡ slice_index_or s.values.items l g
@@ -34,19 +35,19 @@ pub record ReadsFields (s : Inside) (v : WorldValue) (worker : ℕ) (e : Event) 
 
 -- the scheduler that a world's fields are finds what the step reads
 pub reads_under : (s : Inside) (v : WorldValue) (worker : ℕ) (e : Event) (now l : ℕ) (g : Guarded) (i : ℕ) (held : Option ThreadRecord) → ReadsFields s v worker e now l g i held →
-    CanStepUnder (value_of s) worker e now l
+    CanStepUnder (world_value s) worker e now l
 reads_under s v worker e now l g i held r =
-    can_step_under (value_of s) worker e now l (subst (λ (x : WorldValue). CanStep x worker e now) (sym r.view) r.can) (ap (λ (x : WorldValue). lock_for x.values (locking e)) r.view ∙ r.lock)
+    can_step_under (world_value s) worker e now l (subst (λ (x : WorldValue). CanStep x worker e now) (sym r.view) r.can) (ap (λ (x : WorldValue). lock_for x.values (locking e)) r.view ∙ r.lock)
 
 -- what the step reads is what the fields have there
 read_value : (s : Inside) (v : WorldValue) (worker : ℕ) (e : Event) (now l : ℕ) (g : Guarded) (i : ℕ) (held : Option ThreadRecord) → ReadsFields s v worker e now l g i held →
-    slice_get (value_of s).values l ≡ Some (lock_value g)
+    slice_get (world_value s).values l ≡ Some (lock_value g)
 read_value s v worker e now l g i held r =
     let within : l < length s.values.items = subst (λ (n : ℕ). l < n) (length-map s.values.items lock_value) (reads_under s v worker e now l g i held r).within in
     slice_get-map lock_value s.values.items l ∙ ap (option_map lock_value) (slice_get-get_or s.values.items l g within ∙ ap Some (sym r.value))
 
 read_hand : (s : Inside) (v : WorldValue) (worker : ℕ) (e : Event) (now l : ℕ) (g : Guarded) (i : ℕ) (held : Option ThreadRecord) → ReadsFields s v worker e now l g i held →
-    held_by (value_of s) worker ≡ held
+    held_by (world_value s) worker ≡ held
 read_hand s v worker e now l g i held r =
     let there : held ≡ slice_index_or s.hands.items worker held = r.hand ∙ ap (λ (n : ℕ). slice_index_or s.hands.items n held) r.from in
     get_or_from_slice_get s.hands.items worker held None (slice_get-get_or s.hands.items worker held (reads_under s v worker e now l g i held r).worker_is ∙ ap Some (sym there))
@@ -59,7 +60,7 @@ one_value x y e = cc
 pub reads_can : (s : Inside) (v : WorldValue) (worker : ℕ) (e : Event) (now l : ℕ) (g : Guarded) (i : ℕ) (held : Option ThreadRecord) → ReadsFields s v worker e now l g i held →
     CanStepAt (lock_value g) held e now
 reads_can s v worker e now l g i held r =
-    let under : CanStepUnder (value_of s) worker e now l = reads_under s v worker e now l g i held r in
+    let under : CanStepUnder (world_value s) worker e now l = reads_under s v worker e now l g i held r in
     let same : under.value ≡ lock_value g = one_value under.value (lock_value g) (sym under.found ∙ read_value s v worker e now l g i held r) in
     subst (λ (x : LockValue). CanStepAt x held e now) same (subst (λ (h : Option ThreadRecord). CanStepAt under.value h e now) (read_hand s v worker e now l g i held r) under.can)
 
@@ -74,21 +75,22 @@ abbrev pub scheduler : Settings → List LockValue → List (Option ThreadRecord
 scheduler settings values hands reply = (record { settings = settings; values = values; hands = hands }, reply)
 
 -- the fields that were written are the step of the scheduler
-pub written_is_step : (s : Inside) (v : WorldValue) (worker : ℕ) (e : Event) (now l : ℕ) (g : Guarded) (i : ℕ) (held : Option ThreadRecord) (after : Guarded) (hand : Option ThreadRecord) (reply : Reply) →
-    ReadsFields s v worker e now l g i held → IsWritten s worker e now g held after hand reply → (value_of (written s l after i hand), reply) ≡ value_step v worker e now
+pub written_is_step : (s : Inside) (v : WorldValue) (worker : ℕ) (e : Event) (now l : ℕ) (g : Guarded) (i : ℕ)
+    (held : Option ThreadRecord) (after : Guarded) (hand : Option ThreadRecord) (reply : Reply) →
+    ReadsFields s v worker e now l g i held → IsWritten s worker e now g held after hand reply → (world_value (written s l after i hand), reply) ≡ value_step v worker e now
 written_is_step s v worker e now l g i held after hand reply r w =
     ap (λ (vs : List LockValue). scheduler s.settings vs (slice_set s.hands.items i hand) reply) (map-set lock_value s.values.items l after) ∙
-    ap (λ (x : LockValue). scheduler s.settings (slice_set (value_of s).values l x) (slice_set s.hands.items i hand) reply) w.value_is ∙
-    ap (λ (n : ℕ). scheduler s.settings (slice_set (value_of s).values l made.value) (slice_set s.hands.items n hand) reply) r.from ∙
-    ap (λ (h : Option ThreadRecord). scheduler s.settings (slice_set (value_of s).values l made.value) (slice_set s.hands.items worker h) reply) w.hand_is ∙
-    ap (λ (x : Reply). scheduler s.settings (slice_set (value_of s).values l made.value) (slice_set s.hands.items worker made.hand) x) w.reply_is ∙
-    made_is_step (value_of s) worker e now l made at ∙
+    ap (λ (x : LockValue). scheduler s.settings (slice_set (world_value s).values l x) (slice_set s.hands.items i hand) reply) w.value_is ∙
+    ap (λ (n : ℕ). scheduler s.settings (slice_set (world_value s).values l made.value) (slice_set s.hands.items n hand) reply) r.from ∙
+    ap (λ (h : Option ThreadRecord). scheduler s.settings (slice_set (world_value s).values l made.value) (slice_set s.hands.items worker h) reply) w.hand_is ∙
+    ap (λ (x : Reply). scheduler s.settings (slice_set (world_value s).values l made.value) (slice_set s.hands.items worker made.hand) x) w.reply_is ∙
+    made_is_step (world_value s) worker e now l made at ∙
     ap (λ (x : WorldValue). value_step x worker e now) r.view
   where
     made : Stepped
     made = lock_step s.settings worker e now held (lock_value g)
 
-    at : IsMadeAt (value_of s) worker e now l made
+    at : IsMadeAt (world_value s) worker e now l made
     at = record {
       lock = ap (λ (x : WorldValue). lock_for x.values (locking e)) r.view ∙ r.lock;
       value = lock_value g;

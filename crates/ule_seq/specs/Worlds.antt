@@ -6,11 +6,11 @@ use Rattle.ule_seq.specs.Locks.{lock_value}
 use Rattle.ule_seq.specs.declared.world.World.TheInside.{Inside}
 
 -- the value that clauses see
-abbrev pub value_of : Inside → WorldValue
-value_of w = record { settings = w.settings; values = map lock_value w.values.items; hands = w.hands.items }
+abbrev pub world_value : Inside → WorldValue
+world_value w = record { settings = w.settings; values = map lock_value w.values.items; hands = w.hands.items }
 
 -- what the fields keep: they are the value of some world
 pub record KeepsWorld (w : Inside) : Type 0 where
   pub settings : IsTrue (are_settings w.settings)
   pub workers : vec_len w.hands ≤ 16
-  pub shown : IsShown (value_of w)
+  pub shown : IsShown (world_value w)

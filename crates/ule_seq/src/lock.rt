@@ -1,21 +1,27 @@
-ghost use Rattle.std.specs.Prelude.{◌≡◌, ℕ, ◌%◌, ◌<◌, ◌≤◌, ◌^◌, None, IfSome, IsTrue};
+ghost use Rattle.std.specs.Prelude.{◌≡◌, ℕ, ◌%◌, ◌<◌, ◌≤◌, ◌^◌, not, ◌==◌, Option, None, Some, IfSome, IsSome, IsTrue};
 ghost use Rattle.std.specs.Option.{option_map};
+ghost use Rattle.ule_model.specs.CpuChange.{value_changed};
 ghost use Rattle.ule_model.specs.CpuValue.{IsNoEarlier, thread_in, value_taken};
 ghost use Rattle.ule_model.specs.LockConditions.{CanStepAt, CanStepChain, CanStepLimbo, CanStepQueue, IsTime};
-ghost use Rattle.ule_model.specs.LockValue.{chain_bedded, chain_step, chain_woken, found_on, has_under, limbo_buried, limbo_hatched, limbo_returned, limbo_step, line_under, lock_step, not_asleep, queue_dropped, queue_landed, queue_step, standing_line};
+ghost use Rattle.ule_model.specs.LockValue.{found_on, has_under, line_under, standing_line};
+ghost use Rattle.ule_model.specs.PriorityChange.{gone_answer, unborn_answer};
+ghost use Rattle.ule_model.specs.Step.{chain_bedded, chain_changed, chain_step, chain_woken, limbo_buried, limbo_changed, limbo_changed_unborn, limbo_hatched, limbo_returned, limbo_step, lock_step, not_asleep, queue_dropped, queue_exited, queue_forked, queue_landed, queue_step};
 ghost use Rattle.ule_model.specs.LockValue as value;
 ghost use Rattle.ule_model.specs.Places.{lock_of};
-ghost use Rattle.ule_score.specs.Changes.{IsBy, sleeps};
+ghost use Rattle.ule_score.specs.Changes.{IsBy, ran, sleeps};
+ghost use Rattle.ule_score.specs.Charges.{HasShortRun};
 ghost use Rattle.ule_score.specs.Settings.{are_settings};
+ghost use Rattle.ule_score.specs.declared.record.ThreadRecord.{ThreadRecord};
+ghost use Rattle.ule_threads.specs.declared.standing.Standing.{Standing};
 ghost use Rattle.ule_seq.specs.Locks.{lock_value};
 ghost use Rattle.ule_sleep.specs.Chain.{standing_in};
 ghost use Rattle.ule_sleep.specs.Limbo.{HasUnborn};
-ghost use Rattle.ule_tdq.specs.Replies.{reply_of, ticked_reply};
+ghost use Rattle.ule_tdq.specs.Replies.{changed_reply, reply_of, ticked_reply};
 
 use crate::hand::Hand;
 use ule_prio::{Cpu, LockId, ThreadId};
 use ule_score::change::after_sleep;
-use ule_score::{Place, Settings};
+use ule_score::{Change, Changed, Place, Settings};
 use ule_sleep::{Chain, Limbo};
 use ule_tdq::{Clocked, SwitchOut, Tdq, line_of};
 use ule_threads::Standing;
@@ -54,7 +60,7 @@ pub fn step_at(
     match guarded {
         Guarded::Queue(tdq) => step_queue(worker, hand, tdq, e, now),
         Guarded::Chain(chain) => step_chain(settings, hand, chain, e, now),
-        Guarded::Limbo(limbo) => step_limbo(hand, limbo, e),
+        Guarded::Limbo(limbo) => step_limbo(settings, hand, limbo, e),
         Guarded::Nothing => Reply::Nothing,
     }
 }
@@ -72,18 +78,18 @@ fn step_queue(worker: u8, hand: &mut Hand, tdq: &mut Tdq, e: &Event, now: u64) -
         Event::Drop(..) => drop_current(hand, tdq, now),
         Event::Wake(t) => not_asleep(found_on(tdq, t)),
         Event::Land(_, c) => land(worker, c, hand, tdq),
+        Event::Lend(t, p) => change_on(worker, tdq, t, Change::Lend(p)),
+        Event::Unlend(t) => change_on(worker, tdq, t, Change::Unlend),
+        Event::Renice(t, nice) => change_on(worker, tdq, t, Change::Renice(nice)),
+        Event::Fork(..) => fork_in_hand(hand, tdq, now),
+        Event::Exit(_) => exit_current(hand, tdq, now),
+        Event::Inherit(t, run) => change_on(worker, tdq, t, Change::Inherit(run)),
         Event::Bed(..)
         | Event::Look(_)
         | Event::Move(..)
-        | Event::Lend(..)
-        | Event::Unlend(_)
-        | Event::Renice(..)
         | Event::Hatch(_)
-        | Event::Fork(..)
         | Event::Return(_)
-        | Event::Exit(_)
-        | Event::Bury(_)
-        | Event::Inherit(..) => Reply::Nothing,
+        | Event::Bury(_) => Reply::Nothing,
     }
 }
 
@@ -102,6 +108,56 @@ fn drop_current(hand: &mut Hand, tdq: &mut Tdq, now: u64) -> Reply
     let t = out.id;
     hand.put(out);
     Reply::Dropped(t, into)
+}
+
+/// The current thread of a CPU goes to the hand, to be buried.
+fn exit_current(hand: &mut Hand, tdq: &mut Tdq, now: u64) -> Reply
+    requires begun { 20000 ≤ now }
+    requires bounded { now < 2 ^ 36 }
+    requires in_time { IsNoEarlier tdq.old now }
+    ensures hand { hand.new ≡ (queue_exited hand.old (value_taken ran now tdq.old)).hand }
+    ensures value { value.queue tdq.new ≡ (queue_exited hand.old (value_taken ran now tdq.old)).value }
+    ensures reply { result ≡ (queue_exited hand.old (value_taken ran now tdq.old)).reply }
+{
+    let Some((out, into)) = tdq.take_current(now, false) else {
+        return Reply::Nothing;
+    };
+    let reply = Reply::Exited(out.id, into, out.parent, out.hist.run);
+    hand.put(out);
+    reply
+}
+
+/// The thread in the hand becomes the child of a CPU's current thread.
+fn fork_in_hand(hand: &mut Hand, tdq: &mut Tdq, now: u64) -> Reply
+    requires begun { 20000 ≤ now }
+    requires bounded { now < 2 ^ 36 }
+    requires in_time { IsNoEarlier tdq.old now }
+    ensures hand { hand.new ≡ (queue_forked now hand.old tdq.old).hand }
+    ensures value { value.queue tdq.new ≡ (queue_forked now hand.old tdq.old).value }
+    ensures reply { result ≡ (queue_forked now hand.old tdq.old).reply }
+{
+    let Some(mut child) = hand.take() else {
+        return Reply::Nothing;
+    };
+    let parent = tdq.fork_from(&mut child, now);
+    hand.put(child);
+    match parent {
+        None => Reply::Nothing,
+        Some(parent) => Reply::Forked(parent, child.priority),
+    }
+}
+
+/// A change that can move the priority of a thread on a CPU, asked by a worker.
+fn change_on(worker: u8, tdq: &mut Tdq, t: ThreadId, change: Change) -> Reply
+    requires { HasShortRun change }
+    ensures value { tdq.new ≡ (value_changed t change (not (worker == tdq.old.cpu)) tdq.old).0 }
+    ensures reply { result ≡ (value_changed t change (not (worker == tdq.old.cpu)) tdq.old).1 }
+{
+    if tdq.thread(t).is_none() {
+        return Reply::Nothing;
+    }
+    let remote = worker != tdq.cpu().0;
+    changed_reply(tdq.change(t, change, remote))
 }
 
 /// The thread in the hand comes to a CPU.
@@ -130,21 +186,21 @@ fn step_chain(settings: &Settings, hand: &mut Hand, chain: &mut Chain, e: &Event
     match *e {
         Event::Bed(_, channel) => bed(hand, chain, channel),
         Event::Wake(t) => wake(settings, hand, chain, t, now),
+        Event::Lend(t, p) => change_asleep(settings, chain, t, Change::Lend(p)),
+        Event::Unlend(t) => change_asleep(settings, chain, t, Change::Unlend),
+        Event::Renice(t, nice) => change_asleep(settings, chain, t, Change::Renice(nice)),
+        Event::Inherit(t, run) => change_asleep(settings, chain, t, Change::Inherit(run)),
         Event::Tick(_)
         | Event::Switch(..)
         | Event::Drop(..)
         | Event::Look(_)
         | Event::Land(..)
         | Event::Move(..)
-        | Event::Lend(..)
-        | Event::Unlend(_)
-        | Event::Renice(..)
         | Event::Hatch(_)
         | Event::Fork(..)
         | Event::Return(_)
         | Event::Exit(_)
-        | Event::Bury(_)
-        | Event::Inherit(..) => Reply::Nothing,
+        | Event::Bury(_) => Reply::Nothing,
     }
 }
 
@@ -181,18 +237,36 @@ fn wake(settings: &Settings, hand: &mut Hand, chain: &mut Chain, t: ThreadId, no
     reply
 }
 
+/// A change that can move the priority of a thread that sleeps on a chain.
+fn change_asleep(settings: &Settings, chain: &mut Chain, t: ThreadId, change: Change) -> Reply
+    requires settings { IsTrue (are_settings settings.now) }
+    requires run { HasShortRun change }
+    ensures value { (hand : Option ThreadRecord) → value.chain chain.new ≡ (chain_changed settings.now change t hand (standing_in chain.old.slots t) chain.old).value }
+    ensures reply { (hand : Option ThreadRecord) → result ≡ (chain_changed settings.now change t hand (standing_in chain.old.slots t) chain.old).reply }
+{
+    if chain.standing(t).is_none() {
+        return Reply::Nothing;
+    }
+    changed_reply(chain.change(t, change, settings))
+}
+
 /// An event on limbo.
-fn step_limbo(hand: &mut Hand, limbo: &mut Limbo, e: &Event) -> Reply
-    requires { CanStepLimbo limbo.old hand.old e.now }
-    ensures hand { hand.new ≡ (limbo_step e.now hand.old limbo.old).hand }
-    ensures value { value.limbo limbo.new ≡ (limbo_step e.now hand.old limbo.old).value }
-    ensures reply { result ≡ (limbo_step e.now hand.old limbo.old).reply }
+fn step_limbo(settings: &Settings, hand: &mut Hand, limbo: &mut Limbo, e: &Event) -> Reply
+    requires settings { IsTrue (are_settings settings.now) }
+    requires step { CanStepLimbo limbo.old hand.old e.now }
+    ensures hand { hand.new ≡ (limbo_step settings.now e.now hand.old limbo.old).hand }
+    ensures value { value.limbo limbo.new ≡ (limbo_step settings.now e.now hand.old limbo.old).value }
+    ensures reply { result ≡ (limbo_step settings.now e.now hand.old limbo.old).reply }
 {
     match *e {
         Event::Hatch(t) => hatch(hand, limbo, t),
         Event::Return(_) => put_back(hand, limbo),
         Event::Bury(_) => bury(hand, limbo),
         Event::Wake(t) => not_asleep(limbo.standing(t)),
+        Event::Lend(t, p) => change_still(settings, limbo, t, Change::Lend(p)),
+        Event::Unlend(t) => change_still(settings, limbo, t, Change::Unlend),
+        Event::Renice(t, nice) => change_still(settings, limbo, t, Change::Renice(nice)),
+        Event::Inherit(t, run) => change_still(settings, limbo, t, Change::Inherit(run)),
         Event::Tick(_)
         | Event::Switch(..)
         | Event::Drop(..)
@@ -200,12 +274,8 @@ fn step_limbo(hand: &mut Hand, limbo: &mut Limbo, e: &Event) -> Reply
         | Event::Look(_)
         | Event::Land(..)
         | Event::Move(..)
-        | Event::Lend(..)
-        | Event::Unlend(_)
-        | Event::Renice(..)
         | Event::Fork(..)
-        | Event::Exit(_)
-        | Event::Inherit(..) => Reply::Nothing,
+        | Event::Exit(_) => Reply::Nothing,
     }
 }
 
@@ -246,6 +316,70 @@ fn bury(hand: &mut Hand, limbo: &mut Limbo) -> Reply
     };
     limbo.bury(r);
     Reply::Buried
+}
+
+/// A change that can move the priority of a thread in limbo.
+fn change_still(settings: &Settings, limbo: &mut Limbo, t: ThreadId, change: Change) -> Reply
+    requires settings { IsTrue (are_settings settings.now) }
+    requires run { HasShortRun change }
+    ensures value { (hand : Option ThreadRecord) → value.limbo limbo.new ≡ (limbo_changed settings.now change t hand (standing_in limbo.old.slots t) limbo.old).value }
+    ensures reply { (hand : Option ThreadRecord) → result ≡ (limbo_changed settings.now change t hand (standing_in limbo.old.slots t) limbo.old).reply }
+{
+    let Some(found) = limbo.standing(t) else {
+        return Reply::Nothing;
+    };
+    match found.place {
+        Place::Unborn => change_unborn(settings, limbo, t, change),
+        Place::Gone => gone_answer(&change),
+        Place::Running(_) | Place::Queued { .. } | Place::Asleep(_) | Place::Hand(_) => {
+            Reply::Nothing
+        }
+    }
+}
+
+/// A change that can move the priority of an unborn thread, unless it is refused.
+fn change_unborn(settings: &Settings, limbo: &mut Limbo, t: ThreadId, change: Change) -> Reply
+    requires settings { IsTrue (are_settings settings.now) }
+    requires run { HasShortRun change }
+    requires present { IsSome (standing_in limbo.old.slots t) }
+    ensures value { (hand : Option ThreadRecord) (s : Standing) → standing_in limbo.old.slots t ≡ Some s
+        → value.limbo limbo.new ≡ (limbo_changed_unborn (unborn_answer change) settings.now change t hand s.thread limbo.old).value }
+    ensures reply { (hand : Option ThreadRecord) (s : Standing) → standing_in limbo.old.slots t ≡ Some s
+        → result ≡ (limbo_changed_unborn (unborn_answer change) settings.now change t hand s.thread limbo.old).reply }
+{
+    if let Some(refusal) = unborn_answer(&change) {
+        return refusal;
+    }
+    changed_reply(limbo.change(t, change, settings))
+}
+
+/// What a change answers of a thread that is gone.
+fn gone_answer(change: &Change) -> Reply
+    ensures { result ≡ gone_answer change.now }
+{
+    match *change {
+        Change::Lend(_) | Change::Unlend | Change::Renice(_) => Reply::NotAllowed(Place::Gone),
+        Change::Inherit(_) => Reply::ParentGone,
+    }
+}
+
+/// What a change answers of an unborn thread where none is made.
+fn unborn_answer(change: &Change) -> Option<Reply>
+    ensures { result ≡ unborn_answer change.now }
+{
+    match *change {
+        Change::Lend(_) | Change::Unlend | Change::Renice(_) => {
+            Some(Reply::NotAllowed(Place::Unborn))
+        }
+        Change::Inherit(_) => None,
+    }
+}
+
+/// The reply of a change that was made.
+fn changed_reply(changed: Changed) -> Reply
+    ensures { result ≡ changed_reply changed }
+{
+    Reply::Changed(changed.priority, changed.requeued, changed.marked)
 }
 
 /// A thread with its place, if it is on a CPU.

@@ -1,5 +1,5 @@
-ghost use Rattle.std.specs.Prelude.{◌≡◌, ◌<◌};
-ghost use Rattle.ule_model.specs.Program.{after_drop, after_giving, after_wake, begun, first_stage, item_at, landing_cpu, next_of, own_of, stage_after, told_last};
+ghost use Rattle.std.specs.Prelude.{◌≡◌, ◌<◌, None};
+ghost use Rattle.ule_model.specs.Program.{after_burial, after_drop, after_exit, after_forking, after_giving, after_hatch, after_wake, begun, first_stage, item_at, landing_cpu, next_of, own_of, stage_after, told_last};
 
 use ule_prio::{Cpu, ThreadId};
 use ule_score::Why;
@@ -7,7 +7,7 @@ use ule_types::{Command, Event, Item, Looks, Reply, Setup, Stage};
 
 /// Where a worker stands inside a command, with all that its next item depends on but the reply to
 /// the event before.
-#[derive(Clone, Copy, Debug, PartialEq, Eq)]
+#[derive(Debug, Drop)]
 pub struct Program {
     worker: Cpu,
     cpus: u8,
@@ -16,8 +16,15 @@ pub struct Program {
     jitter: u32,
 }
 
+/// What a program changes as it goes on. A command that is begun empties the looks.
+#[derive(Clone, Copy)]
+pub(crate) struct Progress {
+    stage: Stage,
+    begun: bool,
+}
+
 impl Program {
-    ghost use Rattle.ule_seq.specs.Programs.{own_of_program};
+    ghost use Rattle.ule_seq.specs.Programs.{gone_on, own_of_program};
 
     /// The program of a worker, 0..=15, before its first command. Its jitter word begins at the
     /// scenario's number and the worker's, and starts anew behind 2^32 - 1.
@@ -34,12 +41,12 @@ impl Program {
         }
     }
 
-    /// Begins a command. Those of births, deaths, loans and moves have no items so far.
+    /// Begins a command. Those of moves have no items so far.
     pub fn begin(&mut self, c: &Command)
         ensures { own_of_program self.new ≡ begun c.now (own_of_program self.old) }
     {
         self.stage = first_stage(c);
-        self.looks = Looks::none();
+        self.looks.clear();
     }
 
     /// The next item of the command begun; none where it has no further one. `last` is the reply
@@ -48,19 +55,57 @@ impl Program {
         ensures item { result ≡ (next_of last (own_of_program self.old)).0 }
         ensures after { own_of_program self.new ≡ (next_of last (own_of_program self.old)).1 }
     {
-        self.hear(&last);
-        let item = item_at(self.worker, &self.stage);
-        self.stage = after_giving(&self.stage);
+        let mut progress = self.hear(&last);
+        let item = self.give(&mut progress);
+        self.go_on(&progress);
         item
     }
 
-    /// Goes on to where the reply leads, if there is one.
-    fn hear(&mut self, last: &Option<(Reply, u64)>)
-        ensures { own_of_program self.new ≡ told_last last.now (own_of_program self.old) }
+    /// How the program goes on to where the reply leads, if there is one.
+    pub(crate) fn hear(&self, last: &Option<(Reply, u64)>) -> Progress
+        ensures { own_of_program (gone_on self.now result) ≡ told_last last.now (own_of_program self.now) }
     {
-        if let Some(told) = last {
-            self.stage = stage_after(&told.0, &self.stage);
+        let stage = match last {
+            Some(told) => stage_after(&told.0, &self.stage),
+            None => self.stage,
+        };
+        Progress {
+            stage,
+            begun: false,
         }
+    }
+
+    /// The next item of the program gone on so far; none where its command has no further one.
+    pub(crate) fn give(&self, progress: &mut Progress) -> Option<Item>
+        ensures item { result ≡ (next_of None (own_of_program (gone_on self.now progress.old))).0 }
+        ensures after { own_of_program (gone_on self.now progress.new) ≡ (next_of None (own_of_program (gone_on self.now progress.old))).1 }
+    {
+        let item = item_at(self.worker, &progress.stage);
+        progress.stage = after_giving(&progress.stage);
+        item
+    }
+
+    /// Goes on in place. The looks are left where they are.
+    pub(crate) fn go_on(&mut self, progress: &Progress)
+        ensures { self.new ≡ gone_on self.old progress.now }
+    {
+        self.stage = progress.stage;
+        if progress.begun {
+            self.looks.clear();
+        }
+    }
+}
+
+impl Progress {
+    ghost use Rattle.ule_seq.specs.Programs.{gone_on, own_of_program};
+    ghost use Rattle.ule_seq.specs.declared.program.Program.{Program};
+
+    /// Begins a command.
+    pub(crate) fn begin(&mut self, c: &Command)
+        ensures { (p : Program) → own_of_program (gone_on p self.new) ≡ begun c.now (own_of_program (gone_on p self.old)) }
+    {
+        self.stage = first_stage(c);
+        self.begun = true;
     }
 }
 
@@ -75,14 +120,12 @@ fn first_stage(c: &Command) -> Stage
         Command::Resched => Stage::Switches(Why::Resched),
         Command::Sleep(channel) => Stage::Drops(channel),
         Command::Wake(t) => Stage::Wakes(t),
-        Command::Lend(_, _)
-        | Command::Unlend(_)
-        | Command::Renice(_, _)
-        | Command::Fork(_)
-        | Command::Exit
-        | Command::Idle
-        | Command::Balance
-        | Command::Look(_) => Stage::Ended,
+        Command::Lend(t, p) => Stage::Lends(t, p),
+        Command::Unlend(t) => Stage::Unlends(t),
+        Command::Renice(t, nice) => Stage::Renices(t, nice),
+        Command::Fork(t) => Stage::Hatches(t),
+        Command::Exit => Stage::Exits,
+        Command::Idle | Command::Balance | Command::Look(_) => Stage::Ended,
     }
 }
 
@@ -99,6 +142,15 @@ fn item_at(worker: Cpu, stage: &Stage) -> Option<Item>
         Stage::Beds(t, channel) => Event::Bed(t, channel),
         Stage::Wakes(t) => Event::Wake(t),
         Stage::Lands(t, c) => Event::Land(t, c),
+        Stage::Lends(t, p) => Event::Lend(t, p),
+        Stage::Unlends(t) => Event::Unlend(t),
+        Stage::Renices(t, nice) => Event::Renice(t, nice),
+        Stage::Hatches(t) => Event::Hatch(t),
+        Stage::Forks(t) => Event::Fork(worker, t),
+        Stage::Returns(t) => Event::Return(t),
+        Stage::Exits => Event::Exit(worker),
+        Stage::Buries(t, _, _) => Event::Bury(t),
+        Stage::Inherits(t, run) => Event::Inherit(t, run),
     };
     Some(Item::Event(event))
 }
@@ -110,12 +162,21 @@ fn stage_after(reply: &Reply, stage: &Stage) -> Stage
     match *stage {
         Stage::Drops(channel) => after_drop(channel, reply),
         Stage::Wakes(t) => after_wake(t, reply),
+        Stage::Hatches(t) => after_hatch(t, reply),
+        Stage::Forks(t) => after_forking(t, reply),
+        Stage::Exits => after_exit(reply),
+        Stage::Buries(_, parent, run) => after_burial(parent, run),
         Stage::Ended
         | Stage::Ticks
         | Stage::Advances(_)
         | Stage::Switches(_)
         | Stage::Beds(_, _)
-        | Stage::Lands(_, _) => Stage::Ended,
+        | Stage::Lands(_, _)
+        | Stage::Lends(_, _)
+        | Stage::Unlends(_)
+        | Stage::Renices(_, _)
+        | Stage::Returns(_)
+        | Stage::Inherits(_, _) => Stage::Ended,
     }
 }
 
@@ -136,6 +197,47 @@ fn after_wake(t: ThreadId, reply: &Reply) -> Stage
     match *reply {
         Reply::Woken(_, bound, _, _) => Stage::Lands(t, landing_cpu(bound)),
         _ => Stage::Ended,
+    }
+}
+
+/// A hatched thread is forked.
+fn after_hatch(t: ThreadId, reply: &Reply) -> Stage
+    ensures { result ≡ after_hatch t reply.now }
+{
+    match *reply {
+        Reply::Hatched => Stage::Forks(t),
+        _ => Stage::Ended,
+    }
+}
+
+/// A child lands, bound to no CPU; where nothing ran that could fork it, it is unborn again.
+fn after_forking(t: ThreadId, reply: &Reply) -> Stage
+    ensures { result ≡ after_forking t reply.now }
+{
+    match *reply {
+        Reply::Forked(_, _) => Stage::Lands(t, landing_cpu(None)),
+        Reply::Nothing => Stage::Returns(t),
+        _ => Stage::Ended,
+    }
+}
+
+/// A thread that left its CPU for good is buried.
+fn after_exit(reply: &Reply) -> Stage
+    ensures { result ≡ after_exit reply.now }
+{
+    match *reply {
+        Reply::Exited(out, _, parent, run) => Stage::Buries(out, parent, run),
+        _ => Stage::Ended,
+    }
+}
+
+/// The parent of a buried thread, if it had one, is charged with its run time.
+fn after_burial(parent: Option<ThreadId>, run: u64) -> Stage
+    ensures { result ≡ after_burial parent run }
+{
+    match parent {
+        Some(parent) => Stage::Inherits(parent, run),
+        None => Stage::Ended,
     }
 }
 
@@ -161,6 +263,15 @@ fn after_giving(stage: &Stage) -> Stage
         | Stage::Drops(_)
         | Stage::Beds(_, _)
         | Stage::Wakes(_)
-        | Stage::Lands(_, _) => *stage,
+        | Stage::Lands(_, _)
+        | Stage::Lends(_, _)
+        | Stage::Unlends(_)
+        | Stage::Renices(_, _)
+        | Stage::Hatches(_)
+        | Stage::Forks(_)
+        | Stage::Returns(_)
+        | Stage::Exits
+        | Stage::Buries(_, _, _)
+        | Stage::Inherits(_, _) => *stage,
     }
 }

@@ -1,10 +1,10 @@
-ghost use Rattle.std.specs.Prelude.{◌≡◌, ◌+◌, ◌^◌, ◌<◌, ◌≤◌, length, slice_get, false, IfOk, Some};
+ghost use Rattle.std.specs.Prelude.{◌≡◌, ◌+◌, ◌^◌, ◌<◌, ◌≤◌, length, slice_get, false, IfOk, None, Some};
 ghost use Rattle.ule_types.specs.Form.{IsOfForm};
 ghost use Rattle.ule_model.specs.Rounds.{opening_courses};
 ghost use Rattle.ule_seq.specs.Outcomes.{IsOutcomeOf};
 ghost use Rattle.ule_seq.specs.Playing.{courses_from};
 
-use crate::program::Program;
+use crate::program::{Program, Progress};
 use crate::records::STARTING_TIME;
 use crate::world::{Ready, World};
 use std::alloc::Global;
@@ -16,11 +16,18 @@ use ule_types::{Entry, Event, Item, Outcome, Reply, Setup};
 pub const GREATEST_ROUNDS: u32 = 65_536;
 
 /// Where a worker stands: its next command, the command begun, what the last event told.
-#[derive(Clone, Copy, Debug, PartialEq, Eq)]
+#[derive(Drop)]
 struct Course {
     next: u32,
     program: Program,
     last: Option<(Reply, u64)>,
+}
+
+/// What a turn changes of a course: the next command, and how the program goes on.
+#[derive(Clone, Copy)]
+struct Ahead {
+    next: u32,
+    progress: Progress,
 }
 
 /// A play: the world, where each worker stands, the time, and what was noted so far.
@@ -48,36 +55,37 @@ impl Model for Player {
 impl Course {
     ghost use Rattle.std.specs.Option.{option_map};
     ghost use Rattle.ule_model.specs.Program.{next_step};
-    ghost use Rattle.ule_seq.specs.Playing.{course_at, told};
+    ghost use Rattle.ule_seq.specs.Playing.{course_at, settled};
 
-    /// The next item of a worker's program with the course after it; none at its end.
-    fn step(&self, s: &Setup, worker: u8) -> Option<(Item, Course)>
+    /// The next item of a worker's program with what giving it changes; none at its end.
+    fn ahead(&self, s: &Setup, worker: u8) -> Option<(Item, Ahead)>
         requires { worker < 16 }
-        ensures { option_map (λ found. (found.0, course_at s.now worker found.1)) result
+        ensures { option_map (λ found. (found.0, course_at s.now worker (settled self.now found.1 None))) result
             ≡ next_step (course_at s.now worker self.now) }
     {
-        let mut ahead = *self;
+        let mut ahead = Ahead {
+            next: self.next,
+            progress: self.program.hear(&self.last),
+        };
         loop {
-            let last = ahead.last.take();
-            if let Some(item) = ahead.program.next(last) {
+            if let Some(item) = self.program.give(&mut ahead.progress) {
                 return Some((item, ahead));
             }
             if ahead.next >= s.scripts.len(worker) {
                 return None;
             }
-            ahead.program.begin(s.scripts.at(worker, ahead.next));
+            ahead.progress.begin(s.scripts.at(worker, ahead.next));
             ahead.next += 1;
         }
     }
 
-    /// The course with the reply and the time of the event just performed.
-    fn told(&self, reply: &Reply, now: u64) -> Course
-        ensures { result ≡ told self.now reply.now now }
+    /// Goes ahead in place, with the reply and the time of the event that was given, if one was.
+    fn settle(&mut self, ahead: &Ahead, last: Option<(Reply, u64)>)
+        ensures { self.new ≡ settled self.old ahead.now last }
     {
-        Course {
-            last: Some((*reply, now)),
-            ..*self
-        }
+        self.next = ahead.next;
+        self.program.go_on(&ahead.progress);
+        self.last = last;
     }
 }
 
@@ -113,28 +121,27 @@ impl Player {
         ensures turned { (p : Play) → IsPlay s.now self.old p → IsPlay s.now self.new (turn p worker) }
         ensures ended { result ≡ false → (p : Play) → IsPlay s.now self.old p → turn p worker ≡ p }
     {
-        let course = self.course_of(worker);
-        let Some((item, ahead)) = course.step(s, worker) else {
+        let Some((item, ahead)) = self.course_of(worker).ahead(s, worker) else {
             return false;
         };
         match item {
             Item::Event(event) => self.attempt(worker, &event, &ahead),
-            Item::Advance(ticks) => self.advance(worker, ticks, ahead),
+            Item::Advance(ticks) => self.advance(worker, ticks, &ahead),
         }
         true
     }
 
     /// Where a worker stands.
-    fn course_of(&self, worker: u8) -> Course
+    fn course_of(&self, worker: u8) -> &Course
         requires { worker < length self.now.courses }
-        ensures { slice_get self.entry.now.courses worker ≡ Some result }
+        ensures { slice_get self.entry.now.courses worker ≡ Some result.now }
     {
-        self.courses[usize::from(worker)]
+        &self.courses[usize::from(worker)]
     }
 
     /// The turn of a worker whose next item is an event. It is lost where the thread that the event
     /// seeks is in another worker's hand.
-    fn attempt(&mut self, worker: u8, event: &Event, ahead: &Course)
+    fn attempt(&mut self, worker: u8, event: &Event, ahead: &Ahead)
         requires step { ready_in self.old.world worker event.now ≡ Yes → CanStep self.old.world worker event.now self.old.now }
         requires worker { worker < length self.old.courses }
         requires room { 0 < self.old.outcome.room }
@@ -147,30 +154,30 @@ impl Player {
     }
 
     /// The turn of a worker whose next item lets time go on.
-    fn advance(&mut self, worker: u8, ticks: u32, ahead: Course)
+    fn advance(&mut self, worker: u8, ticks: u32, ahead: &Ahead)
         requires worker { worker < length self.old.courses }
         requires fits { self.old.now + ticks < 2 ^ 64 }
-        ensures { self.new ≡ advanced self.old worker ticks ahead }
+        ensures { self.new ≡ advanced self.old worker ticks ahead.now }
     {
         self.now += u64::from(ticks);
-        self.courses[usize::from(worker)] = ahead;
+        self.courses[usize::from(worker)].settle(ahead, None);
     }
 
-    /// An event of a worker, after which it stands at the course ahead.
-    fn perform(&mut self, worker: u8, event: &Event, ahead: &Course)
+    /// An event of a worker, whose course goes ahead with the reply.
+    fn perform(&mut self, worker: u8, event: &Event, ahead: &Ahead)
         requires step { CanStep self.old.world worker event.now self.old.now }
         requires worker { worker < length self.old.courses }
         requires room { 0 < self.old.outcome.room }
         ensures { IsPerformed self.old worker event.now ahead.now self.new }
     {
         let now = self.now;
-        let reply = self.world.step(worker, event, now);
-        self.courses[usize::from(worker)] = ahead.told(&reply, now);
+        let reply = &self.world.step(worker, event, now);
+        self.courses[usize::from(worker)].settle(ahead, Some((*reply, now)));
         self.outcome.note(Entry {
             worker,
             event: *event,
             now,
-            reply,
+            reply: *reply,
         });
     }
 
@@ -231,7 +238,7 @@ fn opening_courses(alloc: Global, s: &Setup) -> Result<Vec<Course>, Memory>
             program: Program::start(s, worker),
             last: None,
         };
-        let Ok(()) = courses.extend_from_slice(&[course]) else {
+        let Ok(()) = courses.push(course) else {
             return Err(Memory);
         };
     }

@@ -31,11 +31,11 @@ pub struct World {
 
 impl Model for World {
     ghost use Rattle.ule_model.specs.WorldValue.{WorldValue};
-    ghost use Rattle.ule_seq.specs.Worlds.{KeepsWorld, value_of};
+    ghost use Rattle.ule_seq.specs.Worlds.{KeepsWorld, world_value};
 
     ghost Value = { WorldValue };
 
-    ghost view = { value_of };
+    ghost view = { world_value };
 
     ghost invariant = { KeepsWorld };
 }

@@ -1,7 +1,11 @@
 -- A sleep chain as a value: its number, and the threads that sleep on its channels, by number.
-use Rattle.std.specs.Prelude.{◌≡◌, ℕ, ◌%◌, ◌<◌, List, length, slice_index_or, slice_set, Option, Some, None, IfSome}
+use Rattle.std.specs.Prelude.{◌≡◌, ℕ, ◌%◌, ◌<◌, Bool, List, length, slice_index_or, slice_set, Option, Some, None, IfSome}
 use Rattle.std.specs.Option.{option_map}
 use Rattle.ule_score.specs.Bounds.{KeepsBounds}
+use Rattle.ule_score.specs.Changes.{after_change}
+use Rattle.ule_score.specs.declared.record.Change.{Change}
+use Rattle.ule_score.specs.declared.record.Changed.{Changed}
+use Rattle.ule_score.specs.declared.record.Settings.{Settings}
 use Rattle.ule_score.specs.declared.place.Place.{Place}
 use Rattle.ule_score.specs.declared.place.Place.TheVariants.{Asleep}
 use Rattle.ule_score.specs.declared.record.ThreadRecord.{ThreadRecord}
@@ -41,6 +45,19 @@ with_sleeper r channel v = record v { slots = with_standing r (Asleep channel) v
 -- the chain without thread t
 abbrev pub without_sleeper : ℕ → ChainValue → ChainValue
 without_sleeper t v = record v { slots = without_standing t v.slots }
+
+-- a thread with its place, its record after a change that can move a priority
+abbrev pub standing_changed : Settings → Change → Standing → Standing
+standing_changed settings change s = record s { thread = after_change settings change s.thread }
+
+-- the chain with the record of its sleeper t after a change that can move a priority
+abbrev pub with_sleeper_changed : Settings → Change → ℕ → ChainValue → ChainValue
+with_sleeper_changed settings change t v =
+    record v { slots = slice_set v.slots t (option_map (standing_changed settings change) (standing_in v.slots t)) }
+
+-- what a change of a thread's record comes to where the thread keeps its place
+abbrev pub changed_in_place : ThreadRecord → Changed
+changed_in_place r = record { priority = r.priority; requeued = Bool.false; marked = Bool.false }
 
 -- thread t asleep on a channel of the chain of this number
 pub record IsSleeperOf (number t : ℕ) (s : Standing) : Type 0 where

@@ -1,12 +1,16 @@
-ghost use Rattle.std.specs.Prelude.{◌≡◌, ℕ, ◌%◌, ◌<◌, None, Some, IfOk, IfSome, IsSome};
+ghost use Rattle.std.specs.Prelude.{◌≡◌, ℕ, ◌%◌, ◌<◌, None, Some, IfOk, IfSome, IsSome, IsTrue};
+ghost use Rattle.std.specs.Option.{option_map};
 ghost use Rattle.ule_score.specs.Bounds.{KeepsBounds};
-ghost use Rattle.ule_sleep.specs.Chain.{IsEmptyChain, IsSleeperOf, KeepsChain, place_standing, standing_in, thread_standing, with_sleeper, without_sleeper};
+ghost use Rattle.ule_score.specs.Changes.{after_change};
+ghost use Rattle.ule_score.specs.Charges.{HasShortRun};
+ghost use Rattle.ule_score.specs.Settings.{are_settings};
+ghost use Rattle.ule_sleep.specs.Chain.{IsEmptyChain, IsSleeperOf, KeepsChain, changed_in_place, place_standing, standing_in, thread_standing, with_sleeper, with_sleeper_changed, without_sleeper};
 
 use std::alloc::Global;
 use std::marker::Model;
 use ule_io::Memory;
 use ule_prio::ThreadId;
-use ule_score::{Place, ThreadRecord};
+use ule_score::{Change, Changed, Place, Settings, ThreadRecord, after_change};
 use ule_threads::{Standing, Standings};
 
 /// One of the eight sleep chains: the threads that sleep on the channels whose remainder by 8 is
@@ -64,6 +68,32 @@ impl Chain {
         };
         self.sleepers.put(t, None);
         found.thread
+    }
+
+    /// Changes the record of a sleeping thread, which sleeps on: a priority is lent to it or taken
+    /// back, its nice value is set, or it is charged with the run time of a child that exited, in
+    /// 1024ths of an hz tick and below 2^62. After `sched_thread_priority` of a thread that isn't
+    /// on a run queue.
+    pub fn change(&mut self, t: ThreadId, c: Change, s: &Settings) -> Changed
+        requires present { IsSome (standing_in self.old.slots t) }
+        requires settings { IsTrue (are_settings s.now) }
+        requires run { HasShortRun c }
+        ensures answer { Some result ≡ option_map (λ r. changed_in_place (after_change s.now c r)) (thread_standing (standing_in self.old.slots t)) }
+        ensures rest { self.new ≡ with_sleeper_changed s.now c t self.old }
+        ensures keeps { KeepsChain self.new }
+    {
+        let Some(found) = self.sleepers.get(t) else {
+            unreachable!()
+        };
+        let place = found.place;
+        let thread = after_change(s, c, found.thread);
+        let priority = thread.priority;
+        self.sleepers.put(t, Some(Standing { thread, place }));
+        Changed {
+            priority,
+            requeued: false,
+            marked: false,
+        }
     }
 
     /// The record of a thread; none exactly where it doesn't sleep here.

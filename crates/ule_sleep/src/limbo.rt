@@ -1,14 +1,18 @@
-ghost use Rattle.std.specs.Prelude.{◌≡◌, ℕ, None, Some, IfOk, IfSome};
+ghost use Rattle.std.specs.Prelude.{◌≡◌, ℕ, None, Some, IfOk, IfSome, IsSome, IsTrue};
+ghost use Rattle.std.specs.Option.{option_map};
 ghost use Rattle.ule_score.specs.Bounds.{KeepsBounds};
+ghost use Rattle.ule_score.specs.Changes.{after_change};
+ghost use Rattle.ule_score.specs.Charges.{HasShortRun};
+ghost use Rattle.ule_score.specs.Settings.{are_settings};
 ghost use Rattle.ule_score.specs.declared.place.Place.TheVariants.{Unborn, Gone};
-ghost use Rattle.ule_sleep.specs.Chain.{place_standing, standing_in, thread_standing};
-ghost use Rattle.ule_sleep.specs.Limbo.{HasUnborn, IsEmptyLimbo, IsStillOf, KeepsLimbo, with_still, without_still};
+ghost use Rattle.ule_sleep.specs.Chain.{changed_in_place, place_standing, standing_in, thread_standing};
+ghost use Rattle.ule_sleep.specs.Limbo.{HasUnborn, IsEmptyLimbo, IsStillOf, KeepsLimbo, with_still, with_still_changed, without_still};
 
 use std::alloc::Global;
 use std::marker::Model;
 use ule_io::Memory;
 use ule_prio::ThreadId;
-use ule_score::{Place, ThreadRecord};
+use ule_score::{Change, Changed, Place, Settings, ThreadRecord, after_change};
 use ule_threads::{Standing, Standings};
 
 /// The threads that are unborn or gone, under one lock. It finds a thread by its number at once.
@@ -73,6 +77,31 @@ impl Limbo {
         };
         self.stills.put(t, None);
         found.thread
+    }
+
+    /// Changes the record of a thread that is here, which keeps its place: it is charged with the
+    /// run time of a child that exited, in 1024ths of an hz tick and below 2^62, after
+    /// `sched_exit_thread`; or a priority is lent to it or taken back, or its nice value is set.
+    pub fn change(&mut self, t: ThreadId, c: Change, s: &Settings) -> Changed
+        requires present { IsSome (standing_in self.old.slots t) }
+        requires settings { IsTrue (are_settings s.now) }
+        requires run { HasShortRun c }
+        ensures answer { Some result ≡ option_map (λ r. changed_in_place (after_change s.now c r)) (thread_standing (standing_in self.old.slots t)) }
+        ensures rest { self.new ≡ with_still_changed s.now c t self.old }
+        ensures keeps { KeepsLimbo self.new }
+    {
+        let Some(found) = self.stills.get(t) else {
+            unreachable!()
+        };
+        let place = found.place;
+        let thread = after_change(s, c, found.thread);
+        let priority = thread.priority;
+        self.stills.put(t, Some(Standing { thread, place }));
+        Changed {
+            priority,
+            requeued: false,
+            marked: false,
+        }
     }
 
     /// The record of a thread; none exactly where it isn't here.

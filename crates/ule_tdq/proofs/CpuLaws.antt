@@ -59,7 +59,7 @@ records_none (o ∷ rest) none =
     omega arith
 
 -- a slot has one record at most
-once_if-le : (o : Option ThreadRecord) → once_if o ≤ 1
+pub once_if-le : (o : Option ThreadRecord) → once_if o ≤ 1
 once_if-le None = omega arith
 once_if-le (Some r) = omega arith
 

@@ -1,2 +1,3 @@
 pub mod QueuesLaws
 pub mod CpuLaws
+pub mod QueuedLaws

@@ -2,13 +2,14 @@
 use Rattle.std.specs.Prelude.{ℕ, ◌+◌, ◌/◌, false, true, ◌==◌, List, Option, if◌then◌else◌}
 use Rattle.ule_calendar.specs.Calendar.{Dial, with_ordinary, with_next, after_removal}
 use Rattle.ule_model.specs.CalendarIndexes.{calendar_bucket}
-use Rattle.ule_model.specs.CpuValue.{with_inserted, in_kind, first_of}
+use Rattle.ule_model.specs.CpuChange.{kind_if}
+use Rattle.ule_model.specs.CpuValue.{first_found, with_inserted, in_kind, first_choice}
 use Rattle.ule_model.specs.declared.insertion.Insertion.{Insertion}
 use Rattle.ule_model.specs.declared.insertion.Insertion.TheVariants.{Ordinary, Borrowing, Preempted}
 use Rattle.ule_prio.specs.Kind.{kind_at}
 use Rattle.ule_prio.specs.declared.kind.Kind.{Kind}
 use Rattle.ule_prio.specs.declared.kind.Kind.TheVariants.{Real, Batch, Idle}
-use Rattle.ule_runq.specs.Runq.{first_from, times, without}
+use Rattle.ule_runq.specs.Runq.{first_from, place_in, times, without}
 
 -- the queue of real priorities, the calendar, the queue of idle priorities
 pub record QueuesValue : Type 0 where
@@ -68,7 +69,12 @@ queues_without Real t q = record q { real = without t q.real }
 queues_without Batch t q = record q { batch = after_removal q.batch t }
 queues_without Idle t q = record q { idle = without t q.idle }
 
+-- the kind of the queue that has thread t, if one has it
+abbrev pub kind_found : QueuesValue → ℕ → Option Kind
+kind_found q t =
+    first_found (kind_if Real (place_in q.real t)) (first_found (kind_if Batch (place_in q.batch.lists t)) (kind_if Idle (place_in q.idle t)))
+
 -- the kind and the number of the thread whose turn comes first
 abbrev pub first_queued : QueuesValue → Option (Kind × ℕ)
-first_queued q = first_of (in_kind Real (first_from q.real 0))
-    (first_of (in_kind Batch (first_from q.batch.lists q.batch.ridx)) (in_kind Idle (first_from q.idle 0)))
+first_queued q = first_choice (in_kind Real (first_from q.real 0))
+    (first_choice (in_kind Batch (first_from q.batch.lists q.batch.ridx)) (in_kind Idle (first_from q.idle 0)))

@@ -1,8 +1,10 @@
 -- What a switch and a tick came to, as the replies of their events.
+use Rattle.ule_score.specs.declared.record.Changed.{Changed}
 use Rattle.ule_tdq.specs.declared.tdq.Clocked.{Clocked}
 use Rattle.ule_tdq.specs.declared.tdq.SwitchOut.{SwitchOut}
 use Rattle.ule_tdq.specs.declared.tdq.SwitchOut.TheVariants as out
 use Rattle.ule_types.specs.declared.event.Reply.{Reply}
+use Rattle.ule_types.specs.declared.event.Reply.TheVariants as reply
 use Rattle.ule_types.specs.declared.event.Reply.TheVariants.{Unmarked, Nothing, Switched, Ticked}
 
 -- what a switch came to, as its event's reply
@@ -14,3 +16,7 @@ reply_of (out.Switched left into preempted) = Switched left into preempted
 -- what a tick came to, as its event's reply
 abbrev pub ticked_reply : Clocked → Reply
 ticked_reply c = Ticked c.cur c.due c.ended
+
+-- what a change that can move a priority came to, as its event's reply
+abbrev pub changed_reply : Changed → Reply
+changed_reply c = reply.Changed c.priority c.requeued c.marked

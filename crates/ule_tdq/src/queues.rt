@@ -3,7 +3,8 @@ ghost use Rattle.ule_prio.specs.Kind.{kind_at};
 ghost use Rattle.ule_prio.specs.declared.kind.Kind.TheVariants.{Batch};
 ghost use Rattle.ule_runq.specs.Runq.{times};
 ghost use Rattle.ule_model.specs.CpuValue.{with_inserted};
-ghost use Rattle.ule_tdq.specs.Queues.{once_for, times_queued, times_in, dial_with, dial_bucket, queues_with, bucket_with, queues_without, first_queued};
+ghost use Rattle.ule_model.specs.declared.insertion.Insertion.TheVariants.{Borrowing};
+ghost use Rattle.ule_tdq.specs.Queues.{once_for, times_queued, times_in, dial_with, dial_bucket, queues_with, bucket_with, queues_without, first_queued, kind_found};
 
 use std::alloc::Global;
 use std::marker::Model;
@@ -75,6 +76,34 @@ impl Queues {
             Kind::Idle => {
                 self.idle.remove(t);
             }
+        }
+    }
+
+    /// Takes a thread out of its queue, by the index rule, and then queues it as borrowing.
+    pub fn requeue(&mut self, kind: Kind, p: Priority, t: ThreadId)
+        requires there { times_in kind self.old t ≡ 1 }
+        requires once { times_queued self.old t ≡ 1 }
+        ensures filed { self.new ≡ queues_with Borrowing p t (queues_without kind t self.old) }
+        ensures times { (u : ℕ) → times_queued self.new u ≡ times_queued self.old u }
+    {
+        self.remove(kind, t);
+        self.insert(Insertion::Borrowing, p, t);
+    }
+
+    /// The kind of the queue that has a thread, if one has it.
+    pub fn kind_of_queued(&self, t: ThreadId) -> Option<Kind>
+        ensures value { result ≡ kind_found self.now t }
+        ensures found { IfSome result (λ k. times_in k self.now t ≡ 1) }
+    {
+        if self.real.find(t).is_some() {
+            return Some(Kind::Real);
+        }
+        if self.batch.lists().find(t).is_some() {
+            return Some(Kind::Batch);
+        }
+        match self.idle.find(t) {
+            Some(_) => Some(Kind::Idle),
+            None => None,
         }
     }
 

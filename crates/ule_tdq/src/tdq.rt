@@ -1,8 +1,11 @@
-ghost use Rattle.std.specs.Prelude.{◌≡◌, ℕ, ◌≤◌, ◌<◌, ◌^◌, None, Some, IfOk, IfSome, IsTrue};
+ghost use Rattle.std.specs.Prelude.{◌≡◌, ℕ, ◌≤◌, ◌<◌, ◌^◌, None, Some, IfOk, IfSome, IsSome, IsTrue};
 ghost use Rattle.ule_score.specs.Settings.{are_settings};
 ghost use Rattle.std.specs.Option.{option_map};
 ghost use Rattle.ule_score.specs.Bounds.{KeepsBounds};
-ghost use Rattle.ule_model.specs.CpuValue.{IsNoEarlier, chosen_next, current_in, takes_over_in, thread_in, value_added, value_clocked, value_laid, value_line, value_place, value_switched, value_taken, value_ticked, value_ticked_with, with_given_way, without_current, without_marks};
+ghost use Rattle.ule_score.specs.Changes.{forks};
+ghost use Rattle.ule_score.specs.Charges.{HasShortRun};
+ghost use Rattle.ule_model.specs.CpuChange.{kind_queued, value_changed, value_followed, value_forked, value_recorded, value_removed_from, value_requeued};
+ghost use Rattle.ule_model.specs.CpuValue.{IsNoEarlier, chosen_next, current_in, takes_over_in, thread_in, value_added, value_clocked, value_laid, value_line, value_place, value_switched, value_taken, value_ticked, value_ticked_with, with_given_way, with_thread_after, without_current, without_marks};
 ghost use Rattle.ule_model.specs.Places.{lock_of};
 ghost use Rattle.ule_model.specs.Switch.{started_reply};
 ghost use Rattle.ule_model.specs.CpuStart.{StartsAs};
@@ -11,7 +14,7 @@ ghost use Rattle.ule_model.specs.declared.insertion.Insertion.TheVariants.{Ordin
 ghost use Rattle.ule_prio.specs.Kind.{kind_at};
 ghost use Rattle.ule_tdq.specs.Cpu.{KeepsCpu};
 ghost use Rattle.ule_tdq.specs.Records.{leaving};
-ghost use Rattle.ule_tdq.specs.Replies.{reply_of, ticked_reply};
+ghost use Rattle.ule_tdq.specs.Replies.{changed_reply, reply_of, ticked_reply};
 
 use crate::balance::{balance_after_tick, first_balance, first_word, is_due, word_after_tick};
 use crate::lines::{line_of, queued};
@@ -23,8 +26,8 @@ use ule_io::Memory;
 use ule_model::Insertion;
 use ule_prio::{Cpu, Kind, LockId, Priority, ThreadId, kind_of, preempts};
 use ule_score::{
-    CpuLine, Place, Settings, ThreadRecord, Why, after_running, after_tick, before_running,
-    placed_on,
+    Change, Changed, CpuLine, Place, Settings, ThreadRecord, Why, after_change, after_fork,
+    after_running, after_tick, before_running, child_of, placed_on,
 };
 use ule_threads::Threads;
 use ule_types::ThreadLine;
@@ -266,6 +269,89 @@ impl Tdq {
         }
     }
 
+    /// A change that can move the priority of a thread here: a priority is lent to it or taken back,
+    /// its nice value is set, or it is charged with the run time of a child that exited, in 1024ths
+    /// of an hz tick and below 2^62. After `sched_thread_priority`.
+    ///
+    /// Where the thread is queued and its priority gets better, it is taken out of its queue first,
+    /// by the index rule, and then inserted as borrowing, and the preemption test is made; `remote`
+    /// says that the worker of another CPU asks. In every other case only the record changes.
+    pub fn change(&mut self, t: ThreadId, c: Change, remote: bool) -> Changed
+        requires present { IsSome (thread_in self.old t) }
+        requires run { HasShortRun c }
+        ensures value { self.new ≡ (value_changed t c remote self.old).0 }
+        ensures reply { changed_reply result ≡ (value_changed t c remote self.old).1 }
+        ensures kept { KeepsCpu self.new }
+        ensures no_earlier { (now : ℕ) → IsNoEarlier self.old now → IsNoEarlier self.new now }
+    {
+        let Some(r) = self.threads.get(t) else {
+            unreachable!()
+        };
+        let settings = self.settings;
+        let new = after_change(&settings, c, r);
+        let kind = self.queues.kind_of_queued(t);
+        self.keep(r, new);
+        self.follow(kind, new.priority < r.priority, remote, new)
+    }
+
+    /// Takes a queued thread out of its queue, by the index rule, and gives its record up. After
+    /// `sched_rem`.
+    pub fn rem(&mut self, t: ThreadId) -> ThreadRecord
+        requires { IsSome (kind_queued self.old t) }
+        ensures thread { Some result ≡ thread_in self.old t }
+        ensures value { self.new ≡ value_removed_from (kind_queued self.old t) t self.old }
+        ensures number { result.id ≡ t }
+        ensures bounds { KeepsBounds result }
+        ensures kept { KeepsCpu self.new }
+        ensures no_earlier { (now : ℕ) → IsNoEarlier self.old now → IsNoEarlier self.new now }
+    {
+        let Some(kind) = self.queues.kind_of_queued(t) else {
+            unreachable!()
+        };
+        let Some(r) = self.threads.get(t) else {
+            unreachable!()
+        };
+        self.queues.remove(kind, t);
+        self.threads.put(t, None);
+        let fewer = self.load - 1;
+        self.load = fewer;
+        r
+    }
+
+    /// The current thread forks a child at `now`, a time in hz ticks of 20000 or more that is no
+    /// earlier than any CPU-use update of a thread here. After `sched_fork`.
+    ///
+    /// The child's record becomes one of its parent's child, but for its number; the parent is
+    /// charged the run time of a tick. The answer is the parent, and `None` exactly where there is
+    /// no current thread; then nothing changes.
+    pub fn fork_from(&mut self, child: &mut ThreadRecord, now: u64) -> Option<ThreadId>
+        requires begun { 20000 ≤ now }
+        requires bounded { now < 2 ^ 36 }
+        requires in_time { IsNoEarlier self.old now }
+        requires bounds { KeepsBounds child.old }
+        ensures value { self.new ≡ (value_forked now child.old self.old).value }
+        ensures child { child.new ≡ (value_forked now child.old self.old).child }
+        ensures parent { result ≡ (value_forked now child.old self.old).parent }
+        ensures current { result ≡ self.old.current }
+        ensures number { child.new.id ≡ child.old.id }
+        ensures bounds { KeepsBounds child.new }
+        ensures kept { KeepsCpu self.new }
+        ensures no_earlier { IsNoEarlier self.new now }
+    {
+        let t = self.current?;
+        let born = self.born_of(t, now, *child);
+        self.charge_fork(now, t);
+        *child = born;
+        Some(t)
+    }
+
+    /// The number of the CPU.
+    pub fn cpu(&self) -> Cpu
+        ensures { result ≡ self.now.cpu }
+    {
+        self.cpu
+    }
+
     /// The mark that asks for a switch.
     pub fn is_marked(&self) -> bool
         ensures { result ≡ self.now.line.resched }
@@ -353,6 +439,58 @@ impl Tdq {
         self.queues.insert(Insertion::Ordinary, priority, t)
     }
 
+    /// Keeps another record of a thread here.
+    fn keep(&mut self, r: ThreadRecord, new: ThreadRecord)
+        requires present { thread_in self.old r.id ≡ Some r }
+        requires number { new.id ≡ r.id }
+        requires bounds { KeepsBounds new }
+        requires usage { new.usage ≡ r.usage }
+        ensures value { self.new ≡ value_recorded new self.old }
+        ensures kept { KeepsCpu self.new }
+        ensures no_earlier { (now : ℕ) → IsNoEarlier self.old now → IsNoEarlier self.new now }
+    {
+        self.threads.put(new.id, Some(new));
+    }
+
+    /// What follows from a record that was changed, by the queue that its thread is in and whether
+    /// its priority got better.
+    fn follow(&mut self, kind: Option<Kind>, better: bool, remote: bool, r: ThreadRecord) -> Changed
+        requires kind { kind ≡ kind_queued self.old r.id }
+        ensures value { self.new ≡ (value_followed kind better remote r self.old).0 }
+        ensures reply { changed_reply result ≡ (value_followed kind better remote r self.old).1 }
+        ensures kept { KeepsCpu self.new }
+        ensures no_earlier { (now : ℕ) → IsNoEarlier self.old now → IsNoEarlier self.new now }
+    {
+        let _ = &self.cpu; // so that what the CPU keeps is known
+        match kind {
+            Some(k) if better => self.requeue(k, r, remote),
+            _ => Changed {
+                priority: r.priority,
+                requeued: false,
+                marked: false,
+            },
+        }
+    }
+
+    /// Takes a thread out of its queue, and inserts it as borrowing, with a preemption test.
+    fn requeue(&mut self, kind: Kind, r: ThreadRecord, remote: bool) -> Changed
+        requires kind { kind_queued self.old r.id ≡ Some kind }
+        ensures value { self.new ≡ (value_requeued remote kind r self.old).0 }
+        ensures reply { changed_reply result ≡ (value_requeued remote kind r self.old).1 }
+        ensures kept { KeepsCpu self.new }
+        ensures no_earlier { (now : ℕ) → IsNoEarlier self.old now → IsNoEarlier self.new now }
+    {
+        let priority = r.priority;
+        let takes = self.takes_over(priority, remote);
+        self.queues.requeue(kind, priority, r.id);
+        self.resched = either(self.resched, takes);
+        Changed {
+            priority,
+            requeued: true,
+            marked: takes,
+        }
+    }
+
     /// The record of the current thread.
     fn current_record(&self) -> Option<ThreadRecord>
         ensures { result ≡ current_in self.now }
@@ -403,6 +541,39 @@ impl Tdq {
             due,
             ended,
         }
+    }
+
+    /// The record of a child that the current thread forks.
+    fn born_of(&self, t: ThreadId, now: u64, hatched: ThreadRecord) -> ThreadRecord
+        requires begun { 20000 ≤ now }
+        requires bounded { now < 2 ^ 36 }
+        requires in_time { IsNoEarlier self.now now }
+        requires current { self.now.current ≡ Some t }
+        ensures child { result ≡ (value_forked now hatched self.now).child }
+        ensures parent { (value_forked now hatched self.now).parent ≡ Some t }
+        ensures value { (value_forked now hatched self.now).value ≡ with_thread_after now t forks self.now }
+        ensures number { result.id ≡ hatched.id }
+        ensures bounds { KeepsBounds result }
+    {
+        let settings = self.settings;
+        let parent = self.threads.get(t).unwrap();
+        let _priority = hatched.priority; // so that the type of a record's field is known here
+        child_of(&settings, now, parent, self.cpu, self.load, hatched)
+    }
+
+    /// What a fork does to the current thread.
+    fn charge_fork(&mut self, now: u64, t: ThreadId)
+        requires begun { 20000 ≤ now }
+        requires bounded { now < 2 ^ 36 }
+        requires in_time { IsNoEarlier self.old now }
+        requires current { self.old.current ≡ Some t }
+        ensures value { self.new ≡ with_thread_after now t forks self.old }
+        ensures kept { KeepsCpu self.new }
+        ensures no_earlier { IsNoEarlier self.new now }
+    {
+        let settings = self.settings;
+        let after = after_fork(&settings, now, self.threads.get(t).unwrap());
+        self.threads.put(t, Some(after));
     }
 
     /// Lets the current thread go.

@@ -7,7 +7,7 @@ use std::test::Fail;
 use ule_history::{CpuUse, History};
 use ule_io::Memory;
 use ule_prio::{Class, Cpu, Kind, LockId, Nice, Priority, ThreadId};
-use ule_score::{Place, Settings, ThreadRecord, Why};
+use ule_score::{Change, Changed, Place, Settings, ThreadRecord, Why};
 use ule_tdq::{Arrival, Clocked, SwitchOut, Tdq};
 use ule_types::ThreadLine;
 
@@ -138,6 +138,47 @@ fn ran(out: Option<ThreadId>, into: u8) -> SwitchOut {
     }
 }
 
+/// A timeshare thread of nice -19 at the start.
+fn pressing(id: ThreadId) -> ThreadRecord
+    ensures bounds { KeepsBounds result }
+    ensures time { result.usage.ltick ≡ 20000 }
+{
+    ThreadRecord {
+        class: Class::Ts,
+        nice: Nice(-19),
+        base: Priority(153),
+        lent: None,
+        priority: Priority(153),
+        ..fresh(id)
+    }
+}
+
+/// An interrupt thread at the start.
+fn interrupt(id: ThreadId) -> ThreadRecord
+    ensures bounds { KeepsBounds result }
+    ensures time { result.usage.ltick ≡ 20000 }
+{
+    ThreadRecord {
+        class: Class::Ithd,
+        base: Priority(20),
+        lent: None,
+        priority: Priority(20),
+        ..fresh(id)
+    }
+}
+
+/// What a nice value that is set comes to for a thread that the CPU has.
+fn reniced(d: &mut Tdq, t: u8, nice: Nice) -> Option<Changed>
+    requires in_time { IsNoEarlier d.old 20000 }
+    ensures { IsNoEarlier d.new 20000 }
+{
+    let t = ThreadId(t);
+    if d.thread(t).is_none() {
+        return None;
+    }
+    Some(d.change(t, Change::Renice(nice), false))
+}
+
 /// Whether a thread waits at this position of its bucket, under the lock of CPU 3.
 fn waits(d: &Tdq, t: u8, pos: u8) -> bool {
     let Some(line) = d.thread_line(ThreadId(t)) else {
@@ -149,6 +190,16 @@ fn waits(d: &Tdq, t: u8, pos: u8) -> bool {
         bucket: 17,
     };
     line.place == place && line.pos == pos && line.word == Some(LockId(3))
+}
+
+/// Whether a thread waits in bucket 1 of the calendar of CPU 3.
+fn waits_second(d: &Tdq, t: u8) -> bool {
+    let place = Place::Queued {
+        cpu: Cpu(3),
+        kind: Kind::Batch,
+        bucket: 1,
+    };
+    d.place_of(ThreadId(t)) == Some(place)
 }
 
 /// Whether a thread runs on CPU 3.
@@ -258,5 +309,91 @@ fn a_better_thread_asks_for_a_switch(rt: HostRuntime) -> Result<(), Fail> {
     };
     assert_eq!(rt; arrival(&mut d, urgent(ThreadId(9))), Some(better));
     assert!(rt; d.is_marked());
+    Ok(())
+}
+
+#[test]
+fn a_better_nice_value_requeues_behind_the_index_rule(rt: HostRuntime) -> Result<(), Fail> {
+    let mut d = started(rt.alloc(), Cpu(3))?;
+    assert!(rt; arrival(&mut d, pressing(ThreadId(0))).is_some());
+    assert!(rt; arrival(&mut d, interrupt(ThreadId(1))).is_some());
+    assert!(rt; comes_to(&mut d, Why::Yield, ran(None, 1)));
+    ticked(&mut d, 1);
+    assert_eq!(rt; (d.line().idx, d.line().ridx), (1, 0));
+    let better = Changed {
+        priority: Priority(152),
+        requeued: true,
+        marked: false,
+    };
+    assert_eq!(rt; reniced(&mut d, 0, Nice(-20)), Some(better));
+    assert!(rt; waits_second(&d, 0));
+    assert_eq!(rt; (d.line().idx, d.line().ridx), (1, 1));
+    let worse = Changed {
+        priority: Priority(172),
+        requeued: false,
+        marked: false,
+    };
+    assert_eq!(rt; reniced(&mut d, 0, Nice(0)), Some(worse));
+    assert!(rt; waits_second(&d, 0));
+    Ok(())
+}
+
+/// What a fork of this thread at the start comes to: its parent, if there is one, and its record.
+fn forks(d: &mut Tdq, t: u8) -> (Option<ThreadId>, ThreadRecord)
+    requires { IsNoEarlier d.old 20000 }
+    ensures { IsNoEarlier d.new 20000 }
+{
+    let mut child = fresh(ThreadId(t));
+    let parent = d.fork_from(&mut child, 20_000);
+    (parent, child)
+}
+
+/// The run time of a thread, in 1024ths of an hz tick.
+fn run_of(d: &Tdq, t: u8) -> Option<u64> {
+    match d.thread(ThreadId(t)) {
+        Some(r) => Some(r.hist.run),
+        None => None,
+    }
+}
+
+#[test]
+fn a_fork_needs_a_current_thread(rt: HostRuntime) -> Result<(), Fail> {
+    let mut d = started(rt.alloc(), Cpu(3))?;
+    assert!(rt; laid(&mut d, 7));
+    assert_eq!(rt; forks(&mut d, 9), (None, fresh(ThreadId(9))));
+    assert!(rt; waits(&d, 7, 0));
+    assert_eq!(rt; run_of(&d, 7), Some(0));
+    Ok(())
+}
+
+#[test]
+fn a_child_begins_with_little_of_its_slice_left(rt: HostRuntime) -> Result<(), Fail> {
+    let mut d = started(rt.alloc(), Cpu(3))?;
+    assert!(rt; laid(&mut d, 7));
+    assert!(rt; comes_to(&mut d, Why::Yield, ran(None, 7)));
+    let first = ThreadRecord {
+        parent: Some(ThreadId(7)),
+        slice_count: 10,
+        last: Cpu(3),
+        ..fresh(ThreadId(9))
+    };
+    assert_eq!(rt; forks(&mut d, 9), (Some(ThreadId(7)), first));
+    assert_eq!(rt; run_of(&d, 7), Some(8062));
+    assert!(rt; d.thread(ThreadId(9)).is_none());
+    assert!(rt; laid(&mut d, 5));
+    assert!(rt; laid(&mut d, 6));
+    let second = ThreadRecord {
+        parent: Some(ThreadId(7)),
+        hist: History {
+            run: 8062,
+            slept: 0,
+        },
+        slice_count: 4,
+        last: Cpu(3),
+        ..fresh(ThreadId(8))
+    };
+    assert_eq!(rt; forks(&mut d, 8), (Some(ThreadId(7)), second));
+    assert_eq!(rt; run_of(&d, 7), Some(16_124));
+    assert!(rt; runs(&d, 7));
     Ok(())
 }

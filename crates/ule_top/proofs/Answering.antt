@@ -7,7 +7,7 @@ use Rattle.ule_io.specs.Sink.{SinkState}
 use Rattle.ule_io.specs.Source.{ReadsWhole, SourceState, with_front}
 use Rattle.ule_members.proofs.Membership.{all_has, has_thread_of}
 use Rattle.ule_model.specs.Ends.{outcome_of}
-use Rattle.ule_model.specs.Finals.{thread_line, thread_lines}
+use Rattle.ule_model.specs.Finals.{final_line, thread_lines}
 use Rattle.ule_model.specs.History.{IsHistoryOf}
 use Rattle.ule_model.specs.Places.{hand_of, lock_of}
 use Rattle.ule_model.specs.Rounds.{play_of}
@@ -39,17 +39,17 @@ lock_there Gone free = (24, refl)
 lock_there (Hand w) free = cc
 
 -- the line of a thread that is in no hand names the lock of its place
-line_names : (members : List Member) (m : Member) → hand_of m.place ≡ None → NamesItsLock (thread_line members m)
+line_names : (members : List Member) (m : Member) → hand_of m.place ≡ None → NamesItsLock (final_line members m)
 line_names members m free = let there = lock_there m.place free in (there.0, there.1, there.1)
 
 -- where no thread is in a hand, the lines of some numbers name the locks of their places
 lines_name : (members : List Member) (ts : List ℕ) → AllByRecursion (λ m. hand_of m.place ≡ None) members →
-    AllByRecursion NamesItsLock (filter_map (λ t. option_map (thread_line members) (thread_of t members)) ts)
+    AllByRecursion NamesItsLock (filter_map (λ t. option_map (final_line members) (thread_of t members)) ts)
 lines_name members [] free = tt
 lines_name members (t ∷ ts) free = split (thread_of t members) refl (lines_name members ts free)
   where
-    split : (o : Option Member) → thread_of t members ≡ o → AllByRecursion NamesItsLock (filter_map (λ u. option_map (thread_line members) (thread_of u members)) ts) →
-        AllByRecursion NamesItsLock (cons_option (option_map (thread_line members) o) (filter_map (λ u. option_map (thread_line members) (thread_of u members)) ts))
+    split : (o : Option Member) → thread_of t members ≡ o → AllByRecursion NamesItsLock (filter_map (λ u. option_map (final_line members) (thread_of u members)) ts) →
+        AllByRecursion NamesItsLock (cons_option (option_map (final_line members) o) (filter_map (λ u. option_map (final_line members) (thread_of u members)) ts))
     split None found rest = rest
     split (Some m) found rest =
         (line_names members m (all_has (λ n. hand_of n.place ≡ None) m members free (has_thread_of t m members found).0), rest)

@@ -1,11 +1,11 @@
 -- What is left of a trace's text while its lines are spelled one after another.
-use Rattle.std.proofs.Common.{◌≡◌, ℕ, ◌+◌, ◌<◌, ◌≤◌, List, ◌∷◌, ◌++◌, length, get_or, drop, map, Some, refl, ap, ◌∙◌, arith}
+use Rattle.std.proofs.Common.{◌≡◌, ℕ, ◌+◌, ◌<◌, ◌≤◌, List, ◌++◌, length, get_or, drop, map, Some, refl, ap, arith}
 use Rattle.std.specs.Prelude.{slice_get}
 use Rattle.std.proofs.lemmas.List.{drop_more, drop_all}
-use Rattle.std.proofs.lemmas.Option.{slice_get_within, slice_get-get_or}
+use Rattle.std.proofs.lemmas.Option.{slice_get_within, get_or_from_slice_get}
 use Rattle.ule_score.specs.declared.record.CpuLine.{CpuLine}
 use Rattle.ule_trace.specs.Line.{line_text, lines_text}
-use Rattle.ule_trace.specs.FinalText.{thread_words, cpu_words}
+use Rattle.ule_trace.specs.FinalText.{final_words, cpu_words}
 use Rattle.ule_trace.specs.Trace.{entry_words, entry_lines, cpu_lines, closing_lines}
 use Rattle.ule_types.specs.declared.event.Entry.{Entry}
 use Rattle.ule_types.specs.declared.outcome.ThreadLine.{ThreadLine}
@@ -18,32 +18,24 @@ after_cpus o k = lines_text (cpu_lines k (drop k o.cpus) ++ closing_lines o.now 
 -- what follows the first k thread lines
 abbrev pub after_threads : OutcomeValue → ℕ → List ℕ
 after_threads o k =
-    lines_text (map thread_words (drop k o.threads) ++ (cpu_lines 0 o.cpus ++ closing_lines o.now (length o.entries)))
+    lines_text (map final_words (drop k o.threads) ++ (cpu_lines 0 o.cpus ++ closing_lines o.now (length o.entries)))
 
 -- what follows the first k entries
 abbrev pub after_entries : OutcomeValue → ℕ → List ℕ
 after_entries o k =
     lines_text (entry_lines (k + 1) (drop k o.entries) ++
-    (map thread_words o.threads ++ (cpu_lines 0 o.cpus ++ closing_lines o.now (length o.entries))))
-
--- behind the first k items of a list stands the item at place k
-drop_got : {X : Type 0} (xs : List X) (k : ℕ) (x : X) → slice_get xs k ≡ Some x → drop k xs ≡ x ∷ drop (k + 1) xs
-drop_got xs k x e =
-    let within = slice_get_within xs k x e in
-    let read = slice_get-get_or xs k x within in
-    let same : get_or xs k x ≡ x = cc in
-    drop_more xs k x within ∙ ap (λ y. y ∷ drop (k + 1) xs) same
+    (map final_words o.threads ++ (cpu_lines 0 o.cpus ++ closing_lines o.now (length o.entries))))
 
 -- the line of the next entry comes first of what is left
 pub entry_next : (o : OutcomeValue) (k : ℕ) (e : Entry) → slice_get o.entries k ≡ Some e → after_entries o k ≡ line_text (entry_words (k + 1) e) ++ after_entries o (k + 1)
-entry_next o k e got = rw (drop_got o.entries k e got) refl
+entry_next o k e got = rw (drop_more o.entries k e (slice_get_within o.entries k e got), get_or_from_slice_get o.entries k e e got) refl
 
 -- behind the last entry come the thread lines
 pub entries_end : (o : OutcomeValue) (k : ℕ) → length o.entries ≤ k → after_entries o k ≡ after_threads o 0
 entries_end o k past = rw (drop_all k o.entries past) refl
 
 -- the next thread line comes first of what is left
-pub thread_next : (o : OutcomeValue) (k : ℕ) (l : ThreadLine) → k < length o.threads → l ≡ get_or o.threads k l → after_threads o k ≡ line_text (thread_words l) ++ after_threads o (k + 1)
+pub thread_next : (o : OutcomeValue) (k : ℕ) (l : ThreadLine) → k < length o.threads → l ≡ get_or o.threads k l → after_threads o k ≡ line_text (final_words l) ++ after_threads o (k + 1)
 thread_next o k l within read = rw (drop_more o.threads k l within, ← read) refl
 
 -- behind the last thread line come the CPU lines

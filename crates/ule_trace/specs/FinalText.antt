@@ -22,8 +22,8 @@ lock_word None = codes "b"
 lock_word (Some l) = decimal l
 
 -- a thread's line
-abbrev pub thread_words : ThreadLine → List (List ℕ)
-thread_words l =
+abbrev pub final_words : ThreadLine → List (List ℕ)
+final_words l =
     codes "t" ∷ decimal l.id ∷ final_place_word l.place l.pos ∷ class_word l.class ∷ signed_decimal l.nice ∷
     decimal l.base ∷ optional_word l.lent ∷ decimal l.priority ∷ decimal l.run ∷ decimal l.slept ∷
     decimal l.ticks ∷ decimal l.ltick ∷ decimal l.ftick ∷ decimal l.slice_count ∷ decimal l.slept_at ∷

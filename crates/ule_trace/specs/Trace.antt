@@ -5,7 +5,7 @@ use Rattle.ule_score.specs.declared.record.CpuLine.{CpuLine}
 use Rattle.ule_trace.specs.Line.{lines_text, worker_word}
 use Rattle.ule_trace.specs.EventText.{event_words}
 use Rattle.ule_trace.specs.ReplyText.{reply_words}
-use Rattle.ule_trace.specs.FinalText.{thread_words, cpu_words}
+use Rattle.ule_trace.specs.FinalText.{final_words, cpu_words}
 use Rattle.ule_types.specs.declared.event.Entry.{Entry}
 use Rattle.ule_types.specs.Outcome.{OutcomeValue}
 
@@ -32,7 +32,7 @@ closing_lines now count = (codes "now" ∷ decimal now ∷ []) ∷ (codes "done"
 abbrev pub trace_lines : OutcomeValue → List (List (List ℕ))
 trace_lines o =
     (codes "ule-trace" ∷ codes "1" ∷ []) ∷ entry_lines 1 o.entries ++
-    (map thread_words o.threads ++ (cpu_lines 0 o.cpus ++ closing_lines o.now (length o.entries)))
+    (map final_words o.threads ++ (cpu_lines 0 o.cpus ++ closing_lines o.now (length o.entries)))
 
 -- a trace
 abbrev pub trace_text : OutcomeValue → List ℕ

@@ -1,7 +1,7 @@
 ghost use Rattle.std.specs.Prelude.{◌≡◌, ℕ, ◌+◌, ◌≤◌, List, ◌++◌, length, drop};
 ghost use Rattle.ule_trace.specs.Line.{spaced, line_text};
 ghost use Rattle.ule_trace.specs.PlaceText.{final_place_word};
-ghost use Rattle.ule_trace.specs.FinalText.{class_word, thread_words, cpu_words};
+ghost use Rattle.ule_trace.specs.FinalText.{class_word, final_words, cpu_words};
 
 use crate::held::{CAPACITY, Held, LINE};
 use crate::place::spell_place;
@@ -40,7 +40,7 @@ fn spell_final_place(held: &mut Held, place: Place, pos: u8)
 // Appends the words of a thread's line behind its place, each behind a space.
 fn spell_record(held: &mut Held, l: &ThreadLine)
     requires { length held.old + 425 ≤ CAPACITY }
-    ensures text { held.new ≡ held.old ++ spaced (drop 3 (thread_words l.now)) }
+    ensures text { held.new ≡ held.old ++ spaced (drop 3 (final_words l.now)) }
     ensures growth { length held.new ≤ length held.old + 425 }
 {
     held.words(&[
@@ -67,7 +67,7 @@ fn spell_record(held: &mut Held, l: &ThreadLine)
 /// Appends the line of a thread.
 pub fn spell_thread(held: &mut Held, l: &ThreadLine)
     requires { length held.old + LINE ≤ CAPACITY }
-    ensures { held.new ≡ held.old ++ line_text (thread_words l.now) }
+    ensures { held.new ≡ held.old ++ line_text (final_words l.now) }
 {
     held.byte(b't');
     held.words(&[thread(l.id)]);

@@ -1,5 +1,5 @@
 -- Commands: what each names, and the greatest number of items that it performs.
-use Rattle.std.specs.Prelude.{ℕ, ◌+◌, ◌*◌, Bool, true, nat_lt, ◌&&◌, ◌==◌, List, [], ◌∷◌, if◌then◌else◌}
+use Rattle.std.specs.Prelude.{ℕ, ◌+◌, ◌*◌, ℤ, pos, negsuc, Bool, true, nat_le, nat_lt, ◌&&◌, ◌==◌, List, [], ◌∷◌, if◌then◌else◌}
 use Rattle.std.specs.List.{list_any}
 use Rattle.ule_prio.specs.Class.{is_within}
 use Rattle.ule_types.specs.declared.command.Command.{Command}
@@ -30,7 +30,12 @@ greatest_of Idle worker cpus = 2 * cpus
 greatest_of Balance worker cpus = 2 * cpus
 greatest_of (Look c) worker cpus = 1
 
--- whether a command's thread is declared, its CPU exists and its amount is in range
+-- whether a nice value is one of -20..20
+abbrev pub is_nice : ℤ → Bool
+is_nice (pos n) = nat_le n 20
+is_nice (negsuc n) = nat_lt n 20
+
+-- whether a command's thread is declared, its CPU exists, and its amount, priority or nice value is in range
 abbrev pub is_command : List ℕ → ℕ → Command → Bool
 is_command ids cpus Tick = true
 is_command ids cpus (Time k) = is_within 1 1000000 k
@@ -38,9 +43,9 @@ is_command ids cpus Yield = true
 is_command ids cpus Resched = true
 is_command ids cpus (Sleep channel) = is_within 0 65535 channel
 is_command ids cpus (Wake t) = is_among ids t
-is_command ids cpus (Lend t p) = is_among ids t
+is_command ids cpus (Lend t p) = is_among ids t && is_within 0 255 p
 is_command ids cpus (Unlend t) = is_among ids t
-is_command ids cpus (Renice t n) = is_among ids t
+is_command ids cpus (Renice t n) = is_among ids t && is_nice n
 is_command ids cpus (Fork t) = is_among ids t
 is_command ids cpus Exit = true
 is_command ids cpus Idle = true

@@ -1,11 +1,9 @@
 -- The form of a setup that a scenario can spell so far.
-use Rattle.std.specs.Prelude.{◌≡◌, ℕ, Bool, true, false, nat_lt, nat_le, ◌&&◌, ◌||◌, List, [], IsTrue, count_by, slice_index_or}
+use Rattle.std.specs.Prelude.{◌≡◌, ℕ, ◌≤◌, Bool, true, false, nat_lt, nat_le, ◌||◌, List, [], IsTrue, count_by, slice_index_or}
 use Rattle.std.specs.List.{list_all}
 use Rattle.ule_score.specs.declared.record.Settings.{Settings}
 use Rattle.ule_types.specs.declared.command.Command.{Command}
 use Rattle.ule_types.specs.declared.command.Command.TheVariants.{Tick, Time, Yield, Resched, Sleep, Wake, Lend, Unlend, Renice, Fork, Exit, Idle, Balance, Look}
-use Rattle.ule_types.specs.declared.setup.Form.{Form}
-use Rattle.ule_types.specs.declared.setup.Form.TheVariants as form
 use Rattle.ule_types.specs.declared.setup.ThreadSpec.{ThreadSpec}
 use Rattle.ule_types.specs.declared.setup.Setup.{Setup}
 
@@ -13,34 +11,26 @@ use Rattle.ule_types.specs.declared.setup.Setup.{Setup}
 abbrev pub default_settings : Settings
 default_settings = record { interact = 30; slice = 12; preempt = 80; steal = 2 }
 
--- whether a thread is of the timeshare class
-abbrev pub is_timeshare : Form → Bool
-is_timeshare (form.Ts n) = true
-is_timeshare (form.Ithd p) = false
-is_timeshare (form.Rt p) = false
-is_timeshare (form.Fifo p) = false
-is_timeshare (form.Idle p) = false
+-- whether a thread is bound where this number of CPUs is more than one
+abbrev pub is_bound_for : ℕ → ThreadSpec → Bool
+is_bound_for cpus spec = nat_lt cpus 2 || spec.bound
 
--- whether a thread is a timeshare thread, which is bound where there are several CPUs
-abbrev pub is_plain : ℕ → ThreadSpec → Bool
-is_plain cpus spec = is_timeshare spec.form && (nat_lt cpus 2 || spec.bound)
-
--- whether a command has its items so far
-abbrev pub is_built : Command → Bool
-is_built Tick = true
-is_built (Time k) = true
-is_built Yield = true
-is_built Resched = true
-is_built (Sleep channel) = true
-is_built (Wake t) = true
-is_built (Lend t p) = false
-is_built (Unlend t) = false
-is_built (Renice t n) = false
-is_built (Fork t) = false
-is_built Exit = false
-is_built Idle = false
-is_built Balance = false
-is_built (Look c) = false
+-- whether a command can stand in a script so far on this number of CPUs: whether all its events are built
+abbrev pub is_built_for : ℕ → Command → Bool
+is_built_for cpus Tick = true
+is_built_for cpus (Time k) = true
+is_built_for cpus Yield = true
+is_built_for cpus Resched = true
+is_built_for cpus (Sleep channel) = true
+is_built_for cpus (Wake t) = true
+is_built_for cpus (Lend t p) = true
+is_built_for cpus (Unlend t) = true
+is_built_for cpus (Renice t n) = true
+is_built_for cpus (Fork t) = nat_lt cpus 2
+is_built_for cpus Exit = nat_lt cpus 2
+is_built_for cpus Idle = false
+is_built_for cpus Balance = false
+is_built_for cpus (Look c) = false
 
 -- whether a command is a tick
 abbrev pub is_tick : Command → Bool
@@ -64,11 +54,10 @@ is_tick (Look c) = false
 abbrev pub has_few_ticks : ℕ → List (List Command) → Bool
 has_few_ticks cpus scripts = nat_lt cpus 2 || nat_le (count_by is_tick (slice_index_or scripts 0 [])) 63
 
--- the default settings, plain threads of which none is unborn, and scripts of the commands built so far
+-- threads that are bound where there are several CPUs, unborn ones where there is one, and scripts of the commands built so far
 pub record IsOfForm (s : Setup) : Type 0 where
-  pub settings : s.settings ≡ default_settings
-  pub threads : IsTrue (list_all (is_plain s.cpus) s.threads)
-  pub unborn : s.unborn ≡ []
-  pub scripts : IsTrue (list_all (λ script. list_all is_built script) s.scripts)
+  pub threads : IsTrue (list_all (is_bound_for s.cpus) s.threads)
+  pub unborn : 2 ≤ s.cpus → s.unborn ≡ []
+  pub scripts : IsTrue (list_all (λ script. list_all (is_built_for s.cpus) script) s.scripts)
   pub ticks : IsTrue (has_few_ticks s.cpus s.scripts)
   pub turns : s.turns ≡ []

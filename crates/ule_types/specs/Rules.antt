@@ -1,10 +1,11 @@
 -- The rules that every setup keeps.
-use Rattle.std.specs.Prelude.{ℕ, ◌+◌, ℤ, pos, negsuc, Bool, true, not, nat_le, nat_lt, ◌&&◌, ◌==◌, List, [], ◌∷◌, ◌++◌, length, map, drop, sum}
+use Rattle.std.specs.Prelude.{ℕ, ◌+◌, ◌^◌, Bool, true, not, nat_le, nat_lt, ◌&&◌, ◌==◌, List, [], ◌∷◌, ◌++◌, length, map, drop, sum}
 use Rattle.std.specs.List.{list_all, flat_map}
 use Rattle.ule_prio.specs.Class.{is_within, is_base_of}
 use Rattle.ule_prio.specs.declared.class.Class.TheVariants as class
 pub use Rattle.ule_score.specs.Settings.{are_settings}
 use Rattle.ule_score.specs.declared.record.Settings.{Settings}
+pub use Rattle.ule_types.specs.Commands.{is_nice}
 use Rattle.ule_types.specs.Commands.{is_among, greatest_of, is_command, forked_by}
 use Rattle.ule_types.specs.declared.command.Command.{Command}
 use Rattle.ule_types.specs.declared.setup.Form.{Form}
@@ -17,18 +18,13 @@ abbrev pub is_distinct : List ℕ → Bool
 is_distinct [] = true
 is_distinct (x ∷ xs) = not (is_among xs x) && is_distinct xs
 
--- whether a nice value is one of -20..20
-abbrev pub is_nice : ℤ → Bool
-is_nice (pos n) = nat_le n 20
-is_nice (negsuc n) = nat_lt n 20
-
 -- whether a nice value is in range, or a base priority one of its class
 abbrev pub is_form : Form → Bool
 is_form (Ts n) = is_nice n
 is_form (Ithd p) = is_base_of class.Ithd p
 is_form (Rt p) = is_base_of class.Rt p
 is_form (Fifo p) = is_base_of class.Fifo p
-is_form (Idle p) = is_base_of class.Idle p
+is_form (Idle p) = is_base_of class.Idle p && nat_lt p 256
 
 -- whether a thread may be declared so on this number of CPUs
 abbrev pub is_spec : ℕ → ThreadSpec → Bool
@@ -63,8 +59,8 @@ abbrev pub are_turns : ℕ → List ℕ → Bool
 are_turns cpus turns = list_all (λ w. nat_lt w cpus) turns && nat_le (length turns) 4096
 
 -- whether a setup keeps every rule; no group of CPUs can be given yet
-abbrev pub keeps_rules : Settings → ℕ → List GroupLine → List ThreadSpec → List ℕ → List (List Command) → List ℕ → Bool
-keeps_rules settings cpus groups threads unborn scripts turns =
-    are_settings settings && is_within 1 16 cpus && (length groups == 0) &&
+abbrev pub keeps_rules : Settings → ℕ → ℕ → List GroupLine → List ThreadSpec → List ℕ → List (List Command) → List ℕ → Bool
+keeps_rules settings jitter cpus groups threads unborn scripts turns =
+    are_settings settings && nat_lt jitter (2 ^ 32) && is_within 1 16 cpus && (length groups == 0) &&
     list_all (is_spec cpus) threads && are_numbers (declared_ids threads unborn) &&
     are_scripts cpus (declared_ids threads unborn) unborn scripts && are_turns cpus turns

@@ -41,7 +41,7 @@ pub enum Event {
     Fork(Cpu, ThreadId),
     /// The thread in hand is unborn again, since there was none to fork it.
     Return(ThreadId),
-    /// The current thread leaves this CPU for good, after `sched_exit_thread`.
+    /// The current thread leaves this CPU for good, after `sched_throw`.
     Exit(Cpu),
     /// The thread in hand is gone.
     Bury(ThreadId),

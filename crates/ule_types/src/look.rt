@@ -1,5 +1,6 @@
 ghost use Rattle.std.specs.Prelude.{◌≡◌, []};
-ghost use Rattle.ule_types.specs.Looks.{looks_kept};
+
+use std::marker::Model;
 
 /// What a look at a CPU sees, after the fields of `struct tdq` that `cpu_search` reads.
 #[derive(Clone, Copy, Debug, PartialEq, Eq)]
@@ -13,18 +14,30 @@ pub struct Summary {
     pub lowpri: u8,
 }
 
-/// What the looks of one command saw, in order: at most one for each CPU. Contracts see it by
-/// `looks_kept` as a list.
-#[derive(Clone, Copy, Debug, PartialEq, Eq)]
+/// What the looks of one command saw, in order: at most one for each CPU.
+#[derive(Debug, Drop)]
 pub struct Looks {
     n: u8,
     seen: [Summary; 16],
 }
 
+impl Model for Looks {
+    ghost use Rattle.std.specs.Prelude.{◌≤◌, List};
+    ghost use Rattle.ule_types.specs.declared.look.Summary.{Summary};
+
+    ghost Value = { List Summary };
+
+    ghost use Rattle.ule_types.specs.Looks.{looks_kept};
+
+    ghost view = { looks_kept };
+
+    ghost invariant = { λ l. l.n ≤ 16 };
+}
+
 impl Looks {
     /// What no look saw.
     pub fn none() -> Looks
-        ensures { looks_kept result ≡ [] }
+        ensures { result ≡ [] }
     {
         let unseen = Summary {
             load: 0,
@@ -35,5 +48,12 @@ impl Looks {
             n: 0,
             seen: [unseen; 16],
         }
+    }
+
+    /// Forgets what the looks saw.
+    pub fn clear(&mut self)
+        ensures { self.new ≡ [] }
+    {
+        self.n = 0;
     }
 }

@@ -64,5 +64,5 @@ pub struct Setup {
     pub unborn: Unborn,
     pub scripts: Scripts,
     pub turns: Turns,
-    ghost rules: { IsTrue (keeps_rules settings cpus groups threads unborn scripts turns) },
+    ghost rules: { IsTrue (keeps_rules settings jitter cpus groups threads unborn scripts turns) },
 }

@@ -6,7 +6,8 @@ use Rattle.ule_micro.proofs.going.next_item.Given as goal
 -- what is left of the way to the next item is the same as before, and it may be gone
 abbrev pub invariant-loop-order : goal.invariant-loop-order
 invariant-loop-order g l = record {
-  same : next_command (g.P.Parts.means l.parts) l.own l.begun (drop l.begun ((g.P.Parts.means l.parts).orders l.worker)) ≡ next_command (g.P.Parts.means l.parts) l.fn.own l.fn.begun (drop l.fn.begun ((g.P.Parts.means l.parts).orders l.worker));
+  same : next_command (g.P.Parts.means l.parts) l.own l.begun (drop l.begun ((g.P.Parts.means l.parts).orders l.worker))
+      ≡ next_command (g.P.Parts.means l.parts) l.fn.own l.fn.begun (drop l.fn.begun ((g.P.Parts.means l.parts).orders l.worker));
   low : l.begun ≤ length ((g.P.Parts.means l.parts).orders l.worker);
   can : CanBegin (g.P.Parts.means l.parts) l.own (drop l.begun ((g.P.Parts.means l.parts).orders l.worker));
 }

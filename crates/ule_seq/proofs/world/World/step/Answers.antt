@@ -4,7 +4,7 @@ use Rattle.ule_model.specs.WorldValue.{WorldValue, value_step}
 use Rattle.ule_types.specs.declared.event.Reply.{Reply}
 use Rattle.ule_types.specs.declared.event.Reply.TheVariants.{Nothing}
 use Rattle.ule_laws.proofs.WorldSteps.{none_is_step, value_step_shown, value_step_steps}
-use Rattle.ule_seq.specs.Worlds.{value_of}
+use Rattle.ule_seq.specs.Worlds.{world_value}
 use Rattle.ule_seq.proofs.WorldLaws.{reads_can, written, written_is_step}
 use Rattle.ule_seq.proofs.world.World.step.Goals as goal
 
@@ -24,7 +24,8 @@ step_at-requires-clause-step c =
     })
 
 -- what the fields are now is the step
-is_step : (c : goal.After-self-2-1) → (value_of (written c.self.inside c.in-Some.lock c.step_at.new.guarded c.from.result c.step_at.new.hand), c.step_at.result) ≡ value_step c.args.self.now c.args.worker c.args.e.now c.args.now
+is_step : (c : goal.After-self-2-1) →
+    (world_value (written c.self.inside c.in-Some.lock c.step_at.new.guarded c.from.result c.step_at.new.hand), c.step_at.result) ≡ value_step c.args.self.now c.args.worker c.args.e.now c.args.now
 is_step c =
     written_is_step c.self.inside c.args.self.now c.args.worker c.args.e.now c.args.now c.in-Some.lock c.index_mut-guarded.result.now c.from.result c.index_mut-hand.result.now c.step_at.new.guarded c.step_at.new.hand c.step_at.result (record {
       view = c.self.view_is;
@@ -40,7 +41,7 @@ invariant_of-self c = record {
   settings = c.self.invariant.settings;
   workers = c.self.invariant.workers;
   shown = value_step_shown c.args.self.now c.args.worker c.args.e.now c.args.now
-      (value_of (written c.self.inside c.in-Some.lock c.step_at.new.guarded c.from.result c.step_at.new.hand), c.step_at.result) (is_step c) c.requires;
+      (world_value (written c.self.inside c.in-Some.lock c.step_at.new.guarded c.from.result c.step_at.new.hand), c.step_at.result) (is_step c) c.requires;
 }
 
 pub returns-clause-value : goal.returns-clause-value
@@ -52,9 +53,9 @@ returns-clause-reply c = ap (λ (x : WorldValue × Reply). x.1) (is_step c)
 pub returns-clause-steps : goal.returns-clause-steps
 returns-clause-steps c =
     value_step_steps c.args.self.now c.args.worker c.args.e.now c.args.now
-    (value_of (written c.self.inside c.in-Some.lock c.step_at.new.guarded c.from.result c.step_at.new.hand), c.step_at.result) (is_step c)
+    (world_value (written c.self.inside c.in-Some.lock c.step_at.new.guarded c.from.result c.step_at.new.hand), c.step_at.result) (is_step c)
 
 pub returns-clause-shown : goal.returns-clause-shown
 returns-clause-shown c =
     value_step_shown c.args.self.now c.args.worker c.args.e.now c.args.now
-    (value_of (written c.self.inside c.in-Some.lock c.step_at.new.guarded c.from.result c.step_at.new.hand), c.step_at.result) (is_step c) c.requires
+    (world_value (written c.self.inside c.in-Some.lock c.step_at.new.guarded c.from.result c.step_at.new.hand), c.step_at.result) (is_step c) c.requires
