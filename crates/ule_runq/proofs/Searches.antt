@@ -1,5 +1,5 @@
 -- The first thread of a queue that passes a test.
-use Rattle.std.proofs.Common.{◌≡◌, ◌==◌, ℕ, ◌+◌, ◌%◌, ◌<◌, ◌≤◌, zero, suc, Bool, true, false, cond, Some, None, List, [], ◌∷◌, ◌++◌, length, map, take, drop, get_or, refl, sym, ◌∙◌, ap, subst, arith, sum_by}
+use Rattle.std.proofs.Common.{◌≡◌, ◌==◌, ℕ, ◌+◌, ◌%◌, ◌<◌, ◌≤◌, zero, suc, Bool, true, false, cond, Some, None, List, [], ◌∷◌, ◌++◌, length, map, take, drop, get_or, refl, sym, ◌∙◌, ap, arith, sum_by}
 use Rattle.std.proofs.lemmas.Bool.{eqb-true}
 use Rattle.std.proofs.lemmas.List.{get_or_read, map-append}
 use Rattle.std.proofs.lemmas.List.Folds.{find-append}
@@ -10,7 +10,7 @@ use Rattle.std.specs.Option.{option_or}
 use Rattle.ule_runq.proofs.Counts.{count, once, count-cons, count-append, once_same}
 use Rattle.ule_runq.proofs.Rounds.{pairs, round_from, round_from-at, length-round_from}
 use Rattle.ule_runq.specs.declared.runq.TheConstants.{RQ_NQS}
-use Rattle.ule_runq.specs.Runq.{list_at, times, line_from, threads_from, distance, IsRunq}
+use Rattle.ule_runq.specs.Runq.{list_at, times, line_from, threads_from, IsRunq}
 
 -- ---- the first element of a list that passes
 

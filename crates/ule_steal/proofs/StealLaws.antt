@@ -1,14 +1,14 @@
 -- The searches of the code give what the steal rule says.
-use Rattle.std.proofs.Common.{◌≡◌, ◌==◌, ◌&&◌, ℕ, ◌+◌, ◌<◌, ◌≤◌, Bool, true, false, not, cond, Option, Some, None, List, [], ◌∷◌, ◌++◌, map, filter, slice_get, option_map, refl, sym, ◌∙◌, ap, arith, eq-eqb}
-use Rattle.std.proofs.lemmas.Bool.{eqb-true}
+use Rattle.std.proofs.Common.{◌≡◌, ◌==◌, ◌&&◌, ℕ, ◌+◌, ◌<◌, ◌≤◌, Bool, true, false, not, cond, Option, Some, None, List, [], ◌∷◌, ◌++◌, map, filter, slice_get, option_map, refl, sym, ◌∙◌, ap, arith, eq-eqb, ne_eqb, ◌≢◌, IfSome}
+use Rattle.std.proofs.lemmas.Bool.{true≢false}
 use Rattle.std.proofs.lemmas.List.Folds.{find-append}
 use Rattle.std.specs.List.{find, flat_map, concat, enumerate_from}
 use Rattle.std.specs.Option.{option_or}
 use Rattle.ule_runq.specs.Runq.{times, threads_from, line_from, first_from, is_eligible, first_allowed, IsRunq}
-use Rattle.ule_runq.proofs.Counts.{count, once, count-cons, count-append, once_same}
-use Rattle.ule_runq.proofs.Searches.{find_Some, find_None, find-none, threads_from-round, count-threads_from}
+use Rattle.ule_runq.proofs.Counts.{count, count-cons, once_same}
+use Rattle.ule_runq.proofs.Searches.{threads_from-round, count-threads_from}
 use Rattle.ule_calendar.specs.Calendar.{Dial}
-use Rattle.ule_steal.specs.Steal.{first_movable, plain_pick, with_first_last, batch_pick, if_movable, HasNoMovable}
+use Rattle.ule_steal.specs.Steal.{first_movable, plain_pick, with_first_last, batch_pick, first_thread, if_movable, SparesFirst}
 
 -- ---- lists
 
@@ -77,7 +77,7 @@ first_from-thread q b = head (line_from q b)
     head [] = refl
     head (e ∷ es) = refl
 
-pub batch_pick-found : (movable : ℕ → Bool) (d : Dial) (first : Option ℕ) → IsRunq d.lists → first ≡ option_map (λ (f : ℕ × ℕ). f.1) (first_from d.lists d.ridx) →
+pub batch_pick-found : (movable : ℕ → Bool) (d : Dial) (first : Option ℕ) → IsRunq d.lists → first ≡ first_thread d →
     batch_pick movable d ≡ option_or (first_allowed movable first d.lists d.ridx) (if_movable movable first)
 batch_pick-found movable d first sound is =
     first_last_pick movable (threads_from d.lists d.ridx) (λ t. let same = count-threads_from d.lists d.ridx t in let few = sound.once t in omega arith)
@@ -85,7 +85,35 @@ batch_pick-found movable d first sound is =
 
 -- the answer of the two calls that the code makes, where q, b and first are what it read of the calendar
 pub batch_pick-read : (movable : ℕ → Bool) (d : Dial) (q : List (List ℕ)) (b : ℕ) (first o : Option ℕ) → IsRunq d.lists → q ≡ d.lists → b ≡ d.ridx →
-    first ≡ option_map (λ (f : ℕ × ℕ). f.1) (first_from d.lists d.ridx) → first_allowed movable first q b ≡ o → batch_pick movable d ≡ option_or o (if_movable movable first)
+    first ≡ first_thread d → first_allowed movable first q b ≡ o → batch_pick movable d ≡ option_or o (if_movable movable first)
 batch_pick-read movable d q b first o sound lists index is found =
     batch_pick-found movable d first sound is
     ∙ ap (λ p. option_or p (if_movable movable first)) (ap (λ r. first_allowed movable first r d.ridx) (sym lists) ∙ ap (first_allowed movable first q) (sym index) ∙ found)
+
+-- ---- the calendar's first thread
+
+-- a thread that isn't eligible and isn't skipped is not movable
+not_movable : (movable : ℕ → Bool) (skip u : ℕ) → is_eligible movable (Some skip) u ≡ false → u ≢ skip → movable u ≡ false
+not_movable movable skip u fails apart = step (movable u) (ne_eqb u skip apart) fails
+  where
+    step : (b : Bool) → (u == skip) ≡ false → (b && not (u == skip)) ≡ false → b ≡ false
+    step true other none = sym (ap not other) ∙ none
+    step false other none = refl
+
+-- the thread that is skipped is not eligible
+skipped_fails : (movable : ℕ → Bool) (t : ℕ) → is_eligible movable (Some t) t ≡ true → ⊥
+skipped_fails movable t passes = step (movable t) (eq-eqb t t refl) passes
+  where
+    step : (b : Bool) → (t == t) ≡ true → (b && not (t == t)) ≡ true → ⊥
+    step true same other = true≢false (sym other ∙ ap not same)
+    step false same other = true≢false (sym other)
+
+module _ (movable : ℕ → Bool) (d : Dial) (first : Option ℕ) (is : first ≡ first_thread d) where
+  -- another thread that is given spares the first
+  pub spares-other : (t : ℕ) → is_eligible movable first t ≡ true → SparesFirst movable d t
+  spares-other t passes here = absurd (skipped_fails movable t (ap (λ o. is_eligible movable o t) (sym (is ∙ here)) ∙ passes))
+
+  -- where no other is eligible, the first may be given
+  pub spares-none : ((u : ℕ) → 0 < times d.lists u → is_eligible movable first u ≡ false) → (o : Option ℕ) → IfSome o (SparesFirst movable d)
+  spares-none fails None = tt
+  spares-none fails (Some t) = λ here u apart stands. not_movable movable t u (ap (λ o. is_eligible movable o u) (sym (is ∙ here)) ∙ fails u stands) apart

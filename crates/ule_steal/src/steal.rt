@@ -1,8 +1,7 @@
 ghost use Rattle.std.specs.Prelude.{◌≡◌, ◌↔◌, IsNone, IfSome, IsTrue};
-ghost use Rattle.std.specs.Option.{option_map};
-ghost use Rattle.ule_runq.specs.Runq.{times, first_from};
+ghost use Rattle.ule_runq.specs.Runq.{times};
 ghost use Rattle.ule_runq.specs.Set.{has};
-ghost use Rattle.ule_steal.specs.Steal.{plain_pick, batch_pick, if_movable, HasNoMovable};
+ghost use Rattle.ule_steal.specs.Steal.{plain_pick, batch_pick, first_thread, if_movable, SparesFirst, HasNoMovable};
 
 use ule_calendar::Calendar;
 use ule_prio::ThreadId;
@@ -25,6 +24,7 @@ pub fn pick_plain(q: &Runq, movable: &ThreadSet) -> Option<ThreadId>
 /// `runq_steal_from`, as `tdq_steal` calls it.
 pub fn pick_batch(c: &Calendar, movable: &ThreadSet) -> Option<ThreadId>
     ensures value { result ≡ batch_pick (has movable.now) c.now }
+    ensures spares { IfSome result (λ t. SparesFirst (has movable.now) c.now t) }
     ensures none { IsNone result ↔ HasNoMovable (has movable.now) c.now.lists }
     ensures found { IfSome result (λ t. times c.now.lists t ≡ 1) }
     ensures movable { IfSome result (λ t. IsTrue (has movable.now t)) }
@@ -37,8 +37,7 @@ pub fn pick_batch(c: &Calendar, movable: &ThreadSet) -> Option<ThreadId>
 
 // The calendar's first thread, if it is movable.
 fn first_if_movable(c: &Calendar, movable: &ThreadSet) -> Option<ThreadId>
-    ensures { result ≡ if_movable (has movable.now)
-        (option_map (λ f. f.1) (first_from c.now.lists c.now.ridx)) }
+    ensures { result ≡ if_movable (has movable.now) (first_thread c.now) }
 {
     match c.first() {
         Some(t) => if movable.has(t) { Some(t) } else { None },

@@ -1,8 +1,7 @@
-use Rattle.std.proofs.Common.{◌≡◌, ◌+◌, ◌%◌, ◌<◌, ℕ, false, List, Some, sym, ◌∙◌, ap, subst, arith, below_more}
+use Rattle.std.proofs.Common.{sym, ◌∙◌, ap, arith, below_more}
 use Rattle.std.proofs.lemmas.Bool.{true≢false}
-use Rattle.std.specs.List.{find}
 use Rattle.ule_runq.specs.Set.{has}
-use Rattle.ule_runq.specs.Runq.{times, is_eligible, first_allowed, threads_from}
+use Rattle.ule_runq.specs.Runq.{times, is_eligible, first_allowed}
 use Rattle.ule_runq.proofs.Searches.{found_read, none_read, search-none, search_Some, search_None}
 use Rattle.ule_runq.proofs.runq.Runq.first_allowed.Goals as goal
 
