@@ -1,4 +1,6 @@
 mod Access
 mod Rounds
+mod Sets
 pub mod Counts
 pub mod RunqLaws
+pub mod Searches

@@ -1,1 +1,2 @@
 pub mod Runq
+pub mod Set

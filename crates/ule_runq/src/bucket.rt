@@ -1,12 +1,25 @@
-ghost use Rattle.std.specs.Prelude.{◌≡◌, ◌==◌, ◌<◌, [], ◌∷◌, ◌++◌, length, slice_get, IfOk};
+ghost use Rattle.std.specs.Prelude.{◌≡◌, ◌==◌, ◌<◌, [], ◌∷◌, ◌++◌, length, slice_get, find, IfOk};
 ghost use Rattle.std.specs.List.{position, remove};
+ghost use Rattle.ule_runq.specs.Runq.{is_eligible};
+ghost use Rattle.ule_runq.specs.Set.{has};
 
+use crate::set::ThreadSet;
 use std::alloc::{AllocError, Global};
 use std::marker::Model;
 use ule_prio::ThreadId;
 
 /// How many thread numbers there are.
 pub const THREADS: usize = 256;
+
+// Whether `t` is in the set and isn't the thread to be skipped.
+fn is_eligible(t: ThreadId, allowed: &ThreadSet, skip: &Option<ThreadId>) -> bool
+    ensures { result ≡ is_eligible (has allowed.now) skip.now t }
+{
+    match skip {
+        None => allowed.has(t),
+        Some(skipped) => allowed.has(t) && t != *skipped,
+    }
+}
 
 /// The threads of one bucket, head first, with room for every thread number.
 #[derive(Drop)]
@@ -44,6 +57,16 @@ impl Bucket {
         ensures { result ≡ slice_get self.now 0 }
     {
         self.threads.first().copied()
+    }
+
+    /// The first thread, from the head on, that is in `allowed` and isn't `skip`.
+    pub fn first_allowed(&self, allowed: &ThreadSet, skip: &Option<ThreadId>) -> Option<ThreadId>
+        ensures { result ≡ find (is_eligible (has allowed.now) skip.now) self.now }
+    {
+        self.threads
+            .iter()
+            .copied()
+            .find(|t| is_eligible(*t, allowed, skip))
     }
 
     /// The position of `t`, from the head on.

@@ -1,8 +1,11 @@
 //! The run queue, after `struct runq` of `runq.h` and its functions in `kern_switch.c`: 64
-//! buckets of threads, which callers see as 64 lists of thread numbers, each head first.
+//! buckets of threads, which callers see as 64 lists of thread numbers, each head first. And sets
+//! of thread numbers, by which a thread is sought in it.
 #![tactic(auto)]
 
 mod bucket;
 pub mod runq;
+pub mod set;
 
 pub use runq::{RQ_NQS, Runq};
+pub use set::ThreadSet;

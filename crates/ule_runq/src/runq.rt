@@ -1,7 +1,9 @@
-ghost use Rattle.std.specs.Prelude.{◌≡◌, ◌<◌, ◌↔◌, [], replicate, All, IfOk, IsNone, IfSome, OnSome};
-ghost use Rattle.ule_runq.specs.Runq.{IsRunq, is_empty_at, with_tail, with_head, without, times, first_from, IsFirstFrom, bucket_in, place_in};
+ghost use Rattle.std.specs.Prelude.{◌≡◌, ℕ, ◌<◌, ◌↔◌, false, IsTrue, [], replicate, All, IfOk, IsNone, IfSome, OnSome};
+ghost use Rattle.ule_runq.specs.Runq.{IsRunq, is_empty_at, with_tail, with_head, without, times, first_from, IsFirstFrom, is_eligible, first_allowed, bucket_in, place_in};
+ghost use Rattle.ule_runq.specs.Set.{has};
 
 use crate::bucket::Bucket;
+use crate::set::ThreadSet;
 use std::alloc::Global;
 use std::marker::Model;
 use ule_io::Memory;
@@ -95,6 +97,31 @@ impl Runq {
             let bucket = (b + step) % RQ_NQS;
             if let Some(t) = self.buckets[usize::from(bucket)].first() {
                 return Some((bucket, t));
+            }
+        }
+        None
+    }
+
+    /// The first thread from bucket `b` on, and round to it, that is in `allowed` and isn't `skip`,
+    /// after `runq_steal` and `runq_steal_from`.
+    pub fn first_allowed(
+        &self,
+        b: u8,
+        allowed: &ThreadSet,
+        skip: Option<ThreadId>,
+    ) -> Option<ThreadId>
+        requires { b < RQ_NQS }
+        ensures value { result ≡ first_allowed (has allowed.now) skip self.now b }
+        ensures none { IsNone result
+            ↔ ((t : ℕ) → 0 < times self.now t → is_eligible (has allowed.now) skip t ≡ false) }
+        ensures found { IfSome result (λ t. times self.now t ≡ 1) }
+        ensures allowed { IfSome result (λ t. IsTrue (is_eligible (has allowed.now) skip t)) }
+        ensures whole { IsRunq self.now }
+    {
+        for step in 0..RQ_NQS {
+            let at = (b + step) % RQ_NQS;
+            if let Some(t) = self.buckets[usize::from(at)].first_allowed(allowed, &skip) {
+                return Some(t);
             }
         }
         None

@@ -1,0 +1,89 @@
+ghost use Rattle.std.specs.Prelude.{◌≡◌, ◌↔◌, IsNone, IfSome, IsTrue};
+ghost use Rattle.ule_runq.specs.Runq.{times};
+ghost use Rattle.ule_runq.specs.Set.{has};
+ghost use Rattle.ule_steal.specs.Steal.{plain_pick, batch_pick, first_thread, if_movable, SparesFirst, HasNoMovable};
+
+use ule_calendar::Calendar;
+use ule_prio::ThreadId;
+use ule_runq::{Runq, ThreadSet};
+
+/// The thread that a real or an idle queue gives: the first movable one in order of bucket and
+/// place, or none where the queue has no movable thread. After `runq_steal`.
+pub fn pick_plain(q: &Runq, movable: &ThreadSet) -> Option<ThreadId>
+    ensures value { result ≡ plain_pick (has movable.now) q.now }
+    ensures none { IsNone result ↔ HasNoMovable (has movable.now) q.now }
+    ensures found { IfSome result (λ t. times q.now t ≡ 1) }
+    ensures movable { IfSome result (λ t. IsTrue (has movable.now t)) }
+{
+    q.first_allowed(0, movable, None)
+}
+
+/// The thread that a batch calendar gives: the first movable one from the removal index on and
+/// round to it, but the calendar's first thread only where no other is movable, since its own CPU
+/// is about to choose that one. None where the calendar has no movable thread. After
+/// `runq_steal_from`, as `tdq_steal` calls it.
+pub fn pick_batch(c: &Calendar, movable: &ThreadSet) -> Option<ThreadId>
+    ensures value { result ≡ batch_pick (has movable.now) c.now }
+    ensures spares { IfSome result (λ t. SparesFirst (has movable.now) c.now t) }
+    ensures none { IsNone result ↔ HasNoMovable (has movable.now) c.now.lists }
+    ensures found { IfSome result (λ t. times c.now.lists t ≡ 1) }
+    ensures movable { IfSome result (λ t. IsTrue (has movable.now t)) }
+{
+    match c.lists().first_allowed(c.ridx(), movable, c.first()) {
+        Some(t) => Some(t),
+        None => first_if_movable(c, movable),
+    }
+}
+
+// The calendar's first thread, if it is movable.
+fn first_if_movable(c: &Calendar, movable: &ThreadSet) -> Option<ThreadId>
+    ensures { result ≡ if_movable (has movable.now) (first_thread c.now) }
+{
+    match c.first() {
+        Some(t) => if movable.has(t) { Some(t) } else { None },
+        None => None,
+    }
+}
+
+#[cfg(test)]
+mod tests {
+    use super::*;
+    use std::test::Fail;
+    use ule_prio::{Kind, Priority, kind_of};
+
+    /// Files a thread that the calendar lacks by its batch priority.
+    fn add(c: &mut Calendar, t: u8, p: u8) -> Option<u8> {
+        if kind_of(Priority(p)) != Kind::Batch || c.lists().find(ThreadId(t)).is_some() {
+            return None;
+        }
+        Some(c.insert(ThreadId(t), Priority(p)))
+    }
+
+    #[test]
+    fn the_first_thread_goes_last(rt: HostRuntime) -> Result<(), Fail> {
+        let mut c = Calendar::empty(rt.alloc())?;
+        let mut movable = ThreadSet::none();
+        movable.put(ThreadId(0));
+        assert_eq!(rt; pick_batch(&c, &movable), None);
+        assert_eq!(rt; add(&mut c, 0, 172), Some(17));
+        assert_eq!(rt; pick_batch(&c, &movable), Some(ThreadId(0)), "alone");
+        assert_eq!(rt; add(&mut c, 1, 172), Some(17));
+        assert_eq!(rt; add(&mut c, 2, 172), Some(17));
+        assert_eq!(rt;
+            pick_batch(&c, &movable),
+            Some(ThreadId(0)),
+            "alone movable"
+        );
+        movable.put(ThreadId(1));
+        movable.put(ThreadId(2));
+        assert_eq!(rt; pick_batch(&c, &movable), Some(ThreadId(1)));
+        assert_eq!(rt; pick_plain(c.lists(), &movable), Some(ThreadId(0)));
+        movable.drop_one(ThreadId(0));
+        movable.drop_one(ThreadId(1));
+        assert_eq!(rt; pick_plain(c.lists(), &movable), Some(ThreadId(2)));
+        movable.drop_one(ThreadId(2));
+        assert_eq!(rt; pick_plain(c.lists(), &movable), None);
+        assert_eq!(rt; pick_batch(&c, &movable), None);
+        Ok(())
+    }
+}
