@@ -20,3 +20,5 @@ pub mod Parents
 pub mod Setups
 pub mod Starts
 pub mod Unborn
+pub mod CalendarPlaces
+pub mod CalendarRules
