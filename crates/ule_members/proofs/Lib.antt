@@ -22,3 +22,5 @@ pub mod Starts
 pub mod Unborn
 pub mod CalendarPlaces
 pub mod CalendarRules
+pub mod CalendarMoves
+pub mod CalendarParts
