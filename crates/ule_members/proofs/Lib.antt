@@ -24,3 +24,4 @@ pub mod CalendarPlaces
 pub mod CalendarRules
 pub mod CalendarMoves
 pub mod CalendarParts
+pub mod CalendarEvents
