@@ -25,3 +25,4 @@ pub mod CalendarRules
 pub mod CalendarMoves
 pub mod CalendarParts
 pub mod CalendarEvents
+pub mod CalendarSteps
