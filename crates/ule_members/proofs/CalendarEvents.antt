@@ -131,16 +131,20 @@ module _ (worker now : ℕ) (e : Event) (c : ℕ) (s : Side) (close : IsClose s.
 
   -- ---- drops and exits
 
+  -- the current thread goes to the worker's hand, and the threads are filed as they were
+  pub taken_alike : (change : RecordChange) (m : Member) → current_of c s.members ≡ Some m → (t : ℕ) →
+      filing_of c (taken worker now change m.thread.id s).members t ≡ filing_of c s.members t
+  taken_alike change m found t =
+      filing_moved_aside c m.thread.id t (Hand worker) (pos 0) (with_change s.settings now m.thread.id change s.members)
+      (filing_recorded c m.thread.id m.thread.id (record_after s.settings now change) s.members (change_number s.settings now change) ∙ current_unfiled c c m s.members finds found) refl ∙
+      filing_recorded c m.thread.id t (record_after s.settings now change) s.members (change_number s.settings now change)
+
   -- the current thread goes to the worker's hand, and the next is chosen
   left_passes : (change : RecordChange) (m : Member) (r : Reply) → current_of c s.members ≡ Some m → Passes ((choosing_next c now (taken worker now change m.thread.id s)).0, r)
   left_passes change m r found =
       let gone : Side = taken worker now change m.thread.id s in
       joined_chose (λ t. takes_up t (entry_by worker e now r)) (λ t. goes_next t (entry_by worker e now r)) c s close Ordinary m.thread.id gone (choosing_next c now gone).0 tt
-      (nobody_joins Ordinary c m.thread.id s.line.idx s.line.ridx (filing_of c s.members) gone refl refl
-      (λ t.
-      filing_moved_aside c m.thread.id t (Hand worker) (pos 0) (with_change s.settings now m.thread.id change s.members)
-      (filing_recorded c m.thread.id m.thread.id (record_after s.settings now change) s.members (change_number s.settings now change) ∙ current_unfiled c c m s.members finds found) refl ∙
-      filing_recorded c m.thread.id t (record_after s.settings now change) s.members (change_number s.settings now change)))
+      (nobody_joins Ordinary c m.thread.id s.line.idx s.line.ridx (filing_of c s.members) gone refl refl (taken_alike change m found))
       (choosing_chose c now gone (moved_finds (Others c) s.members gone.members finds (taken_moved c now s finds worker change m found)))
 
   -- a drop

@@ -26,3 +26,5 @@ pub mod CalendarMoves
 pub mod CalendarParts
 pub mod CalendarEvents
 pub mod CalendarSteps
+pub mod CalendarChoices
+pub mod CalendarStretches
