@@ -40,7 +40,7 @@ pub record Joins (how : Insertion) (c u i r : ℕ) (f : Filing) (n : Side) : Typ
   pub came : (t b : ℕ) → filing_of c n.members t ≡ Some b → (f t ≡ Some b) ⊎ ((t ≡ u) × IsJoined how i r b)
 
 -- the bucket of an insertion in the calendar is the one that it joins
-joined_bucket : (how : Insertion) (c b p : ℕ) (line : CpuLine) → filed_at c (place_of_insertion how c line p) ≡ Some b → IsJoined how line.idx line.ridx b
+pub joined_bucket : (how : Insertion) (c b p : ℕ) (line : CpuLine) → filed_at c (place_of_insertion how c line p) ≡ Some b → IsJoined how line.idx line.ridx b
 joined_bucket how c b p line is = split how (of_kind (kind_at p) is)
   where
     of_kind : (k : Kind) → filed_at c (Queued c k (bucket_of k how line p)) ≡ Some b → b ≡ bucket_of Batch how line p

@@ -28,3 +28,4 @@ pub mod CalendarEvents
 pub mod CalendarSteps
 pub mod CalendarChoices
 pub mod CalendarStretches
+pub mod CalendarStarts
