@@ -1,7 +1,7 @@
 -- No thread is chosen from a calendar that stands farther from the removal index than another.
-use Rattle.std.proofs.Common.{◌≡◌, ◌≢◌, ℕ, ◌<◌, ◌≤◌, ◌==◌, Bool, true, false, List, [], ◌∷◌, filter, Option, Some, None, if◌then◌else◌, ◌⊎◌, inl, inr, ⊎_elim, refl, sym, ◌∙◌, ap, subst, arith}
+use Rattle.std.proofs.Common.{◌≡◌, ℕ, ◌<◌, ◌≤◌, ◌==◌, Bool, true, false, List, [], ◌∷◌, filter, Option, Some, None, if◌then◌else◌, ◌⊎◌, inl, inr, ⊎_elim, refl, sym, ◌∙◌, ap, subst, arith}
 use Rattle.std.specs.Prelude.{◌&&◌, ◌||◌, int_lt, nat_lt}
-use Rattle.std.proofs.lemmas.Bool.{and_parts, both_ways, cases_lt, cond-true, cond-false, eq-eqb, eqb-true, lt-ltb, or_cases, or_parts, ltb-true}
+use Rattle.std.proofs.lemmas.Bool.{and_parts, both_ways, cases_lt, eq-eqb, eqb-true, lt-ltb, or_cases, or_parts, ltb-true}
 use Rattle.std.proofs.lemmas.Option.{none-some, same_Some}
 use Rattle.ule_prio.specs.declared.kind.Kind.TheVariants.{Batch}
 use Rattle.ule_score.specs.Changes.{RecordChange, ran, sleeps}
@@ -24,7 +24,7 @@ use Rattle.ule_model.specs.Switch.{choosing_next, given_way, is_preemption, is_u
 use Rattle.ule_model.specs.World.{Member, Side, World, current_of, side_of, thread_of}
 use Rattle.ule_members.proofs.CalendarEvents.{gave_joins, taken_alike}
 use Rattle.ule_members.proofs.CalendarMoves.{Others, gave_moved, moved_finds, taken_moved}
-use Rattle.ule_members.proofs.CalendarPlaces.{FindsEach, IsFiled, filed_found, filed_from, filing_of, in_bucket_from}
+use Rattle.ule_members.proofs.CalendarPlaces.{FindsEach, IsFiled, filed_found, filed_from, filing_of}
 use Rattle.ule_members.proofs.CalendarRules.{IsClose}
 use Rattle.ule_members.proofs.CalendarSteps.{IsCalm}
 use Rattle.ule_members.proofs.Membership.{Has, has-filter, has_thread_of}

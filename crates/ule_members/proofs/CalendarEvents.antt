@@ -1,7 +1,6 @@
 -- What each event of a CPU makes of the calendar of that CPU.
-use Rattle.std.proofs.Common.{◌≡◌, ◌≢◌, ℕ, ◌<◌, ◌==◌, pos, Bool, true, false, List, length, Option, Some, None, if◌then◌else◌, ◌⊎◌, inl, inr, ⊎_elim, refl, sym, ◌∙◌, ap, subst}
+use Rattle.std.proofs.Common.{◌≡◌, ℕ, ◌<◌, ◌==◌, pos, Bool, true, false, length, Option, Some, None, if◌then◌else◌, inl, inr, ⊎_elim, refl, sym, ◌∙◌, ap, subst}
 use Rattle.std.specs.Option.{option_map}
-use Rattle.std.specs.Prelude.{◌||◌}
 use Rattle.std.proofs.lemmas.Bool.{both_ways, eq-eqb, or_left, or_right}
 use Rattle.ule_prio.specs.declared.kind.Kind.{Kind}
 use Rattle.ule_prio.specs.declared.kind.Kind.TheVariants.{Batch}
@@ -14,25 +13,24 @@ use Rattle.ule_score.proofs.ChangeLaws.{change_number}
 use Rattle.ule_types.specs.declared.event.Entry.{Entry}
 use Rattle.ule_types.specs.declared.event.Event.{Event}
 use Rattle.ule_types.specs.declared.event.Reply.{Reply}
-use Rattle.ule_types.specs.declared.event.Reply.TheVariants.{Changed, Switched, Unmarked}
+use Rattle.ule_types.specs.declared.event.Reply.TheVariants.{Switched, Unmarked}
 use Rattle.ule_model.specs.Birth.{exited, exited_with}
 use Rattle.ule_model.specs.CalendarIndexes.{idx_after_turn, ridx_after_turn}
 use Rattle.ule_model.specs.CalendarPromise.{goes_next, requeues, takes_up}
 use Rattle.ule_model.specs.declared.insertion.Insertion.{Insertion}
-use Rattle.ule_model.specs.declared.insertion.Insertion.TheVariants.{Borrowing, Ordinary, Preempted}
+use Rattle.ule_model.specs.declared.insertion.Insertion.TheVariants.{Borrowing, Ordinary}
 use Rattle.ule_model.specs.Events.{sought_by}
 use Rattle.ule_model.specs.Insertion.{members_in, queued}
 use Rattle.ule_model.specs.Landing.{is_taking_over, landed, landed_with, marked_if}
-use Rattle.ule_model.specs.Places.{is_number}
-use Rattle.ule_model.specs.PriorityChange.{changed_with, followed_at, forked_on, forked_with, priority_changed, requeued}
+use Rattle.ule_model.specs.PriorityChange.{followed_at, forked_on, forked_with, requeued}
 use Rattle.ule_model.specs.Sleep.{dropped, dropped_with, taken}
 use Rattle.ule_model.specs.Switch.{choosing_next, counted, given_way, insertion_of, is_preemption, is_unasked, lifted, switched, switched_from, unmarked}
 use Rattle.ule_model.specs.Tick.{clocked, is_due, load_of, ticked, ticked_with}
-use Rattle.ule_model.specs.World.{Member, Side, current_of, moved_to, thread_of, with_change, with_record}
+use Rattle.ule_model.specs.World.{Member, Side, current_of, thread_of, with_change, with_record}
 use Rattle.ule_members.proofs.CalendarMoves.{AreMoved, Others, current_unfiled, forked_moved, gave_moved, moved_aside, moved_finds, recorded, taken_moved, unmoved}
-use Rattle.ule_members.proofs.CalendarParts.{Chose, IsJoined, IsNextIf, Joins, SidePassage, choosing_chose, joined_chose, joined_passes, lifted_rule, queued_joins, unaltered, without_apart, without_itself, without_one, without_other, without_within}
+use Rattle.ule_members.proofs.CalendarParts.{IsNextIf, Joins, SidePassage, choosing_chose, joined_chose, joined_passes, lifted_rule, queued_joins, unaltered, without_itself, without_one, without_other, without_within}
 use Rattle.ule_members.proofs.CalendarPlaces.{Filing, FindsEach, IsFiled, filed_found, filing_moved_aside, filing_of, filing_recorded, none_where_filed, some_filed}
-use Rattle.ule_members.proofs.CalendarRules.{IndexRule, IsClose, Passage, Tells, indexes_within, rule_from, turns}
+use Rattle.ule_members.proofs.CalendarRules.{IndexRule, IsClose, Tells, indexes_within, rule_from, turns}
 use Rattle.ule_members.proofs.Membership.{has_thread_of}
 use Rattle.ule_members.proofs.Reach.{is_number_itself}
 use Rattle.ule_members.proofs.Threads.{thread_of-changed_same}

@@ -1,6 +1,5 @@
 -- Which threads an event moves, as a list of changes of records and moves; the calendars of other CPUs are left by them.
-use Rattle.std.proofs.Common.{◌≡◌, ◌≢◌, ℕ, ◌==◌, ℤ, pos, Bool, true, false, List, Option, Some, None, if◌then◌else◌, refl, sym, ◌∙◌, ap, subst}
-use Rattle.std.specs.Prelude.{nat_lt}
+use Rattle.std.proofs.Common.{◌≡◌, ◌≢◌, ℕ, ℤ, pos, Bool, true, false, List, Option, Some, None, if◌then◌else◌, refl, sym, ◌∙◌, ap, subst}
 use Rattle.std.specs.List.{find}
 use Rattle.std.proofs.lemmas.Bool.{both_ways, cond_both, eqb-true}
 use Rattle.ule_prio.specs.declared.kind.Kind.{Kind}
@@ -17,12 +16,12 @@ use Rattle.ule_model.specs.Birth.{exited, exited_with}
 use Rattle.ule_model.specs.Choice.{choice_of}
 use Rattle.ule_model.specs.declared.insertion.Insertion.{Insertion}
 use Rattle.ule_model.specs.declared.insertion.Insertion.TheVariants.{Borrowing, Ordinary}
-use Rattle.ule_model.specs.Insertion.{order_of_insertion, place_of_insertion, queued, with_queued}
+use Rattle.ule_model.specs.Insertion.{place_of_insertion, queued, with_queued}
 use Rattle.ule_model.specs.Landing.{landed, landed_with}
-use Rattle.ule_model.specs.Places.{hand_of, runs_on, waits_on}
-use Rattle.ule_model.specs.PriorityChange.{changed_with, followed_at, forked_on, forked_with, priority_changed, requeued}
+use Rattle.ule_model.specs.Places.{runs_on, waits_on}
+use Rattle.ule_model.specs.PriorityChange.{followed_at, forked_on, forked_with, requeued}
 use Rattle.ule_model.specs.Sleep.{dropped, dropped_with, taken}
-use Rattle.ule_model.specs.Switch.{choosing_next, given_way, insertion_of, is_preemption, is_unasked, lifted, running_chosen, switched, switched_from, unmarked}
+use Rattle.ule_model.specs.Switch.{choosing_next, given_way, insertion_of, is_preemption, is_unasked, running_chosen, switched, switched_from, unmarked}
 use Rattle.ule_model.specs.Tick.{clocked, is_due, load_of, ticked, ticked_with}
 use Rattle.ule_model.specs.World.{Member, Side, current_of, is_numbered, moved_to, thread_of, with_change, with_record}
 use Rattle.ule_members.proofs.CalendarPlaces.{FindsEach, filed_at, filed_elsewhere, filing_found, filing_moved_aside, filing_of, filing_recorded, finds_mapped}

@@ -1,7 +1,7 @@
 -- The parts of events on a CPU's calendar: a thread joins it, a thread leaves it by the index rule, the next is chosen.
-use Rattle.std.proofs.Common.{◌≡◌, ◌≢◌, ℕ, ◌<◌, ◌==◌, pos, Bool, true, false, not, List, length, Option, Some, None, if◌then◌else◌, ◌⊎◌, inl, inr, ⊎_elim, refl, sym, ◌∙◌, ap, subst}
+use Rattle.std.proofs.Common.{◌≡◌, ◌≢◌, ℕ, ◌<◌, ◌==◌, pos, Bool, true, false, not, length, Option, Some, None, if◌then◌else◌, ◌⊎◌, inl, inr, ⊎_elim, refl, sym, ◌∙◌, ap, subst}
 use Rattle.std.specs.Prelude.{option_and_then}
-use Rattle.std.proofs.lemmas.Bool.{both_ways, cases_eq, cond-false, cond-true, eq-eqb, eqb-false, ne_eqb, not-true}
+use Rattle.std.proofs.lemmas.Bool.{cases_eq, cond-false, cond-true, eq-eqb, eqb-false, ne_eqb, not-true}
 use Rattle.std.proofs.lemmas.Option.{none-some, same_Some}
 use Rattle.ule_prio.specs.Kind.{kind_at}
 use Rattle.ule_prio.specs.declared.kind.Kind.{Kind}
@@ -15,11 +15,11 @@ use Rattle.ule_model.specs.CalendarIndexes.{calendar_bucket}
 use Rattle.ule_model.specs.Choice.{choice_of}
 use Rattle.ule_model.specs.declared.insertion.Insertion.{Insertion}
 use Rattle.ule_model.specs.declared.insertion.Insertion.TheVariants.{Borrowing, Ordinary, Preempted}
-use Rattle.ule_model.specs.Insertion.{bucket_of, members_in, order_of_insertion, place_of_insertion, queued, with_queued}
+use Rattle.ule_model.specs.Insertion.{bucket_of, members_in, place_of_insertion, queued, with_queued}
 use Rattle.ule_model.specs.Switch.{after_leaving, after_queue_removal, choosing_next, lifted, put_running, running_chosen}
 use Rattle.ule_model.specs.World.{Member, Side, is_numbered, moved_to, others, thread_of}
 use Rattle.ule_members.proofs.CalendarMoves.{IsQueuedOn, queued_where_waits}
-use Rattle.ule_members.proofs.CalendarPlaces.{Filing, FindsEach, IsFiled, filed_at, filed_found, filed_in, filed_itself, filed_place, filing_found, filing_moved, filing_moved_other, filing_of, filing_recorded, none_where_filed, some_filed}
+use Rattle.ule_members.proofs.CalendarPlaces.{Filing, FindsEach, IsFiled, filed_at, filed_found, filed_in, filed_itself, filing_found, filing_moved, filing_moved_other, filing_of, filing_recorded, none_where_filed, some_filed}
 use Rattle.ule_members.proofs.CalendarRules.{IndexRule, IsClose, IsWithin, Passage, Tells, ordinary_is_ahead, removes, rule_from, stays, turns}
 use Rattle.ule_members.proofs.Membership.{Has, has-filter, has_filtered, has_thread_of}
 use Rattle.ule_members.proofs.Moves.{calendar_bucket_small, choice_stands}
@@ -88,9 +88,12 @@ queued_joins how c u s f alike none = split (thread_of u s.members) refl
           removal = refl;
           kept = λ t b is. filing_moved_other c m.thread.id t _ _ s.members (λ same. apart t b is (same ∙ number)) ∙ alike t (apart t b is) ∙ is;
           came = λ t b is. ⊎_elim
-              (λ (same : t ≡ m.thread.id). inr (same, joined_bucket how c b m.thread.priority s.line
-              (sym (filing_moved c m.thread.id m _ _ s.members (ap (λ (x : ℕ). thread_of x s.members) number ∙ found)) ∙
-              ap (filing_of c (with_queued how c (Some m) s).members) (sym same) ∙ is)))
+              (λ (same : t ≡ m.thread.id). inr (
+                same,
+                joined_bucket how c b m.thread.priority s.line
+                    (sym (filing_moved c m.thread.id m _ _ s.members (ap (λ (x : ℕ). thread_of x s.members) number ∙ found)) ∙
+                    ap (filing_of c (with_queued how c (Some m) s).members) (sym same) ∙ is),
+              ))
               (λ (other : t ≡ m.thread.id → ⊥). inl (sym (alike t (λ same. other (same ∙ sym number))) ∙ sym (filing_moved_other c m.thread.id t _ _ s.members other) ∙ is))
               (cases_eq t m.thread.id);
         }

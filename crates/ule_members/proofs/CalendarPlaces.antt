@@ -1,8 +1,8 @@
 -- Where threads stand in the calendar of a CPU, found by their numbers; and what moves and changes of records make of it.
-use Rattle.std.proofs.Common.{◌≡◌, ◌≢◌, ℕ, ◌==◌, ℤ, Bool, true, false, not, List, [], ◌∷◌, length, map, filter, find, Option, Some, None, if◌then◌else◌, inl, inr, ⊎_elim, refl, sym, ◌∙◌, ap, subst}
+use Rattle.std.proofs.Common.{◌≡◌, ◌≢◌, ℕ, ◌==◌, ℤ, Bool, true, false, List, [], ◌∷◌, length, map, Option, Some, None, if◌then◌else◌, inl, inr, ⊎_elim, refl, sym, ◌∙◌, ap, subst}
 use Rattle.std.specs.Option.{option_map}
-use Rattle.std.specs.Prelude.{◌&&◌, option_and_then}
-use Rattle.std.proofs.lemmas.Bool.{and_parts, and_from, both_ways, cases_eq, cond-true, cond-false, cond_both, eq-eqb, eqb-false, eqb-true, false_from_ne_true, ne_eqb}
+use Rattle.std.specs.Prelude.{option_and_then}
+use Rattle.std.proofs.lemmas.Bool.{and_parts, and_from, both_ways, cases_eq, cond-true, cond-false, cond_both, eq-eqb, eqb-true, ne_eqb}
 use Rattle.std.proofs.lemmas.Option.{none-some, same_Some}
 use Rattle.ule_prio.specs.declared.kind.Kind.{Kind}
 use Rattle.ule_prio.specs.declared.kind.Kind.TheVariants.{Real, Batch, Idle}
@@ -12,8 +12,8 @@ use Rattle.ule_score.specs.declared.record.ThreadRecord.{ThreadRecord}
 use Rattle.ule_model.specs.CalendarPromise.{IsInBucket}
 use Rattle.ule_model.specs.Insertion.{members_in}
 use Rattle.ule_model.specs.Places.{waits_in}
-use Rattle.ule_model.specs.World.{Member, is_numbered, moved_to, others, thread_of, with_record}
-use Rattle.ule_members.proofs.Membership.{Has, has-filter, has_filtered, has_none, has_thread_of}
+use Rattle.ule_model.specs.World.{Member, is_numbered, moved_to, thread_of, with_record}
+use Rattle.ule_members.proofs.Membership.{Has, has-filter, has_filtered}
 use Rattle.ule_members.proofs.Threads.{find_mapped, thread_of-changed_apart, thread_of-changed_same}
 
 -- ---- places

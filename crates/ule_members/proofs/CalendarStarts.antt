@@ -1,14 +1,11 @@
 -- The world at the start of every setup is calm: no index has gone on, and each thread is found by its number.
-use Rattle.std.proofs.Common.{◌≡◌, ◌≢◌, ℕ, ◌<◌, ◌==◌, true, false, List, [], ◌∷◌, ◌++◌, fold, length, map, replicate, slice_set, Option, Some, None, ◌⊎◌, inl, inr, ⊎_elim, refl, sym, ◌∙◌, ap, subst, arith}
+use Rattle.std.proofs.Common.{◌≡◌, ◌≢◌, ℕ, ◌<◌, true, false, List, [], ◌∷◌, ◌++◌, fold, length, map, replicate, Some, None, ◌⊎◌, inl, inr, ⊎_elim, refl, sym, ◌∙◌, ap, subst, arith}
 use Rattle.std.specs.Prelude.{option_and_then}
 use Rattle.std.specs.List.{AllByRecursion}
 use Rattle.std.proofs.lemmas.Bool.{cases_eq, eq-eqb, ne_eqb}
 use Rattle.std.proofs.lemmas.List.{length-replicate, length-set, map-append, map-id}
 use Rattle.std.proofs.lemmas.Option.{none-some}
-use Rattle.ule_score.specs.declared.place.Place.{Place}
-use Rattle.ule_score.specs.declared.place.Place.TheVariants.{Queued}
 use Rattle.ule_score.specs.declared.record.CpuLine.{CpuLine}
-use Rattle.ule_score.specs.declared.record.ThreadRecord.{ThreadRecord}
 use Rattle.ule_types.proofs.Repeats.{distinct_front}
 use Rattle.ule_types.specs.Commands.{is_among}
 use Rattle.ule_types.specs.Rules.{declared_ids, is_distinct}
@@ -22,13 +19,12 @@ use Rattle.ule_model.specs.Start.{empty_world, laid, record_of, start_line, unbo
 use Rattle.ule_model.specs.World.{Member, World, fresh_line, is_numbered, side_of, thread_of}
 use Rattle.ule_members.proofs.CalendarParts.{IsJoined, joined_bucket}
 use Rattle.ule_members.proofs.CalendarPlaces.{FindsEach, filed_at, filed_elsewhere, filing_of}
-use Rattle.ule_members.proofs.CalendarRules.{IsClose}
 use Rattle.ule_members.proofs.CalendarSteps.{IsCalm}
 use Rattle.ule_members.proofs.Membership.{Has}
 use Rattle.ule_members.proofs.Moves.{calendar_bucket_small}
 use Rattle.ule_members.proofs.Rest.{all_at, all_set}
 use Rattle.ule_members.proofs.Setups.{setup_specs}
-use Rattle.ule_members.proofs.Starts.{all_copies, distinct_new, laid_is, new_number, newly_laid, put_all, with_member}
+use Rattle.ule_members.proofs.Starts.{all_copies, laid_is, new_number, newly_laid, put_all, with_member}
 use Rattle.ule_members.proofs.Threads.{find-appended, find-appended_new}
 
 -- ---- one thread more

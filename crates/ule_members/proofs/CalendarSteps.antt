@@ -1,5 +1,5 @@
 -- What each step of a world makes of the calendar of each CPU.
-use Rattle.std.proofs.Common.{◌≡◌, ◌≢◌, ℕ, zero, suc, ◌+◌, ◌<◌, ◌≤◌, ◌==◌, pos, Bool, true, false, List, [], ◌∷◌, length, Option, Some, None, ⊎_elim, refl, sym, ◌∙◌, ap, subst, arith, get_or-set_same, get_or-set_other}
+use Rattle.std.proofs.Common.{◌≡◌, ◌≢◌, ℕ, zero, suc, ◌<◌, ◌≤◌, pos, Bool, true, false, List, [], ◌∷◌, length, Option, Some, None, ⊎_elim, refl, sym, ◌∙◌, ap, subst, arith, get_or-set_same, get_or-set_other}
 use Rattle.std.specs.Prelude.{nat_lt, option_and_then, slice_index_or, slice_set}
 use Rattle.std.proofs.lemmas.Bool.{both_ways, cases_eq, cases_lt}
 use Rattle.ule_score.specs.Changes.{after_change, changed, record_after, woken as woken_change}
@@ -15,7 +15,7 @@ use Rattle.ule_types.specs.declared.event.Event.TheVariants as event
 use Rattle.ule_types.specs.declared.event.Reply.{Reply}
 use Rattle.ule_model.specs.Birth.{buried, exited, hatched, returned}
 use Rattle.ule_model.specs.CalendarPromise.{goes_next, numbers_on, takes_up}
-use Rattle.ule_model.specs.Events.{handling, has, has_handled, has_thread, holder_of, is_own, is_unborn_thread, sought_by, unborn}
+use Rattle.ule_model.specs.Events.{has, has_handled, has_thread, is_own, sought_by, unborn}
 use Rattle.ule_model.specs.Landing.{landed}
 use Rattle.ule_model.specs.Legal.{IsEntryOf, after_entry}
 use Rattle.ule_model.specs.Places.{hand_of}
@@ -29,7 +29,7 @@ use Rattle.ule_members.proofs.CalendarEvents.{Passes, dropped_passes, entry_by, 
 use Rattle.ule_members.proofs.CalendarMoves.{AreMoved, Others, dropped_moved, exited_moved, followed_moved, forked_moved, landed_moved, moved, moved_aside, moved_finds, noted_moved, recorded, switched_moved, ticked_moved, unmoved}
 use Rattle.ule_members.proofs.CalendarParts.{unaltered}
 use Rattle.ule_members.proofs.CalendarPlaces.{FindsEach, filed_at, filed_elsewhere, filing_found, filing_of, filing_recorded}
-use Rattle.ule_members.proofs.CalendarRules.{IndexRule, IsClose, Passage, close_after, rule_nowhere}
+use Rattle.ule_members.proofs.CalendarRules.{IsClose, Passage, close_after, rule_nowhere}
 use Rattle.ule_members.proofs.Membership.{has_thread_of}
 use Rattle.ule_members.proofs.Reach.{IsUnbornIn, place_from_hand, unborn_found}
 

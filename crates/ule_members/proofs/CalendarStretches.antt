@@ -1,15 +1,15 @@
 -- The calendar promise of any entries that a calm world can make: of each world, of each entry, and of each stretch of a
 -- thread that stays in its bucket.
-use Rattle.std.proofs.Common.{◌≡◌, ◌≢◌, ℕ, ◌+◌, ◌%◌, ◌<◌, ◌≤◌, ◌==◌, Bool, true, false, ◌&&◌, List, [], ◌∷◌, ◌++◌, length, Option, Some, None, if◌then◌else◌, inl, inr, ⊎_elim, refl, sym, ◌∙◌, ap, subst, arith, get_or-set_same}
+use Rattle.std.proofs.Common.{◌≡◌, ◌≢◌, ℕ, ◌+◌, ◌<◌, ◌≤◌, ◌==◌, Bool, true, false, List, [], ◌∷◌, ◌++◌, length, Option, Some, None, if◌then◌else◌, ⊎_elim, refl, sym, ◌∙◌, ap, subst, arith, get_or-set_same}
 use Rattle.std.specs.List.{AllByRecursion}
-use Rattle.std.proofs.lemmas.Bool.{and_parts, both_ways, cond_both, eqb-true}
+use Rattle.std.proofs.lemmas.Bool.{and_parts, both_ways, eqb-true}
 use Rattle.ule_prio.specs.declared.kind.Kind.TheVariants.{Batch}
 use Rattle.ule_score.specs.declared.record.CpuLine.{CpuLine}
 use Rattle.ule_types.specs.declared.event.Entry.{Entry}
 use Rattle.ule_types.specs.declared.event.Event.{Event}
 use Rattle.ule_types.specs.declared.event.Event.TheVariants as event
 use Rattle.ule_model.specs.CalendarIndexes.{distance_of, idx_after_turn}
-use Rattle.ule_model.specs.CalendarPromise.{AllHaveCloseIndexes, ChoosesNoFarther, GoesByOne, HasCalendarPromise, HasCloseIndexes, IsInBucket, IsStretch, JoinsNext, KeepsCalendars, KeepsStretch, goes_next, insertion_advances, is_tick_of, is_turning, lead_of, numbers_on, removal_advances, takes_up, turning_ticks}
+use Rattle.ule_model.specs.CalendarPromise.{AllHaveCloseIndexes, ChoosesNoFarther, GoesByOne, HasCalendarPromise, IsInBucket, IsStretch, JoinsNext, KeepsCalendars, KeepsStretch, goes_next, insertion_advances, is_tick_of, is_turning, lead_of, numbers_on, removal_advances, takes_up, turning_ticks}
 use Rattle.ule_model.specs.Insertion.{members_in}
 use Rattle.ule_model.specs.Legal.{IsEntryOf, IsReplayed, after_entry, replayed}
 use Rattle.ule_model.specs.Step.{step}
@@ -19,8 +19,8 @@ use Rattle.ule_model.specs.World.{Member, Side, World, current_of, fresh_line, s
 use Rattle.ule_members.proofs.CalendarChoices.{entry_picks}
 use Rattle.ule_members.proofs.CalendarPlaces.{filed_found, filed_from, filed_itself, filed_at, filing_of, in_bucket_from, waits_where_filed}
 use Rattle.ule_members.proofs.CalendarRules.{IsClose, Passage, insertion_by_one, lead_after, removal_by_one, stays_nearer, turn_goes_on}
-use Rattle.ule_members.proofs.CalendarSteps.{EntryPasses, IsCalm, entry_calm, entry_passes}
-use Rattle.ule_members.proofs.Membership.{Has, has-filter, has_none, has_thread_of}
+use Rattle.ule_members.proofs.CalendarSteps.{IsCalm, entry_calm, entry_passes}
+use Rattle.ule_members.proofs.Membership.{has-filter, has_none, has_thread_of}
 use Rattle.ule_members.proofs.Steps.{step_leaves_rest}
 use Rattle.ule_members.proofs.Within.{all_back, all_front}
 use Rattle.ule_model.specs.Places.{waits_in}

@@ -10,5 +10,6 @@ pub mod Forks
 pub mod Parents
 pub mod Keeping
 pub mod Finishing
+pub mod PromiseLaws
 pub mod HistoryLaws
 pub mod LateSwitchLaws
