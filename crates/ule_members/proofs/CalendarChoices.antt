@@ -88,7 +88,8 @@ least_no_later ridx m n [] found has = absurd has
 least_no_later ridx m n (x ∷ xs) found has =
     at_least (λ y some there. least_no_later ridx y n xs some there) (least ridx xs) refl (same_Some (sooner ridx x (least ridx xs)) m found) has
   where
-    at_least : ((y : Member) → least ridx xs ≡ Some y → Has n xs → IsNoLater (turn_of ridx y) (turn_of ridx n)) → (o : Option Member) → least ridx xs ≡ o → sooner ridx x o ≡ m → Has n (x ∷ xs) → IsNoLater (turn_of ridx m) (turn_of ridx n)
+    at_least : ((y : Member) → least ridx xs ≡ Some y → Has n xs → IsNoLater (turn_of ridx y) (turn_of ridx n)) → (o : Option Member) → least ridx xs ≡ o →
+        sooner ridx x o ≡ m → Has n (x ∷ xs) → IsNoLater (turn_of ridx m) (turn_of ridx n)
     at_least later None none is (inl here) = subst (λ (z : Member). IsNoLater (turn_of ridx m) (turn_of ridx z)) (sym is ∙ here) (no_later_itself (turn_of ridx m))
     at_least later None none is (inr there) = absurd (nowhere xs none there)
       where
@@ -220,11 +221,14 @@ StepPicks c b w worker e now r =
     (s : Side) (u a : ℕ) → choosing_side c w e now ≡ Some s → chosen_by r ≡ Some u → IsInBucket c a u s.members → distance_of s.line.ridx a ≤ distance_of s.line.ridx b
 
 -- what the side of one CPU says, where the event is one of it
-picks_here : (c d b : ℕ) (g : Side) (r : Reply) → (c ≡ d → (u a : ℕ) → chosen_by r ≡ Some u → IsInBucket c a u g.members → distance_of g.line.ridx a ≤ distance_of g.line.ridx b) →
-    (s : Side) (u a : ℕ) → (if c == d then Some g else None) ≡ Some s → chosen_by r ≡ Some u → IsInBucket c a u s.members → distance_of s.line.ridx a ≤ distance_of s.line.ridx b
+picks_here : (c d b : ℕ) (g : Side) (r : Reply) →
+    (c ≡ d → (u a : ℕ) → chosen_by r ≡ Some u → IsInBucket c a u g.members → distance_of g.line.ridx a ≤ distance_of g.line.ridx b) →
+    (s : Side) (u a : ℕ) → (if c == d then Some g else None) ≡ Some s → chosen_by r ≡ Some u → IsInBucket c a u s.members →
+    distance_of s.line.ridx a ≤ distance_of s.line.ridx b
 picks_here c d b g r picks s u a = split (c == d) refl
   where
-    split : (e : Bool) → (c == d) ≡ e → (if e then Some g else None) ≡ Some s → chosen_by r ≡ Some u → IsInBucket c a u s.members → distance_of s.line.ridx a ≤ distance_of s.line.ridx b
+    split : (e : Bool) → (c == d) ≡ e → (if e then Some g else None) ≡ Some s → chosen_by r ≡ Some u → IsInBucket c a u s.members →
+        distance_of s.line.ridx a ≤ distance_of s.line.ridx b
     split true is same =
         subst (λ (x : Side). chosen_by r ≡ Some u → IsInBucket c a u x.members → distance_of x.line.ridx a ≤ distance_of x.line.ridx b) (same_Some g s same)
         (picks (eqb-true c d is) u a)
@@ -235,7 +239,8 @@ module _ (c t b : ℕ) (w : World) (calm : IsCalm w) (stands : filing_of c w.mem
   pub step_picks : (worker : ℕ) (e : Event) (now : ℕ) → StepPicks c b w worker e now (step w worker e now).1
   step_picks worker (event.Switch d why) now =
       picks_here c d b (side_of_switch (current_of c w.members) c why now (side_of c w)) (switched d why now (side_of d w)).1
-      (λ same. subst (λ (x : ℕ). PicksFrom c now t b (side_of c w) (calm.close c) calm.finds stands (side_of_switch (current_of c w.members) c why now (side_of c w)) (switched x why now (side_of x w)).1) same
+      (λ same. subst (λ (x : ℕ). PicksFrom c now t b (side_of c w) (calm.close c) calm.finds stands
+      (side_of_switch (current_of c w.members) c why now (side_of c w)) (switched x why now (side_of x w)).1) same
       (switch_picks c now t b (side_of c w) (calm.close c) calm.finds stands why))
   step_picks worker (event.Drop d channel) now =
       picks_here c d b (side_of c w) (dropped d worker now (side_of d w)).1

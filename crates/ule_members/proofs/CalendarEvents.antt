@@ -49,15 +49,23 @@ nobody_joins how c u i r f n same still alike = record {
 }
 
 module _ (worker now : ℕ) (e : Event) (c : ℕ) (s : Side) (close : IsClose s.line.idx s.line.ridx (filing_of c s.members)) (finds : FindsEach s.members) where
+  -- whether an event that answered so is_taken a thread up
+  abbrev is_taken : Reply → ℕ → Bool
+  is_taken r t = takes_up t (entry_by worker e now r)
+
+  -- whether a thread goes next by an event that answered so
+  abbrev is_next : Reply → ℕ → Bool
+  is_next r t = goes_next t (entry_by worker e now r)
+
   -- what an event of CPU c made of its calendar, where it answered so
   abbrev pub Passes : Side × Reply → Type 0
-  Passes done = SidePassage (λ t. takes_up t (entry_by worker e now done.1)) (λ t. goes_next t (entry_by worker e now done.1)) c s done.0
+  Passes done = SidePassage (is_taken done.1) (is_next done.1) c s done.0
 
   -- nothing joins, leaves or turns
   pub left_alone : (done : Side × Reply) → done.0.line.idx ≡ s.line.idx → done.0.line.ridx ≡ s.line.ridx →
       ((t : ℕ) → filing_of c done.0.members t ≡ filing_of c s.members t) → Passes done
   left_alone done same still alike =
-      unaltered (λ t. takes_up t (entry_by worker e now done.1)) (λ t. goes_next t (entry_by worker e now done.1)) c s close done.0 same still alike
+      unaltered (is_taken done.1) (is_next done.1) c s close done.0 same still alike
 
   -- ---- ticks
 
@@ -116,11 +124,13 @@ module _ (worker now : ℕ) (e : Event) (c : ℕ) (s : Side) (close : IsClose s.
 
       from : (o : Option Member) → current_of c s.members ≡ o → Passes (switched_from o c p now (unmarked s))
       from None found =
-          joined_chose (λ t. takes_up t (entry_by worker e now (switched_from None c p now (unmarked s)).1)) (λ t. goes_next t (entry_by worker e now (switched_from None c p now (unmarked s)).1)) c s close Ordinary 0 (unmarked s) (choosing_next c now (unmarked s)).0 tt
+          joined_chose (is_taken (switched_from None c p now (unmarked s)).1) (is_next (switched_from None c p now (unmarked s)).1) c s close Ordinary
+          0 (unmarked s) (choosing_next c now (unmarked s)).0 tt
           (nobody_joins Ordinary c 0 s.line.idx s.line.ridx (filing_of c s.members) (unmarked s) refl refl (λ t. refl)) (choosing_chose c now (unmarked s) finds)
       from (Some m) found =
           let gave : Side = given_way c p now m.thread.id (unmarked s) in
-          joined_chose (λ t. takes_up t (entry_by worker e now (switched_from (Some m) c p now (unmarked s)).1)) (λ t. goes_next t (entry_by worker e now (switched_from (Some m) c p now (unmarked s)).1)) c s close (insertion_of p) m.thread.id gave (choosing_next c now gave).0 (preempted_next p m.thread.id (choosing_next c now gave).1)
+          joined_chose (is_taken (switched_from (Some m) c p now (unmarked s)).1) (is_next (switched_from (Some m) c p now (unmarked s)).1) c s close (insertion_of p)
+          m.thread.id gave (choosing_next c now gave).0 (preempted_next p m.thread.id (choosing_next c now gave).1)
           (gave_joins p m found) (choosing_chose c now gave (moved_finds (Others c) s.members gave.members finds (gave_moved c now s finds p m found)))
 
       asked : (b : Bool) → Passes (if b then (s, Unmarked) else switched_from (current_of c s.members) c p now (unmarked s))
@@ -141,7 +151,7 @@ module _ (worker now : ℕ) (e : Event) (c : ℕ) (s : Side) (close : IsClose s.
   left_passes : (change : RecordChange) (m : Member) (r : Reply) → current_of c s.members ≡ Some m → Passes ((choosing_next c now (taken worker now change m.thread.id s)).0, r)
   left_passes change m r found =
       let gone : Side = taken worker now change m.thread.id s in
-      joined_chose (λ t. takes_up t (entry_by worker e now r)) (λ t. goes_next t (entry_by worker e now r)) c s close Ordinary m.thread.id gone (choosing_next c now gone).0 tt
+      joined_chose (is_taken r) (is_next r) c s close Ordinary m.thread.id gone (choosing_next c now gone).0 tt
       (nobody_joins Ordinary c m.thread.id s.line.idx s.line.ridx (filing_of c s.members) gone refl refl (taken_alike change m found))
       (choosing_chose c now gone (moved_finds (Others c) s.members gone.members finds (taken_moved c now s finds worker change m found)))
 
@@ -176,7 +186,8 @@ module _ (worker now : ℕ) (e : Event) (c : ℕ) (s : Side) (close : IsClose s.
           queued_joins Ordinary c m.thread.id base (filing_of c s.members)
           (λ u apart. filing_recorded c m.thread.id u (record_after s.settings now (placed c)) s.members (change_number s.settings now (placed c)))
           (ap (filing_of c s.members) (has_thread_of t m s.members found).1 ∙ none) in
-          joined_passes (λ u. takes_up u (entry_by worker e now (landed_with (Some m) c worker now s).1)) (λ u. goes_next u (entry_by worker e now (landed_with (Some m) c worker now s).1)) c s close Ordinary m.thread.id (record next { line = marked_if (is_taking_over m.thread.priority c worker s) next.line }) tt
+          joined_passes (is_taken (landed_with (Some m) c worker now s).1) (is_next (landed_with (Some m) c worker now s).1) c s close Ordinary
+          m.thread.id (record next { line = marked_if (is_taking_over m.thread.priority c worker s) next.line }) tt
           (record { insertion = joins.insertion; removal = joins.removal; kept = joins.kept; came = joins.came })
 
   -- a fork
@@ -276,7 +287,8 @@ module _ (worker now : ℕ) (e : Event) (c : ℕ) (s : Side) (close : IsClose s.
         next t same = or_left (requeues t entry) _ (anew t same)
 
     -- what follows a change of the priority of a thread on the CPU
-    pub followed_passes : (better : Bool) (place : Place) → m.place ≡ place → ((d : ℕ) (k : Kind) (b : ℕ) → place ≡ Queued d k b → d ≡ c) → Passes (followed_at place better c worker renewed noted)
+    pub followed_passes : (better : Bool) (place : Place) → m.place ≡ place → ((d : ℕ) (k : Kind) (b : ℕ) → place ≡ Queued d k b → d ≡ c) →
+        Passes (followed_at place better c worker renewed noted)
     followed_passes true (Queued d k b) is here =
         requeued_passes k b (is ∙ ap (λ (x : ℕ). Queued x k b) (here d k b refl))
     followed_passes false (Queued d k b) is here = only_noted (followed_at (Queued d k b) false c worker renewed noted).1

@@ -242,7 +242,8 @@ module _ (d now : ℕ) (s : Side) (finds : FindsEach s.members) where
           filing_found c m.thread.id m s.members found ∙ ap (filed_at c) is ∙ unfiled c other)
           only
 
-      at_place : (p : Place) (b : Bool) → ((c : ℕ) → c ≢ d → filed_at c place ≡ None) → AreMoved (Others d) s.members (followed_at p b d worker (record m { thread = after_change s.settings change m.thread })
+      at_place : (p : Place) (b : Bool) → ((c : ℕ) → c ≢ d → filed_at c place ≡ None) →
+          AreMoved (Others d) s.members (followed_at p b d worker (record m { thread = after_change s.settings change m.thread })
           (record s { members = with_record m.thread.id (after_change s.settings change) s.members })).0.members
       at_place (Queued e k b) true unfiled = anew unfiled
       at_place (Queued e k b) false unfiled = only

@@ -153,7 +153,8 @@ module _ (c : ℕ) (m : Member) (s : Side) (finds : FindsEach s.members) (found 
       unfiled j none is t a there =
           without_other m.thread.id t (filing_of c s.members)
           (λ same. none-some a
-          (sym (ap (filing_of c s.members) same ∙ filing_found c m.thread.id m s.members found ∙ ap (filed_at c) is ∙ cond-true (c == c) (filed_in j b) None (eq-eqb c c refl) ∙ none) ∙ there)) ∙
+          (sym (ap (filing_of c s.members) same ∙ filing_found c m.thread.id m s.members found ∙ ap (filed_at c) is ∙
+          cond-true (c == c) (filed_in j b) None (eq-eqb c c refl) ∙ none) ∙ there)) ∙
           there
 
       of_kind : (j : Kind) → m.place ≡ Queued c j b → RuleAt (after_queue_removal j c s.line (others m.thread.id s.members))

@@ -65,8 +65,10 @@ module _ (w : World) (e : Entry) (calm : IsCalm w) (is : IsEntryOf w e) (c : ℕ
   pub entry_by_one : GoesByOne c w e
   unfolding passage
   entry_by_one = record {
-    insertion = insertion_by_one (numbers_on c w).idx (numbers_on c w).ridx (numbers_on c (after_entry w e)).idx (numbers_on c (after_entry w e)).ridx (filing_of c w.members) passage.between (calm.close c) passage.rule;
-    removal = removal_by_one (numbers_on c w).idx (numbers_on c w).ridx (numbers_on c (after_entry w e)).idx (numbers_on c (after_entry w e)).ridx (filing_of c w.members) passage.between (calm.close c) passage.rule;
+    insertion = insertion_by_one (numbers_on c w).idx (numbers_on c w).ridx (numbers_on c (after_entry w e)).idx (numbers_on c (after_entry w e)).ridx
+        (filing_of c w.members) passage.between (calm.close c) passage.rule;
+    removal = removal_by_one (numbers_on c w).idx (numbers_on c w).ridx (numbers_on c (after_entry w e)).idx (numbers_on c (after_entry w e)).ridx
+        (filing_of c w.members) passage.between (calm.close c) passage.rule;
   }
 
   -- while the indexes differ, none joins the bucket at the removal index but one that goes next

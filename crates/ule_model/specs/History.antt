@@ -1,9 +1,8 @@
 -- What the history of rounds is: a legal and whole history of its setup's scripts.
-use Rattle.std.specs.Prelude.{◌≡◌, ◌≢◌, ℕ, ◌<◌, ◌≤◌, ◌⊎◌, List, [], ◌∷◌, length, slice_get, Some, None}
+use Rattle.std.specs.Prelude.{◌≡◌, ◌≢◌, ℕ, ◌<◌, ◌≤◌, ◌⊎◌, length, slice_get, Some, None}
 use Rattle.std.specs.List.{AllByRecursion}
 use Rattle.ule_score.specs.Bounds.{KeepsBounds}
 use Rattle.ule_types.specs.Form.{IsOfForm}
-use Rattle.ule_types.specs.declared.event.Entry.{Entry}
 use Rattle.ule_types.specs.declared.setup.Setup.{Setup}
 use Rattle.ule_model.specs.CalendarPromise.{HasCalendarPromise}
 use Rattle.ule_model.specs.Ends.{end_time, end_world}

@@ -1,8 +1,7 @@
 -- Each legal history keeps the calendar promise: it begins calm, and each tick in it is of a CPU that is there.
-use Rattle.std.proofs.Common.{◌≡◌, ℕ, ◌+◌, ◌<◌, ◌==◌, Bool, true, false, List, [], ◌∷◌, map, filter, Option, Some, None, refl, sym, ◌∙◌, ap, subst}
+use Rattle.std.proofs.Common.{◌≡◌, ℕ, ◌+◌, ◌<◌, ◌==◌, true, false, List, [], ◌∷◌, map, Option, Some, None, refl, sym, ◌∙◌, subst}
 use Rattle.std.specs.List.{AllByRecursion}
 use Rattle.std.proofs.lemmas.Bool.{both_ways, eq-eqb, eqb-true}
-use Rattle.std.proofs.lemmas.Option.{none-some, same_Some}
 use Rattle.ule_types.specs.declared.command.Command.{Command}
 use Rattle.ule_types.specs.declared.event.Entry.{Entry}
 use Rattle.ule_types.specs.declared.event.Item.{Item}
@@ -11,7 +10,7 @@ use Rattle.ule_types.specs.declared.event.Reply.{Reply}
 use Rattle.ule_types.specs.declared.setup.Setup.{Setup}
 use Rattle.ule_types.specs.declared.stage.Stage.{Stage}
 use Rattle.ule_types.specs.declared.stage.Stage.TheVariants as stage
-use Rattle.ule_model.specs.CalendarPromise.{HasCalendarPromise, HistoriesKeepTheCalendarPromise, is_tick_of}
+use Rattle.ule_model.specs.CalendarPromise.{HistoriesKeepTheCalendarPromise, is_tick_of}
 use Rattle.ule_model.specs.Legal.{BeginsProgram, IsLegal, Performs, Timed, acts, advances, entries_of, opening_of, stays}
 use Rattle.ule_model.specs.Program.{Course, Own, begun, item_at, next_in, next_of, next_step, or_else, stepped, told_last}
 use Rattle.ule_model.specs.Start.{world_at_start}
