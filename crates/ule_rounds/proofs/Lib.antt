@@ -13,3 +13,4 @@ pub mod Finishing
 pub mod PromiseLaws
 pub mod HistoryLaws
 pub mod LateSwitchLaws
+pub mod NearerThreadLaws
