@@ -20,3 +20,12 @@ pub mod Parents
 pub mod Setups
 pub mod Starts
 pub mod Unborn
+pub mod CalendarPlaces
+pub mod CalendarRules
+pub mod CalendarMoves
+pub mod CalendarParts
+pub mod CalendarEvents
+pub mod CalendarSteps
+pub mod CalendarChoices
+pub mod CalendarStretches
+pub mod CalendarStarts

@@ -115,7 +115,7 @@ queued_between how c now change m s v =
     rest = ap (others m.thread.id) (recorded_between s.settings now change m s.members v) ∙ others_between m.thread.id v.before n v.after v.lacks_before number v.lacks_after
 
 -- a calendar's insertion bucket is one that there is
-calendar_bucket_small : (idx ridx p : ℕ) → calendar_bucket idx ridx p < 64
+pub calendar_bucket_small : (idx ridx p : ℕ) → calendar_bucket idx ridx p < 64
 calendar_bucket_small idx ridx p = step (not (ridx == idx) && ((reach_of p + idx) % 64 == ridx))
   where
     step : (d : Bool) → (if d then ((reach_of p + idx) % 64 + 63) % 64 else (reach_of p + idx) % 64) < 64

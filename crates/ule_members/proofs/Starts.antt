@@ -317,7 +317,7 @@ unborn_once cpus settings ids w t small new so_far =
     (made_with_new (unborn_record t) w.members fresh.1 (ap (λ us. is_among us t) so_far.ids_are ∙ new) so_far.made.members) so_far
 
 -- what holds of the numbers so far and the world after each thread that is put, holds after all of them
-put_all : {X : Type 0} (number : X → ℕ) (put : World → X → World) (K : List ℕ → World → Type 0) (Good : X → Type 0) →
+pub put_all : {X : Type 0} (number : X → ℕ) (put : World → X → World) (K : List ℕ → World → Type 0) (Good : X → Type 0) →
     ((ids : List ℕ) (w : World) (x : X) → Good x → is_among ids (number x) ≡ false → K ids w → K (ids ++ number x ∷ []) (put w x)) →
     (ids : List ℕ) (w : World) (xs : List X) → AllByRecursion Good xs → is_distinct (ids ++ map number xs) ≡ true → K ids w → K (ids ++ map number xs) (fold put w xs)
 put_all number put K Good once ids w [] good distinct so_far = subst (λ us. K us w) (sym (append-nil ids)) so_far

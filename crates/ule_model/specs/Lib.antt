@@ -28,4 +28,6 @@ pub mod Frames
 pub mod LockValue
 pub mod LockConditions
 pub mod WorldValue
+pub mod Throughout
+pub mod CalendarPromise
 pub mod History

@@ -6,7 +6,7 @@ use Rattle.std.proofs.lemmas.List.{append-nil}
 use Rattle.std.proofs.lemmas.List.Elements.{filter-append}
 use Rattle.ule_types.specs.declared.event.Entry.{Entry}
 use Rattle.ule_model.specs.Events.{locks_of}
-use Rattle.ule_model.specs.History.{HoldsThroughout}
+use Rattle.ule_model.specs.Throughout.{HoldsThroughout}
 use Rattle.ule_model.specs.Legal.{Locked, IsEntryOf, IsReplayed, IsInTime, Timed, after_entry, entries_of, replayed, share, with_locks}
 use Rattle.ule_model.specs.World.{World}
 use Rattle.ule_members.proofs.Within.{all-append}

@@ -24,6 +24,7 @@ use Rattle.ule_rounds.proofs.Hands.{hand_at, held_in_hand}
 use Rattle.ule_rounds.proofs.Keeping.{IsUnderWay, ids_in, under_way_opening, under_way_turn}
 use Rattle.ule_rounds.proofs.LegalLaws.{IsLegalSoFar, StandsAt}
 use Rattle.ule_rounds.proofs.Plays.{all_time, opening_left, sum_none}
+use Rattle.ule_rounds.proofs.PromiseLaws.{legal_promise}
 use Rattle.ule_rounds.proofs.RoundsLaws.{IsFinished, rounds_keep}
 
 -- ---- the history
@@ -100,8 +101,9 @@ hands_empty s p kept ended = all_from_has (λ m. hand_of m.place ≡ None) p.wor
 pub history_of : (s : Setup) (p : Play) → IsUnderWay s p → ((worker : ℕ) → IsFinished p worker) → IsHistoryOf s p
 history_of s p kept ended =
     let time : p.now ≡ end_time s.scripts = omega (arith, kept.time, no_time_left s p kept ended) in
+    let legal : IsLegal s s.scripts p.entries = legal_from_so_far s p kept.legal (le_of_eq time) in
     record {
-      legal = legal_from_so_far s p kept.legal (le_of_eq time);
+      legal = legal;
       whole = whole_from_finished s p kept.legal ended;
       world = kept.legal.world;
       time = time;
@@ -109,6 +111,7 @@ history_of s p kept ended =
       bounds = kept.all_bounds;
       made = kept.all_made;
       hands = hands_empty s p kept ended;
+      promise = legal_promise s s.scripts p.entries legal;
     }
 
 -- every play of rounds is under way

@@ -19,7 +19,8 @@ use Rattle.ule_model.specs.Conditions.{IsPossible}
 use Rattle.ule_model.specs.Ends.{end_time}
 use Rattle.ule_model.specs.Events.{handling, is_reached, is_ready, names_cpus, sought_by}
 use Rattle.ule_model.specs.Frames.{LeavesRest, thread_in_hand}
-use Rattle.ule_model.specs.History.{HoldsThroughout, KeepsRecords}
+use Rattle.ule_model.specs.History.{KeepsRecords}
+use Rattle.ule_model.specs.Throughout.{HoldsThroughout}
 use Rattle.ule_model.specs.Legal.{after_entry}
 use Rattle.ule_model.specs.Places.{is_hand_of, is_number}
 use Rattle.ule_model.specs.Program.{Course, in_hand, item_at, next_step}

@@ -10,5 +10,7 @@ pub mod Forks
 pub mod Parents
 pub mod Keeping
 pub mod Finishing
+pub mod PromiseLaws
 pub mod HistoryLaws
 pub mod LateSwitchLaws
+pub mod NearerThreadLaws

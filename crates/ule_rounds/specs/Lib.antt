@@ -1,1 +1,2 @@
 pub mod LateSwitch
+pub mod NearerThread

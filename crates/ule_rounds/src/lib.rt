@@ -1,10 +1,13 @@
 //! The laws of the rounds: what holds of the history of rounds of every setup that a scenario can
-//! spell so far; and an example of a legal history that no rounds make. Each law is the contract
-//! of a function that does nothing.
+//! spell so far; what every legal history keeps of the batch calendars, with an example; and an
+//! example of a legal history that no rounds make. Each law is the contract of a function that does
+//! nothing.
 #![tactic(auto)]
 
 pub use history::{rounds_are_legal, rounds_go_on};
 pub use late_switch::late_switch_is_legal;
+pub use promise::{histories_keep_the_calendar_promise, thread_comes_nearer};
 
 pub mod history;
 pub mod late_switch;
+pub mod promise;

@@ -1,0 +1,234 @@
+-- What the rules of the two indexes keep, of any indexes and any threads in the buckets of a calendar.
+use Rattle.std.proofs.Common.{◌≡◌, ◌≢◌, ℕ, ◌+◌, ◌%◌, ◌<◌, ◌≤◌, ◌==◌, Bool, true, false, not, cond, ◌&&◌, Some, ◌⊎◌, inl, inr, ⊎_elim, refl, sym, ◌∙◌, ap, subst, arith}
+use Rattle.std.proofs.lemmas.Bool.{both_ways, eqb-false, eqb-true}
+use Rattle.ule_model.specs.CalendarIndexes.{calendar_bucket, distance_of, idx_after_turn, reach_of, ridx_after_removal, ridx_after_turn}
+use Rattle.ule_members.proofs.CalendarPlaces.{Filing}
+
+-- ---- what an event makes of a calendar
+
+-- whether a bucket is empty, of the threads that are filed so
+pub record Tells (empty : Bool) (b : ℕ) (g : Filing) : Type 0 where
+  pub some : empty ≡ false → (t : ℕ) × (g t ≡ Some b)
+  pub none : (t : ℕ) → g t ≡ Some b → empty ≡ false
+
+-- each thread that is filed in the first is filed so in the second
+abbrev pub IsWithin : Filing → Filing → Type 0
+IsWithin f g = (t b : ℕ) → f t ≡ Some b → g t ≡ Some b
+
+-- the indexes i and r become j and q by one of the rules, which looks at the threads filed by g; f were filed before
+pub data IndexRule (i r j q : ℕ) (f g : Filing) : Type 0 where
+  stays : j ≡ i → q ≡ r → IsWithin f g → IndexRule i r j q f g
+  removes : (empty : Bool) → Tells empty r g → j ≡ i → q ≡ ridx_after_removal i r empty → IndexRule i r j q f g
+  turns : (empty : Bool) → Tells empty r g → IsWithin f g → j ≡ idx_after_turn i r → q ≡ ridx_after_turn i r empty → IndexRule i r j q f g
+
+-- an event makes j and q of the indexes i and r, and h of the threads filed by f; it takes some up, and some go next
+pub record Passage (taken next : ℕ → Bool) (i r j q : ℕ) (f h : Filing) : Type 0 where
+  pub between : Filing
+  pub rule : IndexRule i r j q f between
+  pub kept : IsWithin between h
+  pub stood : (t b : ℕ) → f t ≡ Some b → h t ≡ Some b → taken t ≡ false → between t ≡ Some b
+  pub came : (t b : ℕ) → h t ≡ Some b → (f t ≡ Some b) ⊎ ((b < 64) × (i ≢ r → b ≡ r → next t ≡ true))
+
+-- what every calendar keeps: its indexes and buckets are there, and the insertion index is one ahead at most, where the
+-- bucket at the removal index has a thread
+pub record IsClose (i r : ℕ) (f : Filing) : Type 0 where
+  pub insertion : i < 64
+  pub removal : r < 64
+  pub lead : distance_of r i ≤ 1
+  pub some : distance_of r i ≡ 1 → (t : ℕ) × (f t ≡ Some r)
+  pub filed : (t b : ℕ) → f t ≡ Some b → b < 64
+
+-- ---- a round of 64 buckets
+
+-- an index that goes on, or doesn't, goes by one at most
+goes_by_one : (i : ℕ) (goes : Bool) → i < 64 → distance_of i (cond goes ((i + 1) % 64) i) ≤ 1
+goes_by_one i true below = omega arith
+goes_by_one i false below = omega arith
+
+-- an index that goes on, or doesn't, is that of a bucket
+goes_within : (i : ℕ) (goes : Bool) → i < 64 → cond goes ((i + 1) % 64) i < 64
+goes_within i true below = omega arith
+goes_within i false below = omega arith
+
+-- it comes nearer to every bucket but the one that it leaves
+goes_nearer : (i b : ℕ) (goes : Bool) → i < 64 → b < 64 → (b ≡ i → goes ≡ false) →
+    distance_of (cond goes ((i + 1) % 64) i) b + distance_of i (cond goes ((i + 1) % 64) i) ≡ distance_of i b
+goes_nearer i b true below within still =
+    let apart : b ≢ i = λ here. both_ways true (still here) refl in
+    omega arith
+goes_nearer i b false below within still = omega arith
+
+-- a bucket that is not the one at the removal index where the indexes differ
+ahead_of_removal : (i r b : ℕ) (same here : Bool) → r < 64 → (r == i) ≡ same → (b == r) ≡ here → i ≢ r → cond (not same && here) ((b + 63) % 64) b ≢ r
+ahead_of_removal i r b true here within es eh apart = absurd (apart (sym (eqb-true r i es)))
+ahead_of_removal i r b false true within es eh apart = let is : b ≡ r = eqb-true b r eh in λ still. omega arith
+ahead_of_removal i r b false false within es eh apart = eqb-false b r eh
+
+-- while the indexes differ, an ordinary insertion is ahead of the removal index
+pub ordinary_is_ahead : (i r p : ℕ) → r < 64 → i ≢ r → calendar_bucket i r p ≢ r
+ordinary_is_ahead i r p within apart = ahead_of_removal i r ((reach_of p + i) % 64) (r == i) (((reach_of p + i) % 64) == r) within refl refl apart
+
+-- the removal index after a turn goes on from itself, since it goes only where the indexes are equal
+turned_from : (i r : ℕ) (same empty : Bool) → (i == r) ≡ same → cond (same && empty) ((i + 1) % 64) r ≡ cond (same && empty) ((r + 1) % 64) r
+turned_from i r true true es = ap (λ n. (n + 1) % 64) (eqb-true i r es)
+turned_from i r true false es = refl
+turned_from i r false empty es = refl
+
+-- ---- how far the indexes go
+
+module _ (i r j q : ℕ) (f g : Filing) (close : IsClose i r f) where
+  -- the insertion index goes on by one at most
+  pub insertion_by_one : IndexRule i r j q f g → distance_of i j ≤ 1
+  insertion_by_one (stays same still within) = let below = close.insertion in omega arith
+  insertion_by_one (removes empty tells same to) = let below = close.insertion in omega arith
+  insertion_by_one (turns empty tells within to also) = subst (λ n. distance_of i n ≤ 1) (sym to) (goes_by_one i (i == r) close.insertion)
+
+  -- the removal index goes on by one at most
+  pub removal_by_one : IndexRule i r j q f g → distance_of r q ≤ 1
+  removal_by_one (stays same still within) = let below = close.removal in omega arith
+  removal_by_one (removes empty tells same to) = subst (λ n. distance_of r n ≤ 1) (sym to) (goes_by_one r (not (i == r) && empty) close.removal)
+  removal_by_one (turns empty tells within to also) =
+      subst (λ n. distance_of r n ≤ 1) (sym (also ∙ turned_from i r (i == r) empty refl)) (goes_by_one r ((i == r) && empty) close.removal)
+
+  -- both stay those of buckets
+  pub indexes_within : IndexRule i r j q f g → (j < 64) × (q < 64)
+  indexes_within (stays same still within) = (subst (λ n. n < 64) (sym same) close.insertion, subst (λ n. n < 64) (sym still) close.removal)
+  indexes_within (removes empty tells same to) =
+      (subst (λ n. n < 64) (sym same) close.insertion, subst (λ n. n < 64) (sym to) (goes_within r (not (i == r) && empty) close.removal))
+  indexes_within (turns empty tells within to also) = (
+    subst (λ n. n < 64) (sym to) (goes_within i (i == r) close.insertion),
+    subst (λ n. n < 64) (sym (also ∙ turned_from i r (i == r) empty refl)) (goes_within r ((i == r) && empty) close.removal),
+  )
+
+  -- a bucket that has a thread is not left at a removal
+  not_left : (empty : Bool) (b : ℕ) → (b ≡ r → empty ≡ false) → b ≡ r → (not (i == r) && empty) ≡ false
+  not_left empty b kept here = split (i == r) (kept here)
+    where
+      split : (same : Bool) → empty ≡ false → (not same && empty) ≡ false
+      split true none = refl
+      split false none = none
+
+  -- a bucket that has a thread is not left at a turn
+  not_left_at_turn : (empty : Bool) (b : ℕ) → (b ≡ r → empty ≡ false) → b ≡ r → ((i == r) && empty) ≡ false
+  not_left_at_turn empty b kept here = split (i == r) (kept here)
+    where
+      split : (same : Bool) → empty ≡ false → (same && empty) ≡ false
+      split true none = none
+      split false none = refl
+
+  -- a bucket that a thread stays in comes nearer by as many buckets as the removal index goes on
+  pub comes_nearer : (t b : ℕ) → b < 64 → IndexRule i r j q f g → g t ≡ Some b → distance_of q b + distance_of r q ≡ distance_of r b
+  comes_nearer t b within (stays same still holds) there = let below = close.removal in omega arith
+  comes_nearer t b within (removes empty tells same to) there =
+      subst (λ n. distance_of n b + distance_of r n ≡ distance_of r b) (sym to)
+      (goes_nearer r b (not (i == r) && empty) close.removal within
+      (not_left empty b (λ here. tells.none t (there ∙ ap (λ (n : ℕ). Some n) here))))
+  comes_nearer t b within (turns empty tells holds to also) there =
+      subst (λ n. distance_of n b + distance_of r n ≡ distance_of r b) (sym (also ∙ turned_from i r (i == r) empty refl))
+      (goes_nearer r b ((i == r) && empty) close.removal within
+      (not_left_at_turn empty b (λ here. tells.none t (there ∙ ap (λ (n : ℕ). Some n) here))))
+
+  -- ---- the indexes stay close
+
+  -- the insertion index is where the removal index is, or one ahead of a bucket that has a thread
+  pub data IsNear : Type 0 where
+    equal : j ≡ q → IsNear
+    ahead : distance_of q j ≡ 1 → (t : ℕ) → g t ≡ Some q → IsNear
+
+  -- where the indexes stay they are near as before
+  near_as_before : j ≡ i → q ≡ r → IsWithin f g → IsNear
+  near_as_before same still within =
+      ⊎_elim
+      (λ (none : distance_of r i ≡ 0). let a = close.insertion in let b = close.removal in equal (omega arith))
+      (λ (one : distance_of r i ≡ 1). let there = close.some one in
+      ahead (omega arith) there.0 (within there.0 r there.1 ∙ ap (λ (n : ℕ). Some n) (sym still)))
+      none_or_one
+    where
+      none_or_one : (distance_of r i ≡ 0) ⊎ (distance_of r i ≡ 1)
+      none_or_one = split (distance_of r i == 0) refl
+        where
+          split : (e : Bool) → (distance_of r i == 0) ≡ e → (distance_of r i ≡ 0) ⊎ (distance_of r i ≡ 1)
+          split true is = inl (eqb-true (distance_of r i) 0 is)
+          split false is = let some = eqb-false (distance_of r i) 0 is in let most = close.lead in inr (omega arith)
+
+  -- after a removal
+  near_after_removal : (empty same : Bool) → (i == r) ≡ same → Tells empty r g → j ≡ i → q ≡ cond (not same && empty) ((r + 1) % 64) r → IsNear
+  near_after_removal empty true is tells stay to = equal (stay ∙ eqb-true i r is ∙ sym to)
+  near_after_removal true false is tells stay to =
+      let apart = eqb-false i r is in let most = close.lead in let a = close.insertion in let b = close.removal in equal (omega arith)
+  near_after_removal false false is tells stay to =
+      let apart = eqb-false i r is in let most = close.lead in let a = close.insertion in let b = close.removal in
+      let there = tells.some refl in
+      ahead (omega arith) there.0 (there.1 ∙ ap (λ (n : ℕ). Some n) (sym to))
+
+  -- after a turn
+  near_after_turn : (empty same : Bool) → (i == r) ≡ same → Tells empty r g → IsWithin f g → j ≡ cond same ((i + 1) % 64) i →
+      q ≡ cond (same && empty) ((i + 1) % 64) r → IsNear
+  near_after_turn true true is tells within to also = equal (to ∙ sym also)
+  near_after_turn false true is tells within to also =
+      let equals = eqb-true i r is in let a = close.insertion in let there = tells.some refl in
+      ahead (omega arith) there.0 (there.1 ∙ ap (λ (n : ℕ). Some n) (sym also))
+  near_after_turn empty false is tells within to also = near_as_before to also within
+
+  -- after each rule
+  pub near_after : IndexRule i r j q f g → IsNear
+  near_after (stays same still within) = near_as_before same still within
+  near_after (removes empty tells same to) = near_after_removal empty (i == r) refl tells same to
+  near_after (turns empty tells within to also) = near_after_turn empty (i == r) refl tells within to also
+
+-- a calendar stays close at every passage
+pub close_after : (taken next : ℕ → Bool) (i r j q : ℕ) (f h : Filing) → IsClose i r f → Passage taken next i r j q f h → IsClose j q h
+close_after taken next i r j q f h close passage = record {
+  insertion = both.0;
+  removal = both.1;
+  lead = lead near;
+  some = some near;
+  filed = λ t b is. ⊎_elim (λ (old : f t ≡ Some b). close.filed t b old) (λ (new : (b < 64) × (i ≢ r → b ≡ r → next t ≡ true)). new.0) (passage.came t b is);
+}
+  where
+    both : (j < 64) × (q < 64)
+    both = indexes_within i r j q f passage.between close passage.rule
+
+    near : IsNear i r j q f passage.between close
+    near = near_after i r j q f passage.between close passage.rule
+
+    lead : IsNear i r j q f passage.between close → distance_of q j ≤ 1
+    lead (equal same) = let below = both.1 in omega arith
+    lead (ahead one t there) = omega arith
+
+    some : IsNear i r j q f passage.between close → distance_of q j ≡ 1 → (t : ℕ) × (h t ≡ Some q)
+    some (equal same) one = let below = both.1 in absurd (omega arith)
+    some (ahead also t there) one = (t, passage.kept t q there)
+
+-- a thread that stays in a bucket comes nearer by as many buckets as the removal index goes on
+pub stays_nearer : (taken next : ℕ → Bool) (i r j q t b : ℕ) (f h : Filing) → IsClose i r f → Passage taken next i r j q f h → f t ≡ Some b → h t ≡ Some b → taken t ≡ false →
+    distance_of q b + distance_of r q ≡ distance_of r b
+stays_nearer taken next i r j q t b f h close passage before after left =
+    comes_nearer i r j q f passage.between close t b (close.filed t b before) passage.rule (passage.stood t b before after left)
+
+-- the lead of the insertion index grows by what that goes on, and falls by what the removal index goes on
+pub lead_after : (i r j q : ℕ) → i < 64 → r < 64 → j < 64 → q < 64 → distance_of r i ≤ 1 → distance_of q j ≤ 1 → distance_of i j ≤ 1 → distance_of r q ≤ 1 →
+    distance_of q j + distance_of r q ≡ distance_of r i + distance_of i j
+lead_after i r j q a b c d one two three four = omega arith
+
+-- a turn that finds the indexes equal brings the insertion index on by one
+pub turn_goes_on : (i r j : ℕ) → i < 64 → i ≡ r → j ≡ idx_after_turn i r → distance_of i j ≡ 1
+turn_goes_on i r j below same to = split (i == r) refl to
+  where
+    split : (e : Bool) → (i == r) ≡ e → j ≡ cond e ((i + 1) % 64) i → distance_of i j ≡ 1
+    split true is to = omega arith
+    split false is to = absurd (eqb-false i r is same)
+
+-- ---- where no CPU is
+
+-- indexes that are both 0 and stay so keep each rule but a turn, which is none then
+pub rule_nowhere : (j q : ℕ) (f g : Filing) → IndexRule 0 0 j q f g → IndexRule 0 0 0 0 f g
+rule_nowhere j q f g (stays same still within) = stays refl refl within
+rule_nowhere j q f g (removes empty tells same to) = removes empty tells refl refl
+rule_nowhere j q f g (turns empty tells within to also) = stays refl refl within
+
+-- a rule from threads among which these are is a rule from these
+pub rule_from : (i r j q : ℕ) (e f g : Filing) → IsWithin e f → IndexRule i r j q f g → IndexRule i r j q e g
+rule_from i r j q e f g among (stays same still within) = stays same still (λ t b is. within t b (among t b is))
+rule_from i r j q e f g among (removes empty tells same to) = removes empty tells same to
+rule_from i r j q e f g among (turns empty tells within to also) = turns empty tells (λ t b is. within t b (among t b is)) to also

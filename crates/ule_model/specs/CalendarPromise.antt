@@ -1,0 +1,279 @@
+-- The calendar promise over histories: how the two indexes of a CPU's batch calendar go round, and how near that
+-- brings a thread that stays queued in it.
+use Rattle.std.specs.Prelude.{◌≡◌, ◌≢◌, ℕ, ◌+◌, ◌≤◌, Bool, true, false, ◌==◌, ◌&&◌, ◌||◌, List, [], ◌∷◌, ◌++◌, Option, Some, None, if◌then◌else◌}
+use Rattle.std.specs.Option.{option_map}
+use Rattle.ule_prio.specs.declared.kind.Kind.TheVariants.{Batch}
+use Rattle.ule_score.specs.declared.place.Place.TheVariants.{Queued}
+use Rattle.ule_score.specs.declared.record.CpuLine.{CpuLine}
+use Rattle.ule_score.specs.declared.record.Why.{Why}
+use Rattle.ule_types.specs.declared.command.Command.{Command}
+use Rattle.ule_types.specs.declared.event.Entry.{Entry}
+use Rattle.ule_types.specs.declared.event.Event.{Event}
+use Rattle.ule_types.specs.declared.event.Event.TheVariants as event
+use Rattle.ule_types.specs.declared.event.Reply.{Reply}
+use Rattle.ule_types.specs.declared.event.Reply.TheVariants.{Ticked, Unmarked, Nothing, Switched, Dropped, Bedded, NotAsleep, Woken, Seen, Landed, Moved, NoneMovable, Changed, NotAllowed, Hatched, Forked, Returned, Exited, Buried, ParentGone}
+use Rattle.ule_types.specs.declared.setup.Setup.{Setup}
+use Rattle.ule_model.specs.CalendarIndexes.{distance_of}
+use Rattle.ule_model.specs.Events.{sought_by}
+use Rattle.ule_model.specs.Insertion.{members_in}
+use Rattle.ule_model.specs.Legal.{IsLegal, after_entry, replayed}
+use Rattle.ule_model.specs.Places.{is_number}
+use Rattle.ule_model.specs.Start.{world_at_start}
+use Rattle.ule_model.specs.Switch.{given_way, is_preemption, unmarked}
+use Rattle.ule_model.specs.Throughout.{HoldsOfEach, HoldsThroughout}
+use Rattle.ule_model.specs.Words.{moved_by}
+use Rattle.ule_model.specs.World.{Member, Side, World, current_of, side_of, thread_of}
+
+-- ---- a calendar in a world
+
+-- the numbers of CPU c
+abbrev pub numbers_on : ℕ → World → CpuLine
+numbers_on c w = (side_of c w).line
+
+-- thread t stands in bucket b of CPU c's calendar, where these are the threads
+abbrev pub IsInBucket : (c b t : ℕ) → List Member → Type 0
+IsInBucket c b t ms = option_map (λ m. m.place) (thread_of t ms) ≡ Some (Queued c Batch b)
+
+-- how far the insertion index of CPU c is ahead of the removal index
+abbrev pub lead_of : CpuLine → ℕ
+lead_of line = distance_of line.ridx line.idx
+
+-- the insertion index is where the removal index is, or one ahead, and then the bucket at the removal index has a thread
+pub record HasCloseIndexes (c : ℕ) (w : World) : Type 0 where
+  pub lead : lead_of (numbers_on c w) ≤ 1
+  pub some : lead_of (numbers_on c w) ≡ 1 → members_in c Batch (numbers_on c w).ridx w.members ≢ []
+
+-- so on each CPU
+abbrev pub AllHaveCloseIndexes : World → Type 0
+AllHaveCloseIndexes w = (c : ℕ) → HasCloseIndexes c w
+
+-- ---- what an entry says of a thread
+
+-- the thread that a reply says was chosen to run next
+abbrev pub chosen_by : Reply → Option ℕ
+chosen_by (Ticked cur due end) = None
+chosen_by Unmarked = None
+chosen_by Nothing = None
+chosen_by (Switched out into preempted) = into
+chosen_by (Dropped out into) = into
+chosen_by Bedded = None
+chosen_by (NotAsleep place) = None
+chosen_by (Woken priority bound last last_run) = None
+chosen_by (Seen load movable low) = None
+chosen_by (Landed kind bucket takes) = None
+chosen_by (Moved t kind bucket takes) = None
+chosen_by (NoneMovable a movable b) = None
+chosen_by (Changed priority requeued marked) = None
+chosen_by (NotAllowed place) = None
+chosen_by Hatched = None
+chosen_by (Forked parent priority) = None
+chosen_by Returned = None
+chosen_by (Exited out into parent run) = into
+chosen_by Buried = None
+chosen_by ParentGone = None
+
+-- the thread that a reply says was preempted
+abbrev pub preempted_by : Reply → Option ℕ
+preempted_by (Ticked cur due end) = None
+preempted_by Unmarked = None
+preempted_by Nothing = None
+preempted_by (Switched out into preempted) = if preempted then out else None
+preempted_by (Dropped out into) = None
+preempted_by Bedded = None
+preempted_by (NotAsleep place) = None
+preempted_by (Woken priority bound last last_run) = None
+preempted_by (Seen load movable low) = None
+preempted_by (Landed kind bucket takes) = None
+preempted_by (Moved t kind bucket takes) = None
+preempted_by (NoneMovable a movable b) = None
+preempted_by (Changed priority requeued marked) = None
+preempted_by (NotAllowed place) = None
+preempted_by Hatched = None
+preempted_by (Forked parent priority) = None
+preempted_by Returned = None
+preempted_by (Exited out into parent run) = None
+preempted_by Buried = None
+preempted_by ParentGone = None
+
+-- whether a reply says that the thread whose priority changed was requeued
+abbrev pub tells_requeued : Reply → Bool
+tells_requeued (Ticked cur due end) = false
+tells_requeued Unmarked = false
+tells_requeued Nothing = false
+tells_requeued (Switched out into preempted) = false
+tells_requeued (Dropped out into) = false
+tells_requeued Bedded = false
+tells_requeued (NotAsleep place) = false
+tells_requeued (Woken priority bound last last_run) = false
+tells_requeued (Seen load movable low) = false
+tells_requeued (Landed kind bucket takes) = false
+tells_requeued (Moved t kind bucket takes) = false
+tells_requeued (NoneMovable a movable b) = false
+tells_requeued (Changed priority requeued marked) = requeued
+tells_requeued (NotAllowed place) = false
+tells_requeued Hatched = false
+tells_requeued (Forked parent priority) = false
+tells_requeued Returned = false
+tells_requeued (Exited out into parent run) = false
+tells_requeued Buried = false
+tells_requeued ParentGone = false
+
+-- the thread that an event lands on a CPU
+abbrev pub landed_by : Event → Option ℕ
+landed_by (event.Tick c) = None
+landed_by (event.Switch c why) = None
+landed_by (event.Drop c channel) = None
+landed_by (event.Bed t channel) = None
+landed_by (event.Wake t) = None
+landed_by (event.Look c) = None
+landed_by (event.Land t c) = Some t
+landed_by (event.Move a b why) = None
+landed_by (event.Lend t p) = None
+landed_by (event.Unlend t) = None
+landed_by (event.Renice t n) = None
+landed_by (event.Hatch t) = None
+landed_by (event.Fork c t) = None
+landed_by (event.Return t) = None
+landed_by (event.Exit c) = None
+landed_by (event.Bury t) = None
+landed_by (event.Inherit t run) = None
+
+-- whether an entry requeued thread t, whose priority it made better
+abbrev pub requeues : ℕ → Entry → Bool
+requeues t e = tells_requeued e.reply && is_number t (sought_by e.event)
+
+-- whether an entry chose thread t, landed it, moved it from one CPU to another, or requeued it
+abbrev pub takes_up : ℕ → Entry → Bool
+takes_up t e = is_number t (chosen_by e.reply) || is_number t (landed_by e.event) || is_number t (moved_by e.reply) || requeues t e
+
+-- whether an entry requeued thread t or preempted it: in a calendar it joins the bucket at the removal index then
+abbrev pub goes_next : ℕ → Entry → Bool
+goes_next t e = requeues t e || is_number t (preempted_by e.reply)
+
+-- ---- what an entry keeps
+
+-- an entry brings the indexes of CPU c on by one bucket at most
+pub record GoesByOne (c : ℕ) (w : World) (e : Entry) : Type 0 where
+  pub insertion : distance_of (numbers_on c w).idx (numbers_on c (after_entry w e)).idx ≤ 1
+  pub removal : distance_of (numbers_on c w).ridx (numbers_on c (after_entry w e)).ridx ≤ 1
+
+-- a thread that an entry brings to the bucket at the removal index of CPU c, while the indexes differ, is one that it
+-- requeued or preempted
+abbrev pub JoinsNext : ℕ → World → Entry → Type 0
+JoinsNext c w e =
+    (numbers_on c w).idx ≢ (numbers_on c w).ridx → (t : ℕ) → (IsInBucket c (numbers_on c w).ridx t w.members → ⊥) →
+    IsInBucket c (numbers_on c w).ridx t (after_entry w e).members → goes_next t e ≡ true
+
+-- what each entry keeps of the calendar of each CPU
+pub record KeepsCalendars (w : World) (e : Entry) : Type 0 where
+  pub by_one : (c : ℕ) → GoesByOne c w e
+  pub joins : (c : ℕ) → JoinsNext c w e
+
+-- ---- how far the indexes go
+
+-- how many buckets the insertion index of CPU c goes on, over these entries
+unfoldable pub insertion_advances : ℕ → World → List Entry → ℕ
+insertion_advances c w [] = 0
+insertion_advances c w (e ∷ es) =
+    distance_of (numbers_on c w).idx (numbers_on c (after_entry w e)).idx + insertion_advances c (after_entry w e) es
+
+-- how many buckets the removal index of CPU c goes on, over these entries
+unfoldable pub removal_advances : ℕ → World → List Entry → ℕ
+removal_advances c w [] = 0
+removal_advances c w (e ∷ es) =
+    distance_of (numbers_on c w).ridx (numbers_on c (after_entry w e)).ridx + removal_advances c (after_entry w e) es
+
+-- whether an event is a tick of CPU c
+abbrev pub is_tick_of : ℕ → Event → Bool
+is_tick_of c (event.Tick d) = c == d
+is_tick_of c (event.Switch d why) = false
+is_tick_of c (event.Drop d channel) = false
+is_tick_of c (event.Bed t channel) = false
+is_tick_of c (event.Wake t) = false
+is_tick_of c (event.Look d) = false
+is_tick_of c (event.Land t d) = false
+is_tick_of c (event.Move a b why) = false
+is_tick_of c (event.Lend t p) = false
+is_tick_of c (event.Unlend t) = false
+is_tick_of c (event.Renice t n) = false
+is_tick_of c (event.Hatch t) = false
+is_tick_of c (event.Fork d t) = false
+is_tick_of c (event.Return t) = false
+is_tick_of c (event.Exit d) = false
+is_tick_of c (event.Bury t) = false
+is_tick_of c (event.Inherit t run) = false
+
+-- whether an entry is a tick of CPU c that finds its indexes equal
+abbrev pub is_turning : ℕ → World → Entry → Bool
+is_turning c w e = is_tick_of c e.event && ((numbers_on c w).idx == (numbers_on c w).ridx)
+
+-- how many of these entries are ticks of CPU c that find its indexes equal
+unfoldable pub turning_ticks : ℕ → World → List Entry → ℕ
+turning_ticks c w [] = 0
+turning_ticks c w (e ∷ es) = (if is_turning c w e then 1 else 0) + turning_ticks c (after_entry w e) es
+
+-- ---- the choice
+
+-- the side of CPU c where this current thread, if there is one, has given way for this reason
+abbrev pub side_of_switch : Option Member → ℕ → Why → ℕ → Side → Side
+side_of_switch None c why now s = unmarked s
+side_of_switch (Some m) c why now s = given_way c (is_preemption why s.line.slice_end) now m.thread.id (unmarked s)
+
+-- the side of CPU c from which an event of the CPU chooses the next thread; a thread that a drop or an exit takes off the
+-- CPU stands in no queue before
+abbrev pub choosing_side : ℕ → World → Event → ℕ → Option Side
+choosing_side c w (event.Switch d why) now =
+    if c == d then Some (side_of_switch (current_of c w.members) c why now (side_of c w)) else None
+choosing_side c w (event.Drop d channel) now = if c == d then Some (side_of c w) else None
+choosing_side c w (event.Exit d) now = if c == d then Some (side_of c w) else None
+choosing_side c w (event.Tick d) now = None
+choosing_side c w (event.Bed t channel) now = None
+choosing_side c w (event.Wake t) now = None
+choosing_side c w (event.Look d) now = None
+choosing_side c w (event.Land t d) now = None
+choosing_side c w (event.Move a b why) now = None
+choosing_side c w (event.Lend t p) now = None
+choosing_side c w (event.Unlend t) now = None
+choosing_side c w (event.Renice t n) now = None
+choosing_side c w (event.Hatch t) now = None
+choosing_side c w (event.Fork d t) now = None
+choosing_side c w (event.Return t) now = None
+choosing_side c w (event.Bury t) now = None
+choosing_side c w (event.Inherit t run) now = None
+
+-- a thread that an entry chose from CPU c's calendar stood there no farther from the removal index than bucket b
+abbrev pub ChoosesNoFarther : (c b : ℕ) → World → Entry → Type 0
+ChoosesNoFarther c b w e =
+    (s : Side) (u a : ℕ) → choosing_side c w e.event e.now ≡ Some s → chosen_by e.reply ≡ Some u → IsInBucket c a u s.members →
+    distance_of s.line.ridx a ≤ distance_of s.line.ridx b
+
+-- ---- a stretch
+
+-- thread t stands in bucket b of CPU c's calendar before and after each of these entries, none of which takes it up
+unfoldable pub IsStretch : (c b t : ℕ) → World → List Entry → Type 0
+IsStretch c b t w [] = IsInBucket c b t w.members
+IsStretch c b t w (e ∷ es) = IsInBucket c b t w.members × (takes_up t e ≡ false) × IsStretch c b t (after_entry w e) es
+
+-- what a stretch of a thread in bucket b of CPU c's calendar keeps: the bucket comes nearer to the removal index by just
+-- as many buckets as that goes on; the insertion index goes on no farther than to the bucket and one more, nor are there
+-- more ticks of the CPU that find both indexes equal; and no thread is chosen from farther away
+pub record KeepsStretch (c b : ℕ) (w : World) (es : List Entry) : Type 0 where
+  pub nearer : distance_of (numbers_on c (replayed w es)).ridx b + removal_advances c w es ≡ distance_of (numbers_on c w).ridx b
+  pub insertions : insertion_advances c w es ≤ distance_of (numbers_on c w).ridx b + 1
+  pub turns : turning_ticks c w es ≤ distance_of (numbers_on c w).ridx b + 1
+  pub within_round : turning_ticks c w es ≤ 64
+  pub choices : HoldsOfEach (ChoosesNoFarther c b) w es
+
+-- ---- the promise
+
+-- what a history that begins with this world keeps of the calendars
+pub record HasCalendarPromise (w : World) (es : List Entry) : Type 0 where
+  pub worlds : HoldsThroughout AllHaveCloseIndexes w es
+  pub entries : HoldsOfEach KeepsCalendars w es
+  pub stretches : (before within after : List Entry) → before ++ within ++ after ≡ es → (c b t : ℕ) →
+      IsStretch c b t (replayed w before) within → KeepsStretch c b (replayed w before) within
+
+-- each legal history of each setup and each list of commands for each worker keeps the calendar promise
+abbrev pub HistoriesKeepTheCalendarPromise : Type 0
+HistoriesKeepTheCalendarPromise =
+    (s : Setup) (lists : List (List Command)) (es : List Entry) → IsLegal s lists es → HasCalendarPromise (world_at_start s) es
