@@ -2,12 +2,11 @@
 use Rattle.std.proofs.Common.{◌≡◌, ◌≢◌, ◌==◌, ℕ, ◌+◌, ◌%◌, ◌<◌, ◌≤◌, Bool, true, false, not, cond, ◌&&◌, Option, Some, IfSome, List, length, arith, refl, sym, subst, ap, ◌∙◌, ⊎_elim}
 use Rattle.std.proofs.lemmas.Bool.{cases_lt, eqb-false, eqb-true}
 use Rattle.ule_model.specs.CalendarIndexes.{calendar_bucket, distance_of, reach_of}
-use Rattle.ule_runq.specs.Runq.{IsFirstFrom, IsRunq, bucket_in, is_empty_at, list_at, without}
+use Rattle.ule_runq.specs.Runq.{IsFirstFrom, IsRunq, bucket_in, is_empty_at, list_at}
 use Rattle.ule_runq.proofs.RunqLaws.{bucket_in-at}
 use Rattle.ule_runq.proofs.Counts.{count_head}
-use Rattle.ule_calendar.specs.Calendar.{AreClose, Dial, IsCalendar, after_removal, turned}
-use Rattle.ule_calendar.specs.Promise.{GoesOn, HasCloseIndexes, IsNearest, KeepsIndexes}
-use Rattle.ule_calendar.proofs.CalendarLaws.{IsCalendar-after_removal}
+use Rattle.ule_calendar.specs.Calendar.{AreClose, Dial, turned}
+use Rattle.ule_calendar.specs.Promise.{GoesOn, HasCloseIndexes, IsNearest}
 
 -- ---- a round of 64
 
@@ -53,10 +52,6 @@ close_indexes d within close = record {
   held = λ one. ⊎_elim (λ (same : d.idx ≡ d.ridx). absurd (omega arith)) (λ ahead. ahead.1) close;
 }
 
--- the indexes of a calendar are close
-pub calendar_close : (d : Dial) → IsCalendar d → HasCloseIndexes d
-calendar_close d k = close_indexes d k.ridx k.close
-
 -- a calendar goes on where its insertion index stays, and its removal index goes on by one at most, from a bucket
 -- that is empty then
 pub goes_on_by : (old new : Dial) (goes : Bool) → old.ridx < 64 → HasCloseIndexes new → new.idx ≡ old.idx →
@@ -72,30 +67,16 @@ goes_on_by old new goes within close idx ridx empty = record {
     stays true b here some none = sym (none refl) ∙ ap (is_empty_at new.lists) (sym here) ∙ some
     stays false b here some none = refl
 
--- a calendar goes on where its indexes stay
-pub goes_on_kept : (old new : Dial) → old.ridx < 64 → HasCloseIndexes new → KeepsIndexes old new → GoesOn old new
-goes_on_kept old new within close same = goes_on_by old new false within close same.0 same.1 (λ e. cc)
-
--- a calendar goes on at a removal
-pub goes_on_removed : (d : Dial) (t : ℕ) → IsCalendar d → GoesOn d (after_removal d t)
-goes_on_removed d t k =
-    let empty : Bool = is_empty_at (without t d.lists) d.ridx in
-    goes_on_by d (after_removal d t) (not (d.idx == d.ridx) && empty) k.ridx (calendar_close _ (IsCalendar-after_removal d t k)) refl refl (both (not (d.idx == d.ridx)) empty)
-  where
-    both : (a b : Bool) → (a && b) ≡ true → b ≡ true
-    both true b is = is
-    both false b is = cc
-
 -- a calendar goes on at a turn
-pub goes_on_turned : (d : Dial) → IsCalendar d → HasCloseIndexes (turned d) → GoesOn d (turned d)
-goes_on_turned d k close =
+pub goes_on_turned : (d : Dial) → d.idx < 64 → d.ridx < 64 → HasCloseIndexes (turned d) → GoesOn d (turned d)
+goes_on_turned d idx_within ridx_within close =
     let empty : Bool = is_empty_at d.lists d.ridx in
     let from = turned_from d.idx d.ridx (d.idx == d.ridx) empty refl in record {
       close = close;
-      idx = steps-le d.idx (d.idx == d.ridx) k.idx;
-      ridx = rw from (steps-le d.ridx ((d.idx == d.ridx) && empty) k.ridx);
+      idx = steps-le d.idx (d.idx == d.ridx) idx_within;
+      ridx = rw from (steps-le d.ridx ((d.idx == d.ridx) && empty) ridx_within);
       nearer = λ b within kept.
-          rw from (nearer_by_steps d.ridx b ((d.idx == d.ridx) && empty) k.ridx within (not_left_at_turn d.lists b d.ridx (d.idx == d.ridx) kept));
+          rw from (nearer_by_steps d.ridx b ((d.idx == d.ridx) && empty) ridx_within within (not_left_at_turn d.lists b d.ridx (d.idx == d.ridx) kept));
     }
 
 -- while the indexes differ, no ordinary insertion joins the bucket at the removal index
