@@ -296,21 +296,18 @@ pub removed_goes_on : (o : Option Kind) (t : ℕ) (v : CpuValue) → HasIndexes 
 removed_goes_on None t v k = drained_goes_on v v k (drained_same (dial_of v))
 removed_goes_on (Some kind) t v k = drained_goes_on v (value_removed kind t v) k (drained_from kind t v)
 
--- a change of a record
-pub changed_goes_on : (t : ℕ) (change : Change) (remote : Bool) (v : CpuValue) → HasIndexes (dial_of v) → CalendarGoesOn v (value_changed t change remote v).0
-changed_goes_on t change remote v k = drained_goes_on v (value_changed t change remote v).0 k (from (thread_in v t))
+-- what follows from a record that was changed
+pub followed_goes_on : (o : Option Kind) (better remote : Bool) (r : ThreadRecord) (v : CpuValue) → HasIndexes (dial_of v) →
+    CalendarGoesOn v (value_followed o better remote r (value_recorded r v)).0
+followed_goes_on o better remote r v k = drained_goes_on v (value_followed o better remote r (value_recorded r v)).0 k (split o better)
   where
-    moved : (kind : Kind) (r : ThreadRecord) → IsDrained (dial_of v) (dial_of (value_requeued remote kind r (value_recorded r v)).0)
-    moved kind r = drained_moved (kind_at r.priority) r.priority r.id (dial_of v) (removed_from kind r.id (value_recorded r v)) k (drained_from kind r.id (value_recorded r v))
+    moved : (kind : Kind) → IsDrained (dial_of v) (dial_of (value_requeued remote kind r (value_recorded r v)).0)
+    moved kind = drained_moved (kind_at r.priority) r.priority r.id (dial_of v) (removed_from kind r.id (value_recorded r v)) k (drained_from kind r.id (value_recorded r v))
 
-    followed : (o : Option Kind) (better : Bool) (r : ThreadRecord) → IsDrained (dial_of v) (dial_of (value_followed o better remote r (value_recorded r v)).0)
-    followed None better r = drained_same (dial_of v)
-    followed (Some kind) true r = moved kind r
-    followed (Some kind) false r = drained_same (dial_of v)
-
-    from : (o : Option ThreadRecord) → IsDrained (dial_of v) (dial_of (value_changed_from o t change remote v).0)
-    from None = drained_same (dial_of v)
-    from (Some r) = followed (kind_queued v t) (nat_lt (after_change v.settings change r).priority r.priority) (after_change v.settings change r)
+    split : (o : Option Kind) (better : Bool) → IsDrained (dial_of v) (dial_of (value_followed o better remote r (value_recorded r v)).0)
+    split None better = drained_same (dial_of v)
+    split (Some kind) true = moved kind
+    split (Some kind) false = drained_same (dial_of v)
 
 -- a fork
 pub forked_goes_on : (now : ℕ) (child : ThreadRecord) (v : CpuValue) → HasIndexes (dial_of v) → CalendarGoesOn v (value_forked now child v).value
