@@ -1,5 +1,5 @@
 -- The calendar promise for each call on a CPU.
-use Rattle.std.proofs.Common.{◌≡◌, ◌≢◌, ◌==◌, ℕ, ◌+◌, ◌%◌, ◌<◌, ◌≤◌, Bool, true, false, not, cond, ◌&&◌, if◌then◌else◌, Option, Some, None, IfSome, List, [], ◌∷◌, length, slice_set, nat_lt, arith, refl, sym, subst, ap, ◌∙◌}
+use Rattle.std.proofs.Common.{◌≡◌, ◌≢◌, ◌==◌, ℕ, ◌+◌, ◌%◌, ◌<◌, ◌≤◌, Bool, true, false, not, cond, ◌&&◌, if◌then◌else◌, Option, Some, None, IfSome, List, [], ◌∷◌, length, slice_set, arith, refl, sym, subst, ap, ◌∙◌}
 use Rattle.std.proofs.lemmas.Bool.{ne_eqb}
 use Rattle.ule_prio.specs.Kind.{kind_at}
 use Rattle.ule_prio.specs.declared.kind.Kind.{Kind}
@@ -12,15 +12,14 @@ use Rattle.ule_calendar.specs.Promise.{ComesNearer, GoesOn, IsNearest}
 use Rattle.ule_calendar.proofs.CalendarLaws.{AreClose-after_removal, AreClose-turned, AreClose-with_head, AreClose-with_tail, goes_round}
 use Rattle.ule_calendar.proofs.PromiseLaws.{close_indexes, goes_on_by, goes_on_turned, ordinary_ahead}
 use Rattle.ule_model.specs.CalendarIndexes.{calendar_bucket, distance_of, reach_of}
-use Rattle.ule_model.specs.CpuChange.{kind_queued, value_changed, value_changed_from, value_followed, value_forked, value_forked_from, value_forked_with, value_recorded, value_removed, value_removed_from, value_requeued}
+use Rattle.ule_model.specs.CpuChange.{value_followed, value_forked, value_forked_from, value_forked_with, value_recorded, value_removed, value_removed_from, value_requeued}
 use Rattle.ule_model.specs.CpuValue.{CpuValue, current_chosen, current_in, first_in, inserted_in, inserted_thread, removed_from, thread_in, value_added, value_clocked, value_laid, value_switched, value_switched_from, value_taken, value_taken_from, value_taken_with, value_ticked, value_ticked_with, chosen_next, with_given_way, with_thread_after, without_current, without_marks}
 use Rattle.ule_model.specs.Insertion.{bucket_of}
 use Rattle.ule_model.specs.declared.insertion.Insertion.{Insertion}
 use Rattle.ule_model.specs.declared.insertion.Insertion.TheVariants.{Ordinary, Borrowing, Preempted}
 use Rattle.ule_model.specs.Switch.{insertion_of, is_preemption, is_unasked, one_more}
 use Rattle.ule_model.specs.Tick.{is_due}
-use Rattle.ule_score.specs.Changes.{RecordChange, after_change, placed_on, ran}
-use Rattle.ule_score.specs.declared.record.Change.{Change}
+use Rattle.ule_score.specs.Changes.{RecordChange, placed_on, ran}
 use Rattle.ule_score.specs.declared.record.ThreadRecord.{ThreadRecord}
 use Rattle.ule_score.specs.declared.record.Why.{Why}
 use Rattle.ule_tdq.specs.Cpu.{KeepsCpu}

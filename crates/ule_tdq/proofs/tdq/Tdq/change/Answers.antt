@@ -1,4 +1,4 @@
-use Rattle.std.proofs.Common.{◌≡◌, Bool, Option, rules, refl}
+use Rattle.std.proofs.Common.{◌≡◌, Option, rules}
 use Rattle.ule_model.specs.CpuChange.{value_followed, value_recorded}
 use Rattle.ule_model.specs.CpuValue.{CpuValue}
 use Rattle.ule_prio.specs.declared.kind.Kind.{Kind}
