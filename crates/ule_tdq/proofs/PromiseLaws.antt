@@ -10,22 +10,22 @@ use Rattle.ule_runq.proofs.RunqLaws.{bucket_in-none, bucket_in_Some, length-with
 use Rattle.ule_calendar.specs.Calendar.{AreClose, Dial, IsCalendar, after_removal, turned}
 use Rattle.ule_calendar.specs.Promise.{ComesNearer, GoesOn, IsNearest}
 use Rattle.ule_calendar.proofs.CalendarLaws.{AreClose-after_removal, AreClose-turned, AreClose-with_head, AreClose-with_tail, goes_round}
-use Rattle.ule_calendar.proofs.PromiseLaws.{close_indexes, goes_on_by, goes_on_turned, ordinary_ahead}
+use Rattle.ule_calendar.proofs.PromiseLaws.{close_indexes, goes_on_by, goes_on_turned}
 use Rattle.ule_model.specs.CalendarIndexes.{calendar_bucket, distance_of, reach_of}
-use Rattle.ule_model.specs.CpuChange.{value_followed, value_forked, value_forked_from, value_forked_with, value_recorded, value_removed, value_removed_from, value_requeued}
-use Rattle.ule_model.specs.CpuValue.{CpuValue, current_chosen, current_in, first_in, inserted_in, inserted_thread, removed_from, thread_in, value_added, value_clocked, value_laid, value_switched, value_switched_from, value_taken, value_taken_from, value_taken_with, value_ticked, value_ticked_with, chosen_next, with_given_way, with_thread_after, without_current, without_marks}
+use Rattle.ule_model.specs.CpuChange.{value_followed, value_recorded, value_removed, value_removed_from, value_requeued}
+use Rattle.ule_model.specs.CpuValue.{CpuValue, current_chosen, current_in, first_in, inserted_in, inserted_thread, removed_from, thread_in, value_clocked, value_laid, value_switched, value_switched_from, value_taken, value_taken_from, value_taken_with, value_ticked, value_ticked_with, chosen_next, with_given_way, with_thread_after, without_current, without_marks}
 use Rattle.ule_model.specs.Insertion.{bucket_of}
 use Rattle.ule_model.specs.declared.insertion.Insertion.{Insertion}
 use Rattle.ule_model.specs.declared.insertion.Insertion.TheVariants.{Ordinary, Borrowing, Preempted}
 use Rattle.ule_model.specs.Switch.{insertion_of, is_preemption, is_unasked, one_more}
 use Rattle.ule_model.specs.Tick.{is_due}
-use Rattle.ule_score.specs.Changes.{RecordChange, placed_on, ran}
+use Rattle.ule_score.specs.Changes.{RecordChange, ran}
 use Rattle.ule_score.specs.declared.record.ThreadRecord.{ThreadRecord}
 use Rattle.ule_score.specs.declared.record.Why.{Why}
 use Rattle.ule_tdq.specs.Cpu.{KeepsCpu}
 use Rattle.ule_tdq.specs.Queues.{QueuesValue, times_in}
 use Rattle.ule_tdq.proofs.CpuLaws.{once_if-le}
-use Rattle.ule_tdq.specs.Promise.{CalendarGoesOn, LeavesNextBucket, dial_of}
+use Rattle.ule_tdq.specs.Promise.{CalendarGoesOn, dial_of}
 use Rattle.ule_types.specs.declared.event.Reply.TheVariants.{Unmarked}
 
 -- ---- calendars
@@ -286,10 +286,6 @@ with_record r v = record v { threads = slice_set v.threads r.id (Some r); load =
 pub laid_goes_on : (r : ThreadRecord) (v : CpuValue) → HasIndexes (dial_of v) → CalendarGoesOn v (value_laid r v)
 laid_goes_on r v k = filed_goes_on v (value_laid r v) k (filed_in (kind_at r.priority) Ordinary r.priority r.id (with_record r v) k.ridx)
 
--- a thread that comes to the CPU
-pub added_goes_on : (r : ThreadRecord) (remote : Bool) (v : CpuValue) → HasIndexes (dial_of v) → CalendarGoesOn v (value_added r remote v)
-added_goes_on r remote v k = filed_goes_on v (value_added r remote v) k (filed_in (kind_at r.priority) Ordinary r.priority r.id (with_record (placed_on v.cpu r) v) k.ridx)
-
 -- a queued thread is taken out
 pub removed_goes_on : (o : Option Kind) (t : ℕ) (v : CpuValue) → HasIndexes (dial_of v) → CalendarGoesOn v (value_removed_from o t v)
 removed_goes_on None t v k = drained_goes_on v v k (drained_same (dial_of v))
@@ -307,18 +303,6 @@ followed_goes_on o better remote r v k = drained_goes_on v (value_followed o bet
     split None better = drained_same (dial_of v)
     split (Some kind) true = moved kind
     split (Some kind) false = drained_same (dial_of v)
-
--- a fork
-pub forked_goes_on : (now : ℕ) (child : ThreadRecord) (v : CpuValue) → HasIndexes (dial_of v) → CalendarGoesOn v (value_forked now child v).value
-forked_goes_on now child v k = drained_goes_on v (value_forked now child v).value k (from v.current)
-  where
-    with : (o : Option ThreadRecord) (t : ℕ) → IsDrained (dial_of v) (dial_of (value_forked_with o t now child v).value)
-    with None t = drained_same (dial_of v)
-    with (Some r) t = drained_same (dial_of v)
-
-    from : (o : Option ℕ) → IsDrained (dial_of v) (dial_of (value_forked_from o now child v).value)
-    from None = drained_same (dial_of v)
-    from (Some t) = with (thread_in v t) t
 
 -- ---- by the value after a call
 
@@ -341,19 +325,3 @@ chosen_nearest v q Real t kept real idle batch there nearest = nowhere_nearest (
     (let place = kept.places t in let most = once_if-le (thread_in v t) in let here : times v.real t ≡ 1 = ap (λ (x : List (List ℕ)). times x t) real ∙ there in omega arith))
 chosen_nearest v q Idle t kept real idle batch there nearest = nowhere_nearest (dial_of v) t (bucket_in-none v.batch t
     (let place = kept.places t in let most = once_if-le (thread_in v t) in let here : times v.idle t ≡ 1 = ap (λ (x : List (List ℕ)). times x t) idle ∙ there in omega arith))
-
--- ---- ordinary insertions
-
--- an ordinary insertion leaves the bucket at the removal index while the indexes differ
-ordinary_leaves : (kind : Kind) (p t : ℕ) (v : CpuValue) → v.line.ridx < 64 → v.line.idx ≢ v.line.ridx →
-    list_at (inserted_in kind Ordinary (bucket_of kind Ordinary v.line p) t v).batch v.line.ridx ≡ list_at v.batch v.line.ridx
-ordinary_leaves Real p t v within apart = refl
-ordinary_leaves Batch p t v within apart =
-    list_at-with_tail_other v.batch (calendar_bucket v.line.idx v.line.ridx p) t v.line.ridx (λ here. ordinary_ahead v.line.idx v.line.ridx p within apart (sym here))
-ordinary_leaves Idle p t v within apart = refl
-
-pub laid_leaves : (r : ThreadRecord) (v : CpuValue) → HasIndexes (dial_of v) → LeavesNextBucket v (value_laid r v)
-laid_leaves r v k apart = ordinary_leaves (kind_at r.priority) r.priority r.id (with_record r v) k.ridx apart
-
-pub added_leaves : (r : ThreadRecord) (remote : Bool) (v : CpuValue) → HasIndexes (dial_of v) → LeavesNextBucket v (value_added r remote v)
-added_leaves r remote v k apart = ordinary_leaves (kind_at r.priority) r.priority r.id (with_record (placed_on v.cpu r) v) k.ridx apart

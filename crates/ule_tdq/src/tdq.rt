@@ -1,4 +1,4 @@
-ghost use Rattle.std.specs.Prelude.{◌≡◌, ◌≢◌, ℕ, ◌≤◌, ◌<◌, ◌^◌, None, Some, IfOk, IfSome, IsSome, IsTrue};
+ghost use Rattle.std.specs.Prelude.{◌≡◌, ◌≢◌, ℕ, ◌≤◌, ◌<◌, ◌^◌, false, None, Some, IfOk, IfSome, IsSome, IsTrue};
 ghost use Rattle.ule_score.specs.Settings.{are_settings};
 ghost use Rattle.std.specs.Option.{option_map};
 ghost use Rattle.ule_score.specs.Bounds.{KeepsBounds};
@@ -7,7 +7,7 @@ ghost use Rattle.ule_score.specs.Charges.{HasShortRun};
 ghost use Rattle.ule_model.specs.CpuChange.{kind_queued, value_changed, value_followed, value_forked, value_recorded, value_removed_from, value_requeued};
 ghost use Rattle.ule_model.specs.CpuValue.{IsNoEarlier, chosen_next, current_in, takes_over_in, thread_in, value_added, value_clocked, value_laid, value_line, value_place, value_switched, value_taken, value_ticked, value_ticked_with, with_given_way, with_thread_after, without_current, without_marks};
 ghost use Rattle.ule_model.specs.Places.{lock_of};
-ghost use Rattle.ule_model.specs.Switch.{started_reply};
+ghost use Rattle.ule_model.specs.Switch.{is_preemption, started_reply};
 ghost use Rattle.ule_model.specs.CpuStart.{StartsAs};
 ghost use Rattle.ule_model.specs.Insertion.{bucket_of};
 ghost use Rattle.ule_model.specs.declared.insertion.Insertion.TheVariants.{Ordinary};
@@ -158,6 +158,7 @@ impl Tdq {
         requires in_time { IsNoEarlier self.old now }
         ensures value { self.new ≡ (value_switched why now self.old).0 }
         ensures calendar { CalendarGoesOn self.old self.new }
+        ensures ahead { is_preemption why self.old.line.slice_end ≡ false → LeavesNextBucket self.old (when_choosing why now self.old) }
         ensures nearest { IfSome (chosen_by result) (λ t. IsNearest (dial_of (when_choosing why now self.old)) t) }
         ensures reply { reply_of result ≡ (value_switched why now self.old).1 }
         ensures kept { KeepsCpu self.new }
