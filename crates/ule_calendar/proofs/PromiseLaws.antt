@@ -1,9 +1,12 @@
 -- The calendar promise for each single call.
-use Rattle.std.proofs.Common.{◌≡◌, ◌≢◌, ◌==◌, ℕ, ◌+◌, ◌%◌, ◌<◌, ◌≤◌, Bool, true, false, not, cond, ◌&&◌, List, arith, refl, sym, ap, ◌∙◌, ⊎_elim}
-use Rattle.std.proofs.lemmas.Bool.{eqb-false, eqb-true}
-use Rattle.ule_model.specs.CalendarIndexes.{distance_of, reach_of}
-use Rattle.ule_runq.specs.Runq.{is_empty_at, without}
-use Rattle.ule_calendar.specs.Promise.{IndexesAreClose, InsertionsKeepIndexes, OrdinaryIsAhead, RemovalsGoByOne, RemovalsComeNearer, TurnsGoByOne, TurnsComeNearer}
+use Rattle.std.proofs.Common.{◌≡◌, ◌≢◌, ◌==◌, ℕ, ◌+◌, ◌%◌, ◌<◌, ◌≤◌, Bool, true, false, not, cond, ◌&&◌, Option, Some, IfSome, List, length, arith, refl, sym, subst, ap, ◌∙◌, ⊎_elim}
+use Rattle.std.proofs.lemmas.Bool.{cases_lt, eqb-false, eqb-true}
+use Rattle.ule_model.specs.CalendarIndexes.{calendar_bucket, distance_of, reach_of}
+use Rattle.ule_runq.specs.Runq.{IsFirstFrom, IsRunq, bucket_in, is_empty_at, list_at}
+use Rattle.ule_runq.proofs.RunqLaws.{bucket_in-at}
+use Rattle.ule_runq.proofs.Counts.{count_head}
+use Rattle.ule_calendar.specs.Calendar.{AreClose, Dial, turned}
+use Rattle.ule_calendar.specs.Promise.{GoesOn, HasCloseIndexes, IsNearest}
 
 -- ---- a round of 64
 
@@ -28,12 +31,7 @@ ahead_if i r b true here within es eh apart = absurd (apart (sym (eqb-true r i e
 ahead_if i r b false true within es eh apart = let is : b ≡ r = eqb-true b r eh in λ stays. omega arith
 ahead_if i r b false false within es eh apart = eqb-false b r eh
 
--- a bucket that has a thread is not left at a removal
-not_left : (q : List (List ℕ)) (b r : ℕ) (same : Bool) → (b ≡ r → is_empty_at q b ≡ false) → b ≡ r → (not same && is_empty_at q r) ≡ false
-not_left q b r true kept here = refl
-not_left q b r false kept here = ap (is_empty_at q) (sym here) ∙ kept here
-
--- nor at a turn
+-- a bucket that has a thread is not left at a turn
 not_left_at_turn : (q : List (List ℕ)) (b r : ℕ) (same : Bool) → (b ≡ r → is_empty_at q b ≡ false) → b ≡ r → (same && is_empty_at q r) ≡ false
 not_left_at_turn q b r true kept here = ap (is_empty_at q) (sym here) ∙ kept here
 not_left_at_turn q b r false kept here = refl
@@ -44,40 +42,66 @@ turned_from i r true true es = ap (λ n. (n + 1) % 64) (eqb-true i r es)
 turned_from i r true false es = refl
 turned_from i r false empty es = refl
 
--- ---- the laws
+-- ---- what the calls keep
 
-pub indexes_close : IndexesAreClose
-indexes_close d k =
-    let within = k.ridx in (
-      ⊎_elim (λ (same : d.idx ≡ d.ridx). omega arith) (λ (ahead : (d.idx ≡ (d.ridx + 1) % 64) × (is_empty_at d.lists d.ridx ≡ false)). let one = ahead.0 in omega arith) k.close,
-      λ one. ⊎_elim (λ (same : d.idx ≡ d.ridx). absurd (omega arith)) (λ ahead. ahead.1) k.close,
-    )
+-- indexes that are where a calendar has them are close
+pub close_indexes : (d : Dial) → d.ridx < 64 → AreClose d → HasCloseIndexes d
+close_indexes d within close = record {
+  apart =
+      ⊎_elim (λ (same : d.idx ≡ d.ridx). omega arith) (λ (ahead : (d.idx ≡ (d.ridx + 1) % 64) × (is_empty_at d.lists d.ridx ≡ false)). let one = ahead.0 in omega arith) close;
+  held = λ one. ⊎_elim (λ (same : d.idx ≡ d.ridx). absurd (omega arith)) (λ ahead. ahead.1) close;
+}
 
-pub insertions_keep : InsertionsKeepIndexes
-insertions_keep d t p head = ((refl, refl), (refl, refl))
+-- a calendar goes on where its insertion index stays, and its removal index goes on by one at most, from a bucket
+-- that is empty then
+pub goes_on_by : (old new : Dial) (goes : Bool) → old.ridx < 64 → HasCloseIndexes new → new.idx ≡ old.idx →
+    new.ridx ≡ cond goes ((old.ridx + 1) % 64) old.ridx → (goes ≡ true → is_empty_at new.lists old.ridx ≡ true) → GoesOn old new
+goes_on_by old new goes within close idx ridx empty = record {
+  close = close;
+  idx = let same = idx in omega arith;
+  ridx = rw ridx (steps-le old.ridx goes within);
+  nearer = λ b below kept. rw ridx (nearer_by_steps old.ridx b goes within below (λ here. stays goes b here (kept here) empty));
+}
+  where
+    stays : (g : Bool) (b : ℕ) → b ≡ old.ridx → is_empty_at new.lists b ≡ false → (g ≡ true → is_empty_at new.lists old.ridx ≡ true) → g ≡ false
+    stays true b here some none = sym (none refl) ∙ ap (is_empty_at new.lists) (sym here) ∙ some
+    stays false b here some none = refl
 
-pub ordinary_ahead : OrdinaryIsAhead
-ordinary_ahead d p k apart =
-    let b : ℕ = (reach_of p + d.idx) % 64 in
-    ahead_if d.idx d.ridx b (d.ridx == d.idx) (b == d.ridx) k.ridx refl refl apart
-
-pub removals_by_one : RemovalsGoByOne
-removals_by_one d t k = (refl, steps-le d.ridx (not (d.idx == d.ridx) && is_empty_at (without t d.lists) d.ridx) k.ridx)
-
-pub removals_nearer : RemovalsComeNearer
-removals_nearer d t b k within kept =
-    nearer_by_steps d.ridx b (not (d.idx == d.ridx) && is_empty_at (without t d.lists) d.ridx) k.ridx within
-    (not_left (without t d.lists) b d.ridx (d.idx == d.ridx) kept)
-
-pub turns_by_one : TurnsGoByOne
-turns_by_one d k =
-    let empty : Bool = is_empty_at d.lists d.ridx in (
-      steps-le d.idx (d.idx == d.ridx) k.idx,
-      rw (turned_from d.idx d.ridx (d.idx == d.ridx) empty refl) (steps-le d.ridx ((d.idx == d.ridx) && empty) k.ridx),
-    )
-
-pub turns_nearer : TurnsComeNearer
-turns_nearer d b k within kept =
+-- a calendar goes on at a turn
+pub goes_on_turned : (d : Dial) → d.idx < 64 → d.ridx < 64 → HasCloseIndexes (turned d) → GoesOn d (turned d)
+goes_on_turned d idx_within ridx_within close =
     let empty : Bool = is_empty_at d.lists d.ridx in
-    rw (turned_from d.idx d.ridx (d.idx == d.ridx) empty refl)
-    (nearer_by_steps d.ridx b ((d.idx == d.ridx) && empty) k.ridx within (not_left_at_turn d.lists b d.ridx (d.idx == d.ridx) kept))
+    let from = turned_from d.idx d.ridx (d.idx == d.ridx) empty refl in record {
+      close = close;
+      idx = steps-le d.idx (d.idx == d.ridx) idx_within;
+      ridx = rw from (steps-le d.ridx ((d.idx == d.ridx) && empty) ridx_within);
+      nearer = λ b within kept.
+          rw from (nearer_by_steps d.ridx b ((d.idx == d.ridx) && empty) ridx_within within (not_left_at_turn d.lists b d.ridx (d.idx == d.ridx) kept));
+    }
+
+-- while the indexes differ, no ordinary insertion joins the bucket at the removal index
+pub ordinary_ahead : (i r p : ℕ) → r < 64 → i ≢ r → calendar_bucket i r p ≢ r
+ordinary_ahead i r p within apart =
+    let b : ℕ = (reach_of p + i) % 64 in
+    ahead_if i r b (r == i) (b == r) within refl refl apart
+
+-- ---- the thread that is chosen
+
+-- the first thread from the removal index on is a nearest one
+pub nearest_first : (d : Dial) (b t : ℕ) → IsRunq d.lists → IsFirstFrom d.lists d.ridx b t → IsNearest d t
+nearest_first d b t whole first =
+    subst (λ (o : Option ℕ). IfSome o (λ (a : ℕ). (c : ℕ) → c < 64 → is_empty_at d.lists c ≡ false → distance_of d.ridx a ≤ distance_of d.ridx c))
+    (sym here) nearer
+  where
+    here : bucket_in d.lists t ≡ Some b
+    here =
+        let size = whole.buckets in let within = first.bucket in
+        bucket_in-at d.lists t b (whole.once t) (omega arith) (let one = count_head t (list_at d.lists b) first.head in omega arith)
+
+    nearer : (c : ℕ) → c < 64 → is_empty_at d.lists c ≡ false → distance_of d.ridx b ≤ distance_of d.ridx c
+    nearer c within some =
+        ⊎_elim
+        (λ (less : distance_of d.ridx c < distance_of d.ridx b).
+        let empty : is_empty_at d.lists c ≡ true = ap (λ (xs : List ℕ). length xs == 0) (first.nearer c within less) in cc)
+        (λ (no : distance_of d.ridx b ≤ distance_of d.ridx c). no)
+        (cases_lt (distance_of d.ridx c) (distance_of d.ridx b))

@@ -1,8 +1,8 @@
 -- The calendar promise for each single call: how the indexes go round, and how near that brings a bucket.
-use Rattle.std.specs.Prelude.{◌≡◌, ◌≢◌, ℕ, ◌+◌, ◌<◌, ◌≤◌, Bool, false}
-use Rattle.ule_model.specs.CalendarIndexes.{calendar_bucket, distance_of}
-use Rattle.ule_runq.specs.Runq.{is_empty_at}
-use Rattle.ule_calendar.specs.Calendar.{Dial, IsCalendar, with_ordinary, with_next, after_removal, turned}
+use Rattle.std.specs.Prelude.{◌≡◌, ℕ, ◌+◌, ◌<◌, ◌≤◌, false, IfSome}
+use Rattle.ule_model.specs.CalendarIndexes.{distance_of}
+use Rattle.ule_runq.specs.Runq.{bucket_in, is_empty_at}
+use Rattle.ule_calendar.specs.Calendar.{Dial}
 
 -- how many steps the insertion index went
 abbrev pub idx_steps : Dial → Dial → ℕ
@@ -24,39 +24,20 @@ ComesNearer old new b = distance_of new.ridx b + ridx_steps old new ≡ distance
 abbrev pub KeepsIndexes : Dial → Dial → Type 0
 KeepsIndexes old new = (new.idx ≡ old.idx) × (new.ridx ≡ old.ridx)
 
--- the law: the insertion index is at most one ahead, and then the bucket at the removal index has a thread
-abbrev pub IndexesAreClose : Type 0
-IndexesAreClose =
-    (d : Dial) → IsCalendar d →
-    (distance_of d.ridx d.idx ≤ 1) × (distance_of d.ridx d.idx ≡ 1 → is_empty_at d.lists d.ridx ≡ false)
+-- the insertion index is at most one ahead of the removal index, and then the bucket at the removal index has a thread
+pub record HasCloseIndexes (d : Dial) : Type 0 where
+  pub apart : distance_of d.ridx d.idx ≤ 1
+  pub held : distance_of d.ridx d.idx ≡ 1 → is_empty_at d.lists d.ridx ≡ false
 
--- the law: an insertion of either sort leaves both indexes
-abbrev pub InsertionsKeepIndexes : Type 0
-InsertionsKeepIndexes =
-    (d : Dial) (t p : ℕ) (head : Bool) →
-    KeepsIndexes d (with_ordinary d t p) × KeepsIndexes d (with_next d t head)
+-- what every call keeps: the indexes are close after it, each goes on by one at most, and by the steps of the
+-- removal index each bucket comes nearer, but for the one that it left behind empty
+pub record GoesOn (old new : Dial) : Type 0 where
+  pub close : HasCloseIndexes new
+  pub idx : idx_steps old new ≤ 1
+  pub ridx : ridx_steps old new ≤ 1
+  pub nearer : (b : ℕ) → b < 64 → IsKept old new b → ComesNearer old new b
 
--- the law: while the indexes differ, no ordinary insertion joins the bucket at the removal index
-abbrev pub OrdinaryIsAhead : Type 0
-OrdinaryIsAhead = (d : Dial) (p : ℕ) → IsCalendar d → d.idx ≢ d.ridx → calendar_bucket d.idx d.ridx p ≢ d.ridx
-
--- the law: a removal leaves the insertion index, and the removal index goes on by one at most
-abbrev pub RemovalsGoByOne : Type 0
-RemovalsGoByOne =
-    (d : Dial) (t : ℕ) → IsCalendar d →
-    ((after_removal d t).idx ≡ d.idx) × (ridx_steps d (after_removal d t) ≤ 1)
-
--- the law: by these steps each bucket comes nearer that the removal index did not leave behind empty
-abbrev pub RemovalsComeNearer : Type 0
-RemovalsComeNearer =
-    (d : Dial) (t b : ℕ) → IsCalendar d → b < 64 → IsKept d (after_removal d t) b →
-    ComesNearer d (after_removal d t) b
-
--- the law: at a turn each index goes on by one at most
-abbrev pub TurnsGoByOne : Type 0
-TurnsGoByOne = (d : Dial) → IsCalendar d → (idx_steps d (turned d) ≤ 1) × (ridx_steps d (turned d) ≤ 1)
-
--- the law: by these steps each bucket comes nearer that the removal index did not leave behind empty
-abbrev pub TurnsComeNearer : Type 0
-TurnsComeNearer =
-    (d : Dial) (b : ℕ) → IsCalendar d → b < 64 → IsKept d (turned d) b → ComesNearer d (turned d) b
+-- the bucket of thread t, if it stands in one, is at the least distance of all that have a thread
+abbrev pub IsNearest : Dial → ℕ → Type 0
+IsNearest d t =
+    IfSome (bucket_in d.lists t) (λ b. (c : ℕ) → c < 64 → is_empty_at d.lists c ≡ false → distance_of d.ridx b ≤ distance_of d.ridx c)

@@ -1,10 +1,11 @@
-ghost use Rattle.std.specs.Prelude.{◌≡◌, ◌≤◌, ◌<◌, ◌↔◌, [], Some, replicate, All, IfOk, IfSome, IsNone};
+ghost use Rattle.std.specs.Prelude.{◌≡◌, ◌≢◌, ◌≤◌, ◌<◌, ◌↔◌, [], Some, replicate, All, IfOk, IfSome, IsNone};
 ghost use Rattle.std.specs.Option.{option_map};
 ghost use Rattle.ule_prio.specs.Kind.{kind_at};
 ghost use Rattle.ule_prio.specs.declared.kind.Kind.TheVariants.{Batch};
 ghost use Rattle.ule_runq.specs.Runq.{times, bucket_in, first_from};
 ghost use Rattle.ule_model.specs.CalendarIndexes.{calendar_bucket, distance_of};
 ghost use Rattle.ule_calendar.specs.Calendar.{with_ordinary, with_next, after_removal, turned, IsCalendar};
+ghost use Rattle.ule_calendar.specs.Promise.{GoesOn, HasCloseIndexes, IsNearest, KeepsIndexes};
 
 use std::alloc::Global;
 use std::marker::Model;
@@ -54,7 +55,8 @@ impl Model for Calendar {
 impl Calendar {
     /// An empty calendar, after `tdq_setup`. It takes all the memory that it ever needs.
     pub fn empty(alloc: Global) -> Result<Calendar, Memory>
-        ensures { IfOk result (λ c. c ≡ record { lists = replicate 64 []; idx = 0; ridx = 0 }) }
+        ensures start { IfOk result (λ c. c ≡ record { lists = replicate 64 []; idx = 0; ridx = 0 }) }
+        ensures close { IfOk result (λ c. HasCloseIndexes c) }
     {
         Ok(Calendar {
             lists: Runq::empty(alloc)?,
@@ -74,6 +76,9 @@ impl Calendar {
         ensures within { result < 64 }
         ensures filed { self.new ≡ with_ordinary self.old t p }
         ensures calendar { IsCalendar self.new }
+        ensures goes_on { GoesOn self.old self.new }
+        ensures indexes { KeepsIndexes self.old self.new }
+        ensures ahead { self.old.idx ≢ self.old.ridx → result ≢ self.old.ridx }
     {
         let bucket = ordinary_bucket(self.idx, self.ridx, p);
         self.lists.push_tail(bucket, t);
@@ -89,6 +94,8 @@ impl Calendar {
         ensures within { result < 64 }
         ensures filed { self.new ≡ with_next self.old t head }
         ensures calendar { IsCalendar self.new }
+        ensures goes_on { GoesOn self.old self.new }
+        ensures indexes { KeepsIndexes self.old self.new }
     {
         if head {
             self.lists.push_head(self.ridx, t);
@@ -106,6 +113,8 @@ impl Calendar {
         ensures bucket { bucket_in self.old.lists t ≡ Some result }
         ensures rest { self.new ≡ after_removal self.old t }
         ensures calendar { IsCalendar self.new }
+        ensures goes_on { GoesOn self.old self.new }
+        ensures idx { self.new.idx ≡ self.old.idx }
     {
         let bucket = self.lists.remove(t);
         if self.idx != self.ridx && self.lists.is_empty_bucket(self.ridx) {
@@ -120,6 +129,7 @@ impl Calendar {
     pub fn turn(&mut self)
         ensures turned { self.new ≡ turned self.old }
         ensures calendar { IsCalendar self.new }
+        ensures goes_on { GoesOn self.old self.new }
     {
         if self.idx == self.ridx {
             self.idx = (self.idx + 1) % 64;
@@ -135,15 +145,19 @@ impl Calendar {
         ensures value { result ≡ option_map (λ f. f.1) (first_from self.now.lists self.now.ridx) }
         ensures none { IsNone result ↔ All (λ xs. xs ≡ []) self.now.lists }
         ensures found { IfSome result (λ t. times self.now.lists t ≡ 1) }
+        ensures nearest { IfSome result (λ t. IsNearest self.now t) }
+        ensures close { HasCloseIndexes self.now }
     {
-        self.lists.first_from(self.ridx).map(|f| f.1)
+        let (_, t) = self.lists.first_from(self.ridx)?;
+        Some(t)
     }
 
     /// How many buckets bucket `b`, 0..=63, lies ahead of the removal index, going round: 0..=63.
     /// FreeBSD has no function for it.
     pub fn distance(&self, b: u8) -> u8
         requires { b < 64 }
-        ensures { result ≡ distance_of self.now.ridx b }
+        ensures value { result ≡ distance_of self.now.ridx b }
+        ensures close { HasCloseIndexes self.now }
     {
         (b + 64 - self.ridx) % 64
     }
@@ -152,6 +166,7 @@ impl Calendar {
     pub fn idx(&self) -> u8
         ensures value { result ≡ self.now.idx }
         ensures calendar { IsCalendar self.now }
+        ensures close { HasCloseIndexes self.now }
     {
         self.idx
     }
@@ -160,13 +175,15 @@ impl Calendar {
     pub fn ridx(&self) -> u8
         ensures value { result ≡ self.now.ridx }
         ensures calendar { IsCalendar self.now }
+        ensures close { HasCloseIndexes self.now }
     {
         self.ridx
     }
 
     /// The 64 buckets, after `tdq_timeshare`.
     pub fn lists(&self) -> &Runq
-        ensures { result.now ≡ self.now.lists }
+        ensures value { result.now ≡ self.now.lists }
+        ensures close { HasCloseIndexes self.now }
     {
         &self.lists
     }
@@ -236,6 +253,9 @@ mod tests {
     #[test]
     fn an_empty_calendar_turns_at_every_tick(rt: HostRuntime) -> Result<(), Fail> {
         let mut c = Calendar::empty(rt.alloc())?;
+        assert_eq!(rt; add(&mut c, 5, 152), Some(0));
+        assert_eq!(rt; take_out(&mut c, 5), Some(0));
+        assert_eq!(rt; (c.idx(), c.ridx()), (0, 0), "a removal turns nothing");
         for tick in 1..=130 {
             c.turn();
             let index = tick % 64;

@@ -3,7 +3,5 @@
 #![tactic(auto)]
 
 pub use calendar::Calendar;
-pub use promise::calendar_keeps_its_promise;
 
 pub mod calendar;
-pub mod promise;

@@ -1,6 +1,7 @@
 ghost use Rattle.std.specs.Prelude.{◌≡◌, ℕ, ◌+◌, ◌/◌, [], IfOk, IfSome, replicate};
 ghost use Rattle.ule_prio.specs.Kind.{kind_at};
 ghost use Rattle.ule_prio.specs.declared.kind.Kind.TheVariants.{Batch};
+ghost use Rattle.ule_calendar.specs.Promise.{IsNearest};
 ghost use Rattle.ule_runq.specs.Runq.{times};
 ghost use Rattle.ule_model.specs.CpuValue.{with_inserted};
 ghost use Rattle.ule_model.specs.declared.insertion.Insertion.TheVariants.{Borrowing};
@@ -111,6 +112,7 @@ impl Queues {
     pub fn first(&self) -> Option<(Kind, ThreadId)>
         ensures value { result ≡ first_queued self.now }
         ensures found { IfSome result (λ f. times_in f.0 self.now f.1 ≡ 1) }
+        ensures nearest { IfSome result (λ f. f.0 ≡ Batch → IsNearest self.now.batch f.1) }
     {
         if let Some((_, t)) = self.real.first_from(0) {
             return Some((Kind::Real, t));

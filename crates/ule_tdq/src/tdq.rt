@@ -1,4 +1,4 @@
-ghost use Rattle.std.specs.Prelude.{◌≡◌, ℕ, ◌≤◌, ◌<◌, ◌^◌, None, Some, IfOk, IfSome, IsSome, IsTrue};
+ghost use Rattle.std.specs.Prelude.{◌≡◌, ◌≢◌, ℕ, ◌≤◌, ◌<◌, ◌^◌, false, None, Some, IfOk, IfSome, IsSome, IsTrue};
 ghost use Rattle.ule_score.specs.Settings.{are_settings};
 ghost use Rattle.std.specs.Option.{option_map};
 ghost use Rattle.ule_score.specs.Bounds.{KeepsBounds};
@@ -7,12 +7,16 @@ ghost use Rattle.ule_score.specs.Charges.{HasShortRun};
 ghost use Rattle.ule_model.specs.CpuChange.{kind_queued, value_changed, value_followed, value_forked, value_recorded, value_removed_from, value_requeued};
 ghost use Rattle.ule_model.specs.CpuValue.{IsNoEarlier, chosen_next, current_in, takes_over_in, thread_in, value_added, value_clocked, value_laid, value_line, value_place, value_switched, value_taken, value_ticked, value_ticked_with, with_given_way, with_thread_after, without_current, without_marks};
 ghost use Rattle.ule_model.specs.Places.{lock_of};
-ghost use Rattle.ule_model.specs.Switch.{started_reply};
+ghost use Rattle.ule_model.specs.Switch.{is_preemption, started_reply};
 ghost use Rattle.ule_model.specs.CpuStart.{StartsAs};
 ghost use Rattle.ule_model.specs.Insertion.{bucket_of};
 ghost use Rattle.ule_model.specs.declared.insertion.Insertion.TheVariants.{Ordinary};
 ghost use Rattle.ule_prio.specs.Kind.{kind_at};
+ghost use Rattle.ule_prio.specs.declared.kind.Kind.TheVariants.{Batch};
+ghost use Rattle.ule_calendar.specs.Calendar.{IsCalendar};
+ghost use Rattle.ule_calendar.specs.Promise.{IsNearest};
 ghost use Rattle.ule_tdq.specs.Cpu.{KeepsCpu};
+ghost use Rattle.ule_tdq.specs.Promise.{CalendarGoesOn, LeavesNextBucket, chosen_by, dial_of, when_choosing};
 ghost use Rattle.ule_tdq.specs.Records.{leaving};
 ghost use Rattle.ule_tdq.specs.Replies.{changed_reply, reply_of, ticked_reply};
 
@@ -68,7 +72,8 @@ pub struct Arrival {
 
 /// What a switch without a current thread came to.
 fn started(into: Option<ThreadId>) -> SwitchOut
-    ensures { reply_of result ≡ started_reply into }
+    ensures reply { reply_of result ≡ started_reply into }
+    ensures chosen { chosen_by result ≡ into }
 {
     match into {
         None => SwitchOut::Nothing,
@@ -152,10 +157,14 @@ impl Tdq {
         requires bounded { now < 2 ^ 36 }
         requires in_time { IsNoEarlier self.old now }
         ensures value { self.new ≡ (value_switched why now self.old).0 }
+        ensures calendar { CalendarGoesOn self.old self.new }
+        ensures ahead { is_preemption why self.old.line.slice_end ≡ false → LeavesNextBucket self.old (when_choosing why now self.old) }
+        ensures nearest { IfSome (chosen_by result) (λ t. IsNearest (dial_of (when_choosing why now self.old)) t) }
         ensures reply { reply_of result ≡ (value_switched why now self.old).1 }
         ensures kept { KeepsCpu self.new }
         ensures no_earlier { IsNoEarlier self.new now }
     {
+        self.calendar_is_kept(); // so that what the calendar keeps is known
         if is_unasked(why, self.resched) {
             return SwitchOut::Unmarked;
         }
@@ -179,9 +188,12 @@ impl Tdq {
         requires absent { thread_in self.old r.id ≡ None }
         requires bounds { KeepsBounds r }
         ensures value { self.new ≡ value_laid r self.old }
+        ensures calendar { CalendarGoesOn self.old self.new }
+        ensures ahead { LeavesNextBucket self.old self.new }
         ensures kept { KeepsCpu self.new }
         ensures no_earlier { (now : ℕ) → IsNoEarlier self.old now → r.usage.ltick ≤ now → IsNoEarlier self.new now }
     {
+        self.calendar_is_kept(); // so that what the calendar keeps is known
         self.file(r);
     }
 
@@ -197,11 +209,13 @@ impl Tdq {
         requires bounded { now < 2 ^ 36 }
         requires in_time { IsNoEarlier self.old now }
         ensures value { self.new ≡ (value_ticked now self.old).0 }
+        ensures calendar { CalendarGoesOn self.old self.new }
         ensures reply { ticked_reply result ≡ (value_ticked now self.old).1 }
         ensures cur { result.cur ≡ self.old.current }
         ensures kept { KeepsCpu self.new }
         ensures no_earlier { IsNoEarlier self.new now }
     {
+        self.calendar_is_kept(); // so that what the calendar keeps is known
         let due = is_due(self.cpu, self.balance);
         let current = self.current_record();
         self.count_tick();
@@ -231,12 +245,15 @@ impl Tdq {
         requires bounded { now < 2 ^ 36 }
         requires in_time { IsNoEarlier self.old now }
         ensures value { self.new ≡ (value_taken (leaving sleeping) now self.old).0 }
+        ensures calendar { CalendarGoesOn self.old self.new }
+        ensures nearest { IfSome result (λ r. IfSome r.1 (λ t. IsNearest (dial_of self.old) t)) }
         ensures taken { option_map (λ r. record { thread = r.0; into = r.1 }) result ≡ (value_taken (leaving sleeping) now self.old).1 }
         ensures left { option_map (λ r. r.0.id) result ≡ self.old.current }
         ensures bounds { IfSome result (λ r. KeepsBounds r.0) }
         ensures kept { KeepsCpu self.new }
         ensures no_earlier { IsNoEarlier self.new now }
     {
+        self.calendar_is_kept(); // so that what the calendar keeps is known
         let t = self.current?;
         let r = self.threads.get(t)?;
         let left = leaving(r, now, sleeping);
@@ -250,12 +267,16 @@ impl Tdq {
         requires absent { thread_in self.old r.id ≡ None }
         requires bounds { KeepsBounds r }
         ensures value { self.new ≡ value_added r remote self.old }
+        ensures calendar { CalendarGoesOn self.old self.new }
+        ensures ahead { LeavesNextBucket self.old self.new }
+        ensures other_bucket { kind_at r.priority ≡ Batch → self.old.line.idx ≢ self.old.line.ridx → result.bucket ≢ self.old.line.ridx }
         ensures kind { result.kind ≡ kind_at r.priority }
         ensures bucket { result.bucket ≡ bucket_of (kind_at r.priority) Ordinary self.old.line r.priority }
         ensures marked { result.marked ≡ takes_over_in r.priority remote self.old }
         ensures kept { KeepsCpu self.new }
         ensures no_earlier { (now : ℕ) → IsNoEarlier self.old now → r.usage.ltick ≤ now → IsNoEarlier self.new now }
     {
+        self.calendar_is_kept(); // so that what the calendar keeps is known
         let priority = r.priority;
         let cpu = self.cpu;
         let marked = self.takes_over(priority, remote);
@@ -280,10 +301,12 @@ impl Tdq {
         requires present { IsSome (thread_in self.old t) }
         requires run { HasShortRun c }
         ensures value { self.new ≡ (value_changed t c remote self.old).0 }
+        ensures calendar { CalendarGoesOn self.old self.new }
         ensures reply { changed_reply result ≡ (value_changed t c remote self.old).1 }
         ensures kept { KeepsCpu self.new }
         ensures no_earlier { (now : ℕ) → IsNoEarlier self.old now → IsNoEarlier self.new now }
     {
+        self.calendar_is_kept(); // so that what the calendar keeps is known
         let Some(r) = self.threads.get(t) else {
             unreachable!()
         };
@@ -300,11 +323,13 @@ impl Tdq {
         requires { IsSome (kind_queued self.old t) }
         ensures thread { Some result ≡ thread_in self.old t }
         ensures value { self.new ≡ value_removed_from (kind_queued self.old t) t self.old }
+        ensures calendar { CalendarGoesOn self.old self.new }
         ensures number { result.id ≡ t }
         ensures bounds { KeepsBounds result }
         ensures kept { KeepsCpu self.new }
         ensures no_earlier { (now : ℕ) → IsNoEarlier self.old now → IsNoEarlier self.new now }
     {
+        self.calendar_is_kept(); // so that what the calendar keeps is known
         let Some(kind) = self.queues.kind_of_queued(t) else {
             unreachable!()
         };
@@ -330,6 +355,7 @@ impl Tdq {
         requires in_time { IsNoEarlier self.old now }
         requires bounds { KeepsBounds child.old }
         ensures value { self.new ≡ (value_forked now child.old self.old).value }
+        ensures calendar { CalendarGoesOn self.old self.new }
         ensures child { child.new ≡ (value_forked now child.old self.old).child }
         ensures parent { result ≡ (value_forked now child.old self.old).parent }
         ensures current { result ≡ self.old.current }
@@ -338,6 +364,7 @@ impl Tdq {
         ensures kept { KeepsCpu self.new }
         ensures no_earlier { IsNoEarlier self.new now }
     {
+        self.calendar_is_kept(); // so that what the calendar keeps is known
         let t = self.current?;
         let born = self.born_of(t, now, *child);
         self.charge_fork(now, t);
@@ -590,6 +617,13 @@ impl Tdq {
         self.switches = self.switches.saturating_add(1);
     }
 
+    /// Does nothing: its clause tells what the batch queue keeps.
+    fn calendar_is_kept(&self)
+        ensures { IsCalendar (dial_of self.now) }
+    {
+        let _ = self.queues.batch.idx();
+    }
+
     fn clear_marks(&mut self)
         ensures { self.new ≡ without_marks self.old }
     {
@@ -623,6 +657,7 @@ impl Tdq {
         requires idle { self.old.current ≡ None }
         ensures value { self.new ≡ (chosen_next now self.old).0 }
         ensures into { result ≡ (chosen_next now self.old).1 }
+        ensures nearest { IfSome result (λ t. IsNearest (dial_of self.old) t) }
         ensures kept { KeepsCpu self.new }
         ensures no_earlier { IsNoEarlier self.new now }
     {

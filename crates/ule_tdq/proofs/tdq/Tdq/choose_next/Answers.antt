@@ -4,6 +4,9 @@ use Rattle.ule_score.specs.declared.record.ThreadRecord.{ThreadRecord}
 use Rattle.ule_tdq.specs.Cpu.{times_current}
 use Rattle.ule_tdq.specs.TdqFields.{value_of}
 use Rattle.ule_tdq.proofs.CpuLaws.{AllNoEarlier-with, KeepsCpu-anew}
+use Rattle.ule_tdq.specs.Promise.{dial_of}
+use Rattle.ule_calendar.specs.Promise.{IsNearest}
+use Rattle.ule_tdq.proofs.PromiseLaws.{chosen_nearest}
 use Rattle.ule_tdq.proofs.tdq.Tdq.choose_next.Goals as goal
 
 pub invariant_of-self : goal.invariant_of-self
@@ -45,3 +48,8 @@ returns-clause-no_earlier c =
     let old = subst (λ (v : CpuValue). IsNoEarlier v c.args.now) (sym c.self.view_is) c.requires.in_time in
     rw c.put.ensures
     (AllNoEarlier-with c.self.inside.threads c.in_ok-kind.t c.before_running-runs.result c.args.now old (omega (arith, c.before_running-runs.ensures.noted)))
+
+pub returns-clause-nearest : goal.returns-clause-nearest
+returns-clause-nearest c =
+    subst (λ (v : CpuValue). IsNearest (dial_of v) c.in_ok-kind.t) c.self.view_is
+    (chosen_nearest (value_of c.self.inside) c.self.inside.queues c.in_ok-kind.kind c.in_ok-kind.t c.self.invariant refl refl refl c.in_ok-kind.ensures.found c.in_ok-kind.ensures.nearest)

@@ -1,0 +1,30 @@
+use Rattle.std.proofs.Common.{◌≡◌, ◌≢◌, ℕ, ◌<◌, ◌≤◌, Option, None, List, length, slice_set, get_or-set_same, get_or-set_other, subst, sym, ⊎_elim, rules}
+use Rattle.std.proofs.lemmas.Bool.{cases_eq, cases_lt}
+use Rattle.std.proofs.lemmas.List.{set_past}
+use Rattle.ule_model.specs.CpuChange.{kind_queued, value_removed_from}
+use Rattle.ule_model.specs.CpuValue.{CpuValue, IsNoEarlier}
+use Rattle.ule_score.specs.declared.record.ThreadRecord.{ThreadRecord}
+use Rattle.ule_tdq.proofs.CpuLaws.{AllNoEarlier}
+use Rattle.ule_tdq.proofs.PromiseLaws.{goes_on_by_value, removed_goes_on}
+use Rattle.ule_tdq.proofs.tdq.Tdq.rem.Goals as goal
+
+-- slots without a later CPU-use update have none with one slot emptied
+AllNoEarlier-without : (threads : List (Option ThreadRecord)) (t now : ℕ) → AllNoEarlier threads now → AllNoEarlier (slice_set threads t None) now
+AllNoEarlier-without threads t now old u =
+    ⊎_elim (λ (same : u ≡ t). rw same (⊎_elim
+    (λ (within : t < length threads). rw (get_or-set_same threads t None None within) tt)
+    (λ (past : length threads ≤ t). rw (set_past threads t None past) (old t))
+    (cases_lt t (length threads))))
+    (λ (other : u ≢ t). rw (get_or-set_other threads t u None None other) (old u))
+    (cases_eq u t)
+
+pub returns-clause-no_earlier : goal.returns-clause-no_earlier
+returns-clause-no_earlier c = λ now before.
+    let old = subst (λ (v : CpuValue). IsNoEarlier v now) (sym c.self.view_is) before in
+    rw c.put.ensures (AllNoEarlier-without c.self.inside.threads c.args.t now old)
+
+pub returns-clause-calendar : goal.returns-clause-calendar
+returns-clause-calendar c =
+    let removed : CpuValue = value_removed_from (kind_queued c.args.self.now c.args.t) c.args.t c.args.self.now in
+    goes_on_by_value c.args.self.now _ removed c.calendar_is_kept.ensures (search rules)
+    (removed_goes_on (kind_queued c.args.self.now c.args.t) c.args.t c.args.self.now)
