@@ -1,3 +1,4 @@
 pub mod QueuesLaws
 pub mod CpuLaws
 pub mod QueuedLaws
+pub mod MovableLaws

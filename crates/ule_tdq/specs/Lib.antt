@@ -3,3 +3,4 @@ pub mod Cpu
 pub mod TdqFields
 pub mod Replies
 pub mod Records
+pub mod CpuThreads

@@ -20,6 +20,7 @@ use crate::balance::{balance_after_tick, first_balance, first_word, is_due, word
 use crate::lines::{line_of, queued};
 use crate::queues::Queues;
 use crate::records::{current_priority, either, insertion_of, is_preemption, is_unasked, leaving};
+use crate::threads::CpuThreads;
 use std::alloc::Global;
 use std::marker::Model;
 use ule_io::Memory;
@@ -29,7 +30,6 @@ use ule_score::{
     Change, Changed, CpuLine, Place, Settings, ThreadRecord, Why, after_change, after_fork,
     after_running, after_tick, before_running, child_of, placed_on,
 };
-use ule_threads::Threads;
 use ule_types::ThreadLine;
 
 /// What a switch came to.
@@ -85,8 +85,7 @@ fn started(into: Option<ThreadId>) -> SwitchOut
 pub struct Tdq {
     cpu: Cpu,
     settings: Settings,
-    threads: Threads,
-    current: Option<ThreadId>,
+    threads: CpuThreads,
     // how many threads run or wait here
     load: u32,
     queues: Queues,
@@ -119,7 +118,7 @@ impl Tdq {
         ensures kept { IfOk result (λ d. KeepsCpu d) }
     {
         let settings = *s;
-        let threads = Threads::none(alloc)?;
+        let threads = CpuThreads::none(alloc)?;
         let queues = Queues::empty(alloc)?;
         let is_first = cpu.0 == 0;
         let balance_word = first_word(is_first, balance_word);
@@ -127,7 +126,6 @@ impl Tdq {
             cpu,
             settings,
             threads,
-            current: None,
             load: 0,
             queues,
             resched: false,
@@ -161,7 +159,7 @@ impl Tdq {
         }
         let preempted = is_preemption(why, self.slice_end);
         self.clear_marks();
-        match self.current {
+        match self.threads.current() {
             None => started(self.choose_next(now)),
             Some(t) => {
                 self.give_way(preempted, now, t);
@@ -237,7 +235,7 @@ impl Tdq {
         ensures kept { KeepsCpu self.new }
         ensures no_earlier { IsNoEarlier self.new now }
     {
-        let t = self.current?;
+        let t = self.threads.current()?;
         let r = self.threads.get(t)?;
         let left = leaving(r, now, sleeping);
         self.let_go(t);
@@ -338,7 +336,7 @@ impl Tdq {
         ensures kept { KeepsCpu self.new }
         ensures no_earlier { IsNoEarlier self.new now }
     {
-        let t = self.current?;
+        let t = self.threads.current()?;
         let born = self.born_of(t, now, *child);
         self.charge_fork(now, t);
         *child = born;
@@ -363,7 +361,7 @@ impl Tdq {
     pub fn current(&self) -> Option<ThreadId>
         ensures { result ≡ self.now.current }
     {
-        self.current
+        self.threads.current()
     }
 
     /// Where a thread runs or waits, if it is here.
@@ -410,7 +408,7 @@ impl Tdq {
         ensures place { result ≡ value_place self.now t }
         ensures lock { IfSome result (λ at. lock_of at.0 ≡ Some self.now.cpu) }
     {
-        if self.current == Some(t) {
+        if self.threads.current() == Some(t) {
             return Some((Place::Running(self.cpu), 0));
         }
         if let Some(found) = self.queues.real.find(t) {
@@ -495,7 +493,7 @@ impl Tdq {
     fn current_record(&self) -> Option<ThreadRecord>
         ensures { result ≡ current_in self.now }
     {
-        let t = self.current?;
+        let t = self.threads.current()?;
         self.threads.get(t)
     }
 
@@ -583,7 +581,7 @@ impl Tdq {
         ensures no_earlier { (now : ℕ) → IsNoEarlier self.old now → IsNoEarlier self.new now }
     {
         self.threads.put(t, None);
-        self.current = None;
+        self.threads.stop();
         self.load -= 1;
         self.resched = false;
         self.slice_end = false;
@@ -610,7 +608,7 @@ impl Tdq {
         let left = after_running(self.threads.get(t).unwrap(), now);
         let priority = left.priority;
         self.threads.put(t, Some(left));
-        self.current = None;
+        self.threads.stop();
         self.switches = self.switches.saturating_add(1);
         self.queues.insert(insertion_of(preempted), priority, t);
     }
@@ -630,7 +628,7 @@ impl Tdq {
         self.queues.remove(kind, t);
         let runs = before_running(self.threads.get(t).unwrap(), now);
         self.threads.put(t, Some(runs));
-        self.current = Some(t);
+        self.threads.run(t);
         Some(t)
     }
 }
