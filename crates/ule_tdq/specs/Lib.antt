@@ -4,3 +4,4 @@ pub mod TdqFields
 pub mod Replies
 pub mod Records
 pub mod CpuThreads
+pub mod Stands

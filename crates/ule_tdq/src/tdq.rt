@@ -5,16 +5,21 @@ ghost use Rattle.ule_score.specs.Bounds.{KeepsBounds};
 ghost use Rattle.ule_score.specs.Changes.{forks};
 ghost use Rattle.ule_score.specs.Charges.{HasShortRun};
 ghost use Rattle.ule_model.specs.CpuChange.{kind_queued, value_changed, value_followed, value_forked, value_recorded, value_removed_from, value_requeued};
-ghost use Rattle.ule_model.specs.CpuValue.{IsNoEarlier, chosen_next, current_in, takes_over_in, thread_in, value_added, value_clocked, value_laid, value_line, value_place, value_switched, value_taken, value_ticked, value_ticked_with, with_given_way, with_thread_after, without_current, without_marks};
+ghost use Rattle.ule_model.specs.CpuNumbers.{is_movable, next_in, value_marked, value_summary, with_mark};
+ghost use Rattle.ule_model.specs.CpuValue.{IsNoEarlier, StandsFor, chosen_next, current_in, takes_over_in, thread_in, value_added, value_clocked, value_laid, value_line, value_place, value_switched, value_taken, value_ticked, value_ticked_with, with_given_way, with_thread_after, without_current, without_marks};
 ghost use Rattle.ule_model.specs.Places.{lock_of};
-ghost use Rattle.ule_model.specs.Switch.{started_reply};
+ghost use Rattle.ule_model.specs.Switch.{started_reply, switched};
+ghost use Rattle.ule_model.specs.Tick.{ticked};
 ghost use Rattle.ule_model.specs.CpuStart.{StartsAs};
 ghost use Rattle.ule_model.specs.Insertion.{bucket_of};
 ghost use Rattle.ule_model.specs.declared.insertion.Insertion.TheVariants.{Ordinary};
 ghost use Rattle.ule_prio.specs.Kind.{kind_at};
+ghost use Rattle.ule_model.specs.World.{Side};
+ghost use Rattle.ule_runq.specs.Set.{has};
 ghost use Rattle.ule_tdq.specs.Cpu.{KeepsCpu};
 ghost use Rattle.ule_tdq.specs.Records.{leaving};
-ghost use Rattle.ule_tdq.specs.Replies.{changed_reply, reply_of, ticked_reply};
+ghost use Rattle.ule_tdq.specs.Replies.{changed_reply, landed_reply, reply_of, ticked_reply};
+ghost use Rattle.ule_tdq.specs.Stands.{AnswersChange, AnswersEvent, AnswersFork, AnswersLanding, AnswersLeaving, StandsAtStart, StandsWithLaid, StandsWithout, TellsSummary};
 
 use crate::balance::{balance_after_tick, first_balance, first_word, is_due, word_after_tick};
 use crate::lines::{line_of, queued};
@@ -23,6 +28,7 @@ use crate::records::{current_priority, either, insertion_of, is_preemption, is_u
 use crate::threads::CpuThreads;
 use std::alloc::Global;
 use std::marker::Model;
+use ule_calendar::Calendar;
 use ule_io::Memory;
 use ule_model::Insertion;
 use ule_prio::{Cpu, Kind, LockId, Priority, ThreadId, kind_of, preempts};
@@ -30,7 +36,8 @@ use ule_score::{
     Change, Changed, CpuLine, Place, Settings, ThreadRecord, Why, after_change, after_fork,
     after_running, after_tick, before_running, child_of, placed_on,
 };
-use ule_types::ThreadLine;
+use ule_runq::{Runq, ThreadSet};
+use ule_types::{Summary, ThreadLine};
 
 /// What a switch came to.
 #[derive(Clone, Copy, Debug, PartialEq, Eq)]
@@ -115,6 +122,7 @@ impl Tdq {
     pub fn start(alloc: Global, cpu: Cpu, s: &Settings, balance_word: u32) -> Result<Tdq, Memory>
         requires { IsTrue (are_settings s.now) }
         ensures start { IfOk result (λ d. StartsAs d cpu s.now balance_word) }
+        ensures stands { IfOk result (λ d. StandsAtStart d cpu s.now balance_word) }
         ensures kept { IfOk result (λ d. KeepsCpu d) }
     {
         let settings = *s;
@@ -145,12 +153,14 @@ impl Tdq {
     /// is one, is queued again, at the head of its bucket where it was preempted, and the thread
     /// whose turn comes first runs. It is `Nothing` where there was no current thread and none was
     /// queued.
+    #[tactic(auto, using(crate::proofs::StandsLaws::switch_answers))]
     pub fn switch(&mut self, why: Why, now: u64) -> SwitchOut
         requires begun { 20000 ≤ now }
         requires bounded { now < 2 ^ 36 }
         requires in_time { IsNoEarlier self.old now }
         ensures value { self.new ≡ (value_switched why now self.old).0 }
         ensures reply { reply_of result ≡ (value_switched why now self.old).1 }
+        ensures stands { AnswersEvent self.old self.new (switched self.old.cpu why now) (reply_of result) }
         ensures kept { KeepsCpu self.new }
         ensures no_earlier { IsNoEarlier self.new now }
     {
@@ -173,10 +183,12 @@ impl Tdq {
     }
 
     /// Queues a thread of the start, by ordinary insertion and without a preemption test.
+    #[tactic(auto, using(crate::proofs::StandsLaws::laid_answers))]
     pub fn lay(&mut self, r: ThreadRecord)
         requires absent { thread_in self.old r.id ≡ None }
         requires bounds { KeepsBounds r }
         ensures value { self.new ≡ value_laid r self.old }
+        ensures stands { StandsWithLaid self.old self.new r }
         ensures kept { KeepsCpu self.new }
         ensures no_earlier { (now : ℕ) → IsNoEarlier self.old now → r.usage.ltick ≤ now → IsNoEarlier self.new now }
     {
@@ -196,6 +208,7 @@ impl Tdq {
         requires in_time { IsNoEarlier self.old now }
         ensures value { self.new ≡ (value_ticked now self.old).0 }
         ensures reply { ticked_reply result ≡ (value_ticked now self.old).1 }
+        ensures stands { AnswersEvent self.old self.new (ticked self.old.cpu now) (ticked_reply result) }
         ensures cur { result.cur ≡ self.old.current }
         ensures kept { KeepsCpu self.new }
         ensures no_earlier { IsNoEarlier self.new now }
@@ -220,6 +233,7 @@ impl Tdq {
     /// The answer has the record of the thread that left, and the number of the one that runs now,
     /// if one was queued. `sleeping` says that the first goes to sleep, and notes when. It is `None`
     /// exactly where there is no current thread; then nothing changes.
+    #[tactic(auto, using(crate::proofs::StandsLaws::leaving_answers))]
     pub fn take_current(
         &mut self,
         now: u64,
@@ -231,6 +245,7 @@ impl Tdq {
         ensures value { self.new ≡ (value_taken (leaving sleeping) now self.old).0 }
         ensures taken { option_map (λ r. record { thread = r.0; into = r.1 }) result ≡ (value_taken (leaving sleeping) now self.old).1 }
         ensures left { option_map (λ r. r.0.id) result ≡ self.old.current }
+        ensures stands { AnswersLeaving self.old self.new sleeping now result }
         ensures bounds { IfSome result (λ r. KeepsBounds r.0) }
         ensures kept { KeepsCpu self.new }
         ensures no_earlier { IsNoEarlier self.new now }
@@ -244,6 +259,7 @@ impl Tdq {
 
     /// A thread comes to this CPU: queued by ordinary insertion, with a preemption test, after
     /// `sched_add`. `remote` says that the worker of another CPU brought it.
+    #[tactic(auto, using(crate::proofs::StandsLaws::landing_answers))]
     pub fn add(&mut self, r: ThreadRecord, remote: bool) -> Arrival
         requires absent { thread_in self.old r.id ≡ None }
         requires bounds { KeepsBounds r }
@@ -251,6 +267,7 @@ impl Tdq {
         ensures kind { result.kind ≡ kind_at r.priority }
         ensures bucket { result.bucket ≡ bucket_of (kind_at r.priority) Ordinary self.old.line r.priority }
         ensures marked { result.marked ≡ takes_over_in r.priority remote self.old }
+        ensures stands { AnswersLanding self.old self.new r remote (landed_reply result) }
         ensures kept { KeepsCpu self.new }
         ensures no_earlier { (now : ℕ) → IsNoEarlier self.old now → r.usage.ltick ≤ now → IsNoEarlier self.new now }
     {
@@ -279,6 +296,7 @@ impl Tdq {
         requires run { HasShortRun c }
         ensures value { self.new ≡ (value_changed t c remote self.old).0 }
         ensures reply { changed_reply result ≡ (value_changed t c remote self.old).1 }
+        ensures stands { AnswersChange self.old self.new t c remote (changed_reply result) }
         ensures kept { KeepsCpu self.new }
         ensures no_earlier { (now : ℕ) → IsNoEarlier self.old now → IsNoEarlier self.new now }
     {
@@ -298,6 +316,7 @@ impl Tdq {
         requires { IsSome (kind_queued self.old t) }
         ensures thread { Some result ≡ thread_in self.old t }
         ensures value { self.new ≡ value_removed_from (kind_queued self.old t) t self.old }
+        ensures stands { StandsWithout self.old self.new t result }
         ensures number { result.id ≡ t }
         ensures bounds { KeepsBounds result }
         ensures kept { KeepsCpu self.new }
@@ -322,6 +341,7 @@ impl Tdq {
     /// The child's record becomes one of its parent's child, but for its number; the parent is
     /// charged the run time of a tick. The answer is the parent, and `None` exactly where there is
     /// no current thread; then nothing changes.
+    #[tactic(auto, using(crate::proofs::StandsLaws::fork_answers))]
     pub fn fork_from(&mut self, child: &mut ThreadRecord, now: u64) -> Option<ThreadId>
         requires begun { 20000 ≤ now }
         requires bounded { now < 2 ^ 36 }
@@ -330,6 +350,7 @@ impl Tdq {
         ensures value { self.new ≡ (value_forked now child.old self.old).value }
         ensures child { child.new ≡ (value_forked now child.old self.old).child }
         ensures parent { result ≡ (value_forked now child.old self.old).parent }
+        ensures stands { AnswersFork self.old self.new now child.old child.new result }
         ensures current { result ≡ self.old.current }
         ensures number { child.new.id ≡ child.old.id }
         ensures bounds { KeepsBounds child.new }
@@ -401,6 +422,70 @@ impl Tdq {
             old_switches: self.old_switches,
             balance: self.balance,
         }
+    }
+
+    /// What a look at the CPU sees: how many threads run or are queued here, how many of the queued
+    /// ones are not bound, and the better priority of the current thread and of the next, 255 where
+    /// there is neither. After the fields of `struct tdq` that `cpu_search` reads.
+    #[tactic(auto, using(crate::proofs::StandsLaws::summary_tells))]
+    pub fn summary(&self) -> Summary
+        ensures value { result ≡ value_summary self.now }
+        ensures stands { TellsSummary self.now result }
+    {
+        let current = current_priority(self.current_record());
+        let next = current_priority(self.next_record());
+        Summary {
+            load: self.load,
+            movable: self.threads.movable_count(),
+            lowpri: current.min(next).0,
+        }
+    }
+
+    /// The queued threads that are not bound.
+    pub fn movable(&self) -> &ThreadSet
+        ensures { (t : ℕ) → has result.now t ≡ is_movable self.now t }
+    {
+        self.threads.movable()
+    }
+
+    /// Sets the mark that asks for a switch.
+    pub fn mark(&mut self)
+        ensures value { self.new ≡ value_marked self.old }
+        ensures stands { (s : Side) → StandsFor self.old s → StandsFor self.new (with_mark s) }
+        ensures kept { KeepsCpu self.new }
+    {
+        self.resched = true;
+    }
+
+    /// The queue of real priorities, after `tdq_realtime`.
+    pub fn real(&self) -> &Runq
+        ensures { result.now ≡ self.now.real }
+    {
+        &self.queues.real
+    }
+
+    /// The queue of batch priorities, after `tdq_timeshare`.
+    pub fn calendar(&self) -> &Calendar
+        ensures lists { result.now.lists ≡ self.now.batch }
+        ensures insertion { result.now.idx ≡ self.now.line.idx }
+        ensures removal { result.now.ridx ≡ self.now.line.ridx }
+    {
+        &self.queues.batch
+    }
+
+    /// The queue of idle priorities, after `tdq_idle`.
+    pub fn idle(&self) -> &Runq
+        ensures { result.now ≡ self.now.idle }
+    {
+        &self.queues.idle
+    }
+
+    /// The record of the thread whose turn comes first.
+    fn next_record(&self) -> Option<ThreadRecord>
+        ensures { result ≡ next_in self.now }
+    {
+        let (_, t) = self.queues.first()?;
+        self.threads.get(t)
     }
 
     /// A thread's place, with its position in its bucket.
