@@ -1,26 +1,27 @@
 -- What a call makes of a CPU's value is what its event makes of every side that the value stands for.
-use Rattle.std.proofs.Common.{◌≡◌, ℕ, ◌==◌, ℤ, true≢false, Bool, true, false, not, List, [], Option, Some, None, if◌then◌else◌, ⊎_elim, refl, sym, ◌∙◌, ap, subst}
-use Rattle.std.specs.Prelude.{IsSome, option_and_then}
+use Rattle.std.proofs.Common.{◌≡◌, ℕ, ◌==◌, true≢false, Bool, true, false, not, Option, Some, None, if◌then◌else◌, ⊎_elim, refl, sym, ◌∙◌, ap, subst}
+use Rattle.std.specs.Prelude.{IsSome}
 use Rattle.std.specs.Option.{option_map}
 use Rattle.std.proofs.lemmas.Bool.{or_cases}
-use Rattle.std.proofs.lemmas.Option.{none-some, same_Some}
+use Rattle.std.proofs.lemmas.Option.{same_Some}
 use Rattle.ule_prio.specs.Kind.{kind_at}
 use Rattle.ule_prio.specs.declared.kind.Kind.{Kind}
-use Rattle.ule_score.specs.Changes.{HasNumbers, IsSoundChange, RecordChange, changed, ran, sleeps}
 use Rattle.ule_score.specs.declared.place.Place.{Place}
 use Rattle.ule_score.specs.declared.place.Place.TheVariants.{Queued}
 use Rattle.ule_score.specs.declared.record.Change.{Change}
+use Rattle.ule_score.specs.declared.record.CpuLine.{CpuLine}
 use Rattle.ule_score.specs.declared.record.Settings.{Settings}
 use Rattle.ule_score.specs.declared.record.ThreadRecord.{ThreadRecord}
 use Rattle.ule_score.specs.declared.record.Why.{Why}
 use Rattle.ule_types.specs.declared.event.Reply.{Reply}
 use Rattle.ule_types.specs.declared.event.Reply.TheVariants.{Landed}
 use Rattle.ule_types.specs.declared.look.Summary.{Summary}
+use Rattle.ule_types.specs.declared.outcome.ThreadLine.{ThreadLine}
 use Rattle.ule_model.specs.Birth.{exited, exited_reply}
 use Rattle.ule_model.specs.CpuChange.{forked_reply, kind_queued, value_changed, value_forked, value_removed, value_removed_from}
-use Rattle.ule_model.specs.CpuNumbers.{value_summary}
+use Rattle.ule_model.specs.CpuNumbers.{summary_of, value_summary}
 use Rattle.ule_model.specs.CpuStart.{StartsAs}
-use Rattle.ule_model.specs.CpuValue.{CpuValue, StandsFor, Taken, takes_over_in, thread_in, thread_on, value_added, value_laid, value_switched, value_taken, value_ticked}
+use Rattle.ule_model.specs.CpuValue.{CpuValue, StandsFor, takes_over_in, thread_in, thread_on, value_added, value_laid, value_line, value_place, value_switched, value_taken, value_ticked}
 use Rattle.ule_model.specs.Insertion.{bucket_of}
 use Rattle.ule_model.specs.declared.insertion.Insertion.TheVariants.{Ordinary}
 use Rattle.ule_model.specs.Landing.{landed}
@@ -33,17 +34,17 @@ use Rattle.ule_model.specs.Tick.{ticked}
 use Rattle.ule_model.specs.WellMade.{IsWellMade}
 use Rattle.ule_model.specs.World.{Member, Side, thread_of}
 use Rattle.ule_laws.proofs.CpuChanges.{AreForked, forked_stands, priority_changed_stands, removed_stands}
-use Rattle.ule_laws.proofs.CpuEvents.{AreLanded, AreLeft, dropped_reply, dropped_stands, exited_stands, landed_stands, reply_left, ticked_stands}
+use Rattle.ule_laws.proofs.CpuEvents.{AreLanded, dropped_reply, dropped_stands, exited_stands, landed_stands, reply_left, ticked_stands}
 use Rattle.ule_laws.proofs.CpuLaws.{ActsAlike, laid_stands, switched_stands}
 use Rattle.ule_laws.proofs.CpuNumbers.{summary_stands}
-use Rattle.ule_laws.proofs.CpuPlaces.{kind_running, kind_waiting}
+use Rattle.ule_laws.proofs.CpuPlaces.{kind_running, kind_waiting, line_stands, place_stands}
 use Rattle.ule_laws.proofs.CpuStarts.{start_stands}
 use Rattle.ule_laws.proofs.PlaceLaws.{place_from_waits_on}
 use Rattle.ule_members.proofs.Membership.{has_within}
 use Rattle.ule_members.proofs.Threads.{thread_of_within, thread_on_stands, thread_on_within, within_thread_on}
 use Rattle.ule_members.proofs.Within.{Within, within_thread}
 use Rattle.ule_tdq.specs.Records.{leaving}
-use Rattle.ule_tdq.specs.Stands.{AnswersEvent, AnswersChange, AnswersFork, AnswersLanding, AnswersLeaving, IsElsewhere, IsGiven, StandsAtStart, StandsWithLaid, StandsWithout, TellsSummary, departed, departed_reply}
+use Rattle.ule_tdq.specs.Stands.{AnswersEvent, AnswersChange, AnswersFork, AnswersLanding, AnswersLeaving, IsElsewhere, IsGiven, StandsAtStart, StandsWithLaid, StandsWithout, Tells, current_on, departed_reply, line_on, mark_of, numbers_of_cpu, place_on, record_on}
 
 -- what acts on a value as on a side gives that value and that answer of the side
 given_alike : (v new : CpuValue) (answer : Reply) (made : CpuValue × Reply) (meant : Side × Reply) → new ≡ made.0 → answer ≡ made.1 →
@@ -112,22 +113,26 @@ pub leaving_answers : (sleeping : Bool) (now : ℕ) (old new : CpuValue) (result
     option_map (λ r. record { thread = r.0; into = r.1 }) result ≡ (value_taken (leaving sleeping) now old).1 →
     AnswersLeaving old new sleeping now result
 leaving_answers true now old new result new_is result_is = record {
-  each = λ worker. record { each = λ s made stands. let left = dropped_stands worker now old s stands made in record {
+  each = λ worker. record {
+    each = λ s made stands. let left = dropped_stands worker now old s stands made in record {
       stands = subst (λ (x : CpuValue). StandsFor x (dropped old.cpu worker now s).0) (sym new_is) left.stands;
       replied = replied result ∙ ap (reply_left dropped_reply) result_is ∙ sym left.answer;
       well_made = left.well_made;
-    } };
+    };
+  };
 }
   where
     replied : (o : Option (ThreadRecord × Option ℕ)) → departed_reply true o ≡ reply_left dropped_reply (option_map (λ r. record { thread = r.0; into = r.1 }) o)
     replied None = refl
     replied (Some out) = refl
 leaving_answers false now old new result new_is result_is = record {
-  each = λ worker. record { each = λ s made stands. let left = exited_stands worker now old s stands made in record {
+  each = λ worker. record {
+    each = λ s made stands. let left = exited_stands worker now old s stands made in record {
       stands = subst (λ (x : CpuValue). StandsFor x (exited old.cpu worker now s).0) (sym new_is) left.stands;
       replied = replied result ∙ ap (reply_left exited_reply) result_is ∙ sym left.answer;
       well_made = left.well_made;
-    } };
+    };
+  };
 }
   where
     replied : (o : Option (ThreadRecord × Option ℕ)) → departed_reply false o ≡ reply_left exited_reply (option_map (λ r. record { thread = r.0; into = r.1 }) o)
@@ -256,6 +261,32 @@ start_answers v c settings word starts = record {
       (λ (zero : v.cpu ≡ 0). balance (sym starts.cpu ∙ zero));
 }
 
+-- ---- readers
+
 -- a look
-pub summary_tells : (v : CpuValue) (told : Summary) → told ≡ value_summary v → TellsSummary v told
+pub summary_tells : (v : CpuValue) (told : Summary) → told ≡ value_summary v → Tells v told (summary_of v.cpu)
 summary_tells v told told_is = record { each = λ s made stands. told_is ∙ summary_stands v s stands made }
+
+-- the mark
+pub mark_tells : (v : CpuValue) (told : Bool) → told ≡ v.line.resched → Tells v told mark_of
+mark_tells v told told_is = record { each = λ s made stands. told_is ∙ ap (λ (l : CpuLine). l.resched) stands.line }
+
+-- the current thread
+pub current_tells : (v : CpuValue) (told : Option ℕ) → told ≡ v.current → Tells v told (current_on v.cpu)
+current_tells v told told_is = record { each = λ s made stands. told_is ∙ stands.current }
+
+-- the record of a thread
+pub record_tells : (v : CpuValue) (t : ℕ) (told : Option ThreadRecord) → told ≡ thread_in v t → Tells v told (record_on v.cpu t)
+record_tells v t told told_is = record { each = λ s made stands. told_is ∙ stands.threads t }
+
+-- the place of a thread
+pub place_tells : (v : CpuValue) (t : ℕ) (told : Option Place) → told ≡ option_map (λ at. at.0) (value_place v t) → Tells v told (place_on v.cpu t)
+place_tells v t told told_is = record { each = λ s made stands. told_is ∙ place_stands v s stands made t }
+
+-- the line of a thread
+pub line_tells : (v : CpuValue) (t : ℕ) (told : Option ThreadLine) → told ≡ value_line v t → Tells v told (line_on v.cpu t)
+line_tells v t told told_is = record { each = λ s made stands. told_is ∙ line_stands v s stands made t }
+
+-- the CPU's numbers
+pub numbers_tell : (v : CpuValue) (told : CpuLine) → told ≡ v.line → Tells v told numbers_of_cpu
+numbers_tell v told told_is = record { each = λ s made stands. told_is ∙ stands.line }

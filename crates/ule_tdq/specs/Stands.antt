@@ -1,26 +1,28 @@
 -- What a call of a CPU makes of every side of a world that the CPU's value stands for: what the definition of the
 -- call's event makes of that side.
-use Rattle.std.specs.Prelude.{◌≡◌, ℕ, ℤ, Bool, true, false, not, ◌==◌, List, [], Option, Some, None}
+use Rattle.std.specs.Prelude.{◌≡◌, ℕ, ℤ, Bool, true, false, not, ◌==◌, [], Option, Some, None}
+use Rattle.std.specs.Option.{option_map}
 use Rattle.ule_model.specs.Birth.{exited, exited_reply}
 use Rattle.ule_model.specs.CpuChange.{forked_reply}
-use Rattle.ule_model.specs.CpuNumbers.{summary_of}
 use Rattle.ule_model.specs.CpuStart.{line_at_start, word_at_start}
-use Rattle.ule_model.specs.CpuValue.{CpuValue, StandsFor}
+use Rattle.ule_model.specs.CpuValue.{CpuValue, StandsFor, thread_on}
+use Rattle.ule_model.specs.Finals.{final_line}
 use Rattle.ule_model.specs.Landing.{landed}
 use Rattle.ule_model.specs.Places.{is_on}
 use Rattle.ule_model.specs.PriorityChange.{carried_off, forked_on, priority_changed}
 use Rattle.ule_model.specs.Sleep.{dropped}
 use Rattle.ule_model.specs.Start.{laid_on}
 use Rattle.ule_model.specs.WellMade.{IsWellMade}
-use Rattle.ule_model.specs.World.{Member, Side, thread_of}
+use Rattle.ule_model.specs.World.{Member, Side, current_of, thread_of}
 use Rattle.ule_score.specs.Changes.{HasNumbers, IsSoundChange, changed}
 use Rattle.ule_score.specs.declared.place.Place.{Place}
 use Rattle.ule_score.specs.declared.record.Change.{Change}
+use Rattle.ule_score.specs.declared.record.CpuLine.{CpuLine}
 use Rattle.ule_score.specs.declared.record.Settings.{Settings}
 use Rattle.ule_score.specs.declared.record.ThreadRecord.{ThreadRecord}
 use Rattle.ule_types.specs.declared.event.Reply.{Reply}
 use Rattle.ule_types.specs.declared.event.Reply.TheVariants.{Dropped, Nothing}
-use Rattle.ule_types.specs.declared.look.Summary.{Summary}
+use Rattle.ule_types.specs.declared.outcome.ThreadLine.{ThreadLine}
 
 -- a value and an answer are what an event gave of a side: the value stands for the side after it, the answer is its
 -- reply, and its threads are well made
@@ -96,8 +98,32 @@ pub record StandsAtStart (v : CpuValue) (c : ℕ) (settings : Settings) (word : 
   pub each : (s : Side) → s.settings ≡ settings → s.members ≡ [] → s.line ≡ line_at_start c word →
       (c ≡ 0 → s.balance_word ≡ word_at_start c word) → StandsFor v s
 
--- ---- a look
+-- ---- what a reader tells
 
--- what a look told is what a look at every well-made side sees that the value stands for
-pub record TellsSummary (v : CpuValue) (told : Summary) : Type 0 where
-  pub each : (s : Side) → IsWellMade s.members → StandsFor v s → told ≡ summary_of v.cpu s
+-- what was told of the value is what there is to see of every well-made side that the value stands for
+pub record Tells {A : Type 0} (v : CpuValue) (told : A) (seen : Side → A) : Type 0 where
+  pub each : (s : Side) → IsWellMade s.members → StandsFor v s → told ≡ seen s
+
+-- the mark that asks for a switch
+abbrev pub mark_of : Side → Bool
+mark_of s = s.line.resched
+
+-- the number of CPU c's current thread
+abbrev pub current_on : ℕ → Side → Option ℕ
+current_on c s = option_map (λ m. m.thread.id) (current_of c s.members)
+
+-- the record of thread t, if it is on CPU c
+abbrev pub record_on : ℕ → ℕ → Side → Option ThreadRecord
+record_on c t s = option_map (λ m. m.thread) (thread_on c t s.members)
+
+-- the place of thread t, if it is on CPU c
+abbrev pub place_on : ℕ → ℕ → Side → Option Place
+place_on c t s = option_map (λ m. m.place) (thread_on c t s.members)
+
+-- the line of thread t, if it is on CPU c
+abbrev pub line_on : ℕ → ℕ → Side → Option ThreadLine
+line_on c t s = option_map (final_line s.members) (thread_on c t s.members)
+
+-- the numbers of the CPU
+abbrev pub numbers_of_cpu : Side → CpuLine
+numbers_of_cpu s = s.line

@@ -5,7 +5,7 @@ ghost use Rattle.ule_score.specs.Bounds.{KeepsBounds};
 ghost use Rattle.ule_score.specs.Changes.{forks};
 ghost use Rattle.ule_score.specs.Charges.{HasShortRun};
 ghost use Rattle.ule_model.specs.CpuChange.{kind_queued, value_changed, value_followed, value_forked, value_recorded, value_removed_from, value_requeued};
-ghost use Rattle.ule_model.specs.CpuNumbers.{is_movable, next_in, value_marked, value_summary, with_mark};
+ghost use Rattle.ule_model.specs.CpuNumbers.{is_movable, next_in, summary_of, value_marked, value_summary, with_mark};
 ghost use Rattle.ule_model.specs.CpuValue.{IsNoEarlier, StandsFor, chosen_next, current_in, takes_over_in, thread_in, value_added, value_clocked, value_laid, value_line, value_place, value_switched, value_taken, value_ticked, value_ticked_with, with_given_way, with_thread_after, without_current, without_marks};
 ghost use Rattle.ule_model.specs.Places.{lock_of};
 ghost use Rattle.ule_model.specs.Switch.{started_reply, switched};
@@ -19,7 +19,7 @@ ghost use Rattle.ule_runq.specs.Set.{has};
 ghost use Rattle.ule_tdq.specs.Cpu.{KeepsCpu};
 ghost use Rattle.ule_tdq.specs.Records.{leaving};
 ghost use Rattle.ule_tdq.specs.Replies.{changed_reply, landed_reply, reply_of, ticked_reply};
-ghost use Rattle.ule_tdq.specs.Stands.{AnswersChange, AnswersEvent, AnswersFork, AnswersLanding, AnswersLeaving, StandsAtStart, StandsWithLaid, StandsWithout, TellsSummary};
+ghost use Rattle.ule_tdq.specs.Stands.{AnswersChange, AnswersEvent, AnswersFork, AnswersLanding, AnswersLeaving, StandsAtStart, StandsWithLaid, StandsWithout, Tells, current_on, line_on, mark_of, numbers_of_cpu, place_on, record_on};
 
 use crate::balance::{balance_after_tick, first_balance, first_word, is_due, word_after_tick};
 use crate::lines::{line_of, queued};
@@ -32,11 +32,11 @@ use ule_calendar::Calendar;
 use ule_io::Memory;
 use ule_model::Insertion;
 use ule_prio::{Cpu, Kind, LockId, Priority, ThreadId, kind_of, preempts};
+use ule_runq::{Runq, ThreadSet};
 use ule_score::{
     Change, Changed, CpuLine, Place, Settings, ThreadRecord, Why, after_change, after_fork,
     after_running, after_tick, before_running, child_of, placed_on,
 };
-use ule_runq::{Runq, ThreadSet};
 use ule_types::{Summary, ThreadLine};
 
 /// What a switch came to.
@@ -372,29 +372,37 @@ impl Tdq {
     }
 
     /// The mark that asks for a switch.
+    #[tactic(auto, using(crate::proofs::StandsLaws::mark_tells))]
     pub fn is_marked(&self) -> bool
-        ensures { result ≡ self.now.line.resched }
+        ensures value { result ≡ self.now.line.resched }
+        ensures stands { Tells self.now result mark_of }
     {
         self.resched
     }
 
     /// The current thread, after `pc_curthread`.
+    #[tactic(auto, using(crate::proofs::StandsLaws::current_tells))]
     pub fn current(&self) -> Option<ThreadId>
-        ensures { result ≡ self.now.current }
+        ensures value { result ≡ self.now.current }
+        ensures stands { Tells self.now result (current_on self.now.cpu) }
     {
         self.threads.current()
     }
 
     /// Where a thread runs or waits, if it is here.
+    #[tactic(auto, using(crate::proofs::StandsLaws::place_tells))]
     pub fn place_of(&self, t: ThreadId) -> Option<Place>
-        ensures { result ≡ option_map (λ at. at.0) (value_place self.now t) }
+        ensures value { result ≡ option_map (λ at. at.0) (value_place self.now t) }
+        ensures stands { Tells self.now result (place_on self.now.cpu t) }
     {
         self.placed(t).map(|at| at.0)
     }
 
     /// What a trace tells of a thread, if it is here.
+    #[tactic(auto, using(crate::proofs::StandsLaws::line_tells))]
     pub fn thread_line(&self, t: ThreadId) -> Option<ThreadLine>
         ensures line { result ≡ value_line self.now t }
+        ensures stands { Tells self.now result (line_on self.now.cpu t) }
         ensures number { IfSome result (λ l. l.id ≡ t) }
     {
         let r = self.threads.get(t)?;
@@ -403,15 +411,19 @@ impl Tdq {
     }
 
     /// The record of a thread, if it runs or waits here.
+    #[tactic(auto, using(crate::proofs::StandsLaws::record_tells))]
     pub fn thread(&self, t: ThreadId) -> Option<ThreadRecord>
-        ensures { result ≡ thread_in self.now t }
+        ensures value { result ≡ thread_in self.now t }
+        ensures stands { Tells self.now result (record_on self.now.cpu t) }
     {
         self.threads.get(t)
     }
 
     /// The CPU's numbers.
+    #[tactic(auto, using(crate::proofs::StandsLaws::numbers_tell))]
     pub fn line(&self) -> CpuLine
-        ensures { result ≡ self.now.line }
+        ensures value { result ≡ self.now.line }
+        ensures stands { Tells self.now result numbers_of_cpu }
     {
         CpuLine {
             idx: self.queues.batch.idx(),
@@ -427,10 +439,9 @@ impl Tdq {
     /// What a look at the CPU sees: how many threads run or are queued here, how many of the queued
     /// ones are not bound, and the better priority of the current thread and of the next, 255 where
     /// there is neither. After the fields of `struct tdq` that `cpu_search` reads.
-    #[tactic(auto, using(crate::proofs::StandsLaws::summary_tells))]
     pub fn summary(&self) -> Summary
         ensures value { result ≡ value_summary self.now }
-        ensures stands { TellsSummary self.now result }
+        ensures stands { Tells self.now result (summary_of self.now.cpu) }
     {
         let current = current_priority(self.current_record());
         let next = current_priority(self.next_record());

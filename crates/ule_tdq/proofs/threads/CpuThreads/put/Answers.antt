@@ -1,4 +1,4 @@
-use Rattle.std.proofs.Common.{◌≡◌, ℕ, ◌==◌, if◌then◌else◌, ◌<◌, ◌∙◌, sym, ap, arith, length, length-set, subst, List, Option}
+use Rattle.std.proofs.Common.{◌≡◌, ◌==◌, if◌then◌else◌, ◌<◌, ◌∙◌, sym, ap, arith, length, length-set, subst, List, Option}
 use Rattle.std.specs.Prelude.{count_by}
 use Rattle.ule_model.specs.CpuNumbers.{is_unbound, records_but}
 use Rattle.ule_runq.specs.Set.{has}
