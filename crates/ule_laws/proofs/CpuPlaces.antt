@@ -43,14 +43,14 @@ not_current c None t differs = refl
 not_current c (Some u) t differs = ap (λ (d : Bool). if d then Some (Running c, 0) else None) (ne_eqb u t (differs u refl))
 
 -- a thread of this number runs on CPU c
-record HasRunner (c u : ℕ) (ms : List Member) : Type 0 where
-  runner : Member
-  has : Has runner ms
-  number : runner.thread.id ≡ u
-  runs : runs_on c runner.place ≡ true
+pub record HasRunner (c u : ℕ) (ms : List Member) : Type 0 where
+  pub runner : Member
+  pub has : Has runner ms
+  pub number : runner.thread.id ≡ u
+  pub runs : runs_on c runner.place ≡ true
 
 -- the number of a CPU's current thread is that of a thread that runs there
-runner_of_current : (v : CpuValue) (s : Side) → StandsFor v s → IsWellMade s.members → (u : ℕ) → v.current ≡ Some u → HasRunner v.cpu u s.members
+pub runner_of_current : (v : CpuValue) (s : Side) → StandsFor v s → IsWellMade s.members → (u : ℕ) → v.current ≡ Some u → HasRunner v.cpu u s.members
 runner_of_current v s stands made u is = split (current_of v.cpu s.members) refl (sym stands.current ∙ is)
   where
     split : (o : Option Member) → current_of v.cpu s.members ≡ o → option_map (λ m. m.thread.id) o ≡ Some u → HasRunner v.cpu u s.members

@@ -18,6 +18,7 @@ pub mod SeekLaws
 pub mod StepFrom
 pub mod ChainSteps
 pub mod CpuEvents
+pub mod CpuNumbers
 pub mod CpuChanges
 pub mod ChangeSteps
 pub mod StepLaws

@@ -21,6 +21,7 @@ pub mod Shows
 pub mod WellMade
 pub mod CpuValue
 pub mod CpuChange
+pub mod CpuNumbers
 pub mod PriorityChange
 pub mod CpuStart
 pub mod Conditions

@@ -2,3 +2,5 @@ pub mod QueuesLaws
 pub mod CpuLaws
 pub mod QueuedLaws
 pub mod PromiseLaws
+pub mod MovableLaws
+pub mod StandsLaws

@@ -4,3 +4,5 @@ pub mod TdqFields
 pub mod Replies
 pub mod Records
 pub mod Promise
+pub mod CpuThreads
+pub mod Stands

@@ -8,8 +8,8 @@ abbrev pub value_of : Inside → CpuValue
 value_of d = record {
   cpu = d.cpu;
   settings = d.settings;
-  threads = d.threads;
-  current = d.current;
+  threads = d.threads.records;
+  current = d.threads.current;
   load = d.load;
   real = d.queues.real;
   batch = d.queues.batch.lists;

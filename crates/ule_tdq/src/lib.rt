@@ -10,3 +10,4 @@ mod lines;
 mod queues;
 mod records;
 pub mod tdq;
+pub mod threads;

@@ -5,9 +5,11 @@ ghost use Rattle.ule_score.specs.Bounds.{KeepsBounds};
 ghost use Rattle.ule_score.specs.Changes.{forks};
 ghost use Rattle.ule_score.specs.Charges.{HasShortRun};
 ghost use Rattle.ule_model.specs.CpuChange.{kind_queued, value_changed, value_followed, value_forked, value_recorded, value_removed_from, value_requeued};
-ghost use Rattle.ule_model.specs.CpuValue.{IsNoEarlier, chosen_next, current_in, takes_over_in, thread_in, value_added, value_clocked, value_laid, value_line, value_place, value_switched, value_taken, value_ticked, value_ticked_with, with_given_way, with_thread_after, without_current, without_marks};
+ghost use Rattle.ule_model.specs.CpuNumbers.{is_movable, next_in, summary_of, value_marked, value_summary, with_mark};
+ghost use Rattle.ule_model.specs.CpuValue.{IsNoEarlier, StandsFor, chosen_next, current_in, takes_over_in, thread_in, value_added, value_clocked, value_laid, value_line, value_place, value_switched, value_taken, value_ticked, value_ticked_with, with_given_way, with_thread_after, without_current, without_marks};
 ghost use Rattle.ule_model.specs.Places.{lock_of};
-ghost use Rattle.ule_model.specs.Switch.{is_preemption, started_reply};
+ghost use Rattle.ule_model.specs.Switch.{is_preemption, started_reply, switched};
+ghost use Rattle.ule_model.specs.Tick.{ticked};
 ghost use Rattle.ule_model.specs.CpuStart.{StartsAs};
 ghost use Rattle.ule_model.specs.Insertion.{bucket_of};
 ghost use Rattle.ule_model.specs.declared.insertion.Insertion.TheVariants.{Ordinary};
@@ -15,26 +17,31 @@ ghost use Rattle.ule_prio.specs.Kind.{kind_at};
 ghost use Rattle.ule_prio.specs.declared.kind.Kind.TheVariants.{Batch};
 ghost use Rattle.ule_calendar.specs.Calendar.{IsCalendar};
 ghost use Rattle.ule_calendar.specs.Promise.{IsNearest};
+ghost use Rattle.ule_model.specs.World.{Side};
+ghost use Rattle.ule_runq.specs.Set.{has};
 ghost use Rattle.ule_tdq.specs.Cpu.{KeepsCpu};
 ghost use Rattle.ule_tdq.specs.Promise.{CalendarGoesOn, LeavesNextBucket, chosen_by, dial_of, when_choosing};
 ghost use Rattle.ule_tdq.specs.Records.{leaving};
-ghost use Rattle.ule_tdq.specs.Replies.{changed_reply, reply_of, ticked_reply};
+ghost use Rattle.ule_tdq.specs.Replies.{changed_reply, landed_reply, reply_of, ticked_reply};
+ghost use Rattle.ule_tdq.specs.Stands.{AnswersChange, AnswersEvent, AnswersFork, AnswersLanding, AnswersLeaving, StandsAtStart, StandsWithLaid, StandsWithout, Tells, current_on, line_on, mark_of, numbers_of_cpu, place_on, record_on};
 
 use crate::balance::{balance_after_tick, first_balance, first_word, is_due, word_after_tick};
 use crate::lines::{line_of, queued};
 use crate::queues::Queues;
 use crate::records::{current_priority, either, insertion_of, is_preemption, is_unasked, leaving};
+use crate::threads::CpuThreads;
 use std::alloc::Global;
 use std::marker::Model;
+use ule_calendar::Calendar;
 use ule_io::Memory;
 use ule_model::Insertion;
 use ule_prio::{Cpu, Kind, LockId, Priority, ThreadId, kind_of, preempts};
+use ule_runq::{Runq, ThreadSet};
 use ule_score::{
     Change, Changed, CpuLine, Place, Settings, ThreadRecord, Why, after_change, after_fork,
     after_running, after_tick, before_running, child_of, placed_on,
 };
-use ule_threads::Threads;
-use ule_types::ThreadLine;
+use ule_types::{Summary, ThreadLine};
 
 /// What a switch came to.
 #[derive(Clone, Copy, Debug, PartialEq, Eq)]
@@ -90,8 +97,7 @@ fn started(into: Option<ThreadId>) -> SwitchOut
 pub struct Tdq {
     cpu: Cpu,
     settings: Settings,
-    threads: Threads,
-    current: Option<ThreadId>,
+    threads: CpuThreads,
     // how many threads run or wait here
     load: u32,
     queues: Queues,
@@ -121,10 +127,11 @@ impl Tdq {
     pub fn start(alloc: Global, cpu: Cpu, s: &Settings, balance_word: u32) -> Result<Tdq, Memory>
         requires { IsTrue (are_settings s.now) }
         ensures start { IfOk result (λ d. StartsAs d cpu s.now balance_word) }
+        ensures stands { IfOk result (λ d. StandsAtStart d cpu s.now balance_word) }
         ensures kept { IfOk result (λ d. KeepsCpu d) }
     {
         let settings = *s;
-        let threads = Threads::none(alloc)?;
+        let threads = CpuThreads::none(alloc)?;
         let queues = Queues::empty(alloc)?;
         let is_first = cpu.0 == 0;
         let balance_word = first_word(is_first, balance_word);
@@ -132,7 +139,6 @@ impl Tdq {
             cpu,
             settings,
             threads,
-            current: None,
             load: 0,
             queues,
             resched: false,
@@ -152,6 +158,7 @@ impl Tdq {
     /// is one, is queued again, at the head of its bucket where it was preempted, and the thread
     /// whose turn comes first runs. It is `Nothing` where there was no current thread and none was
     /// queued.
+    #[tactic(auto, using(crate::proofs::StandsLaws::switch_answers))]
     pub fn switch(&mut self, why: Why, now: u64) -> SwitchOut
         requires begun { 20000 ≤ now }
         requires bounded { now < 2 ^ 36 }
@@ -161,6 +168,7 @@ impl Tdq {
         ensures ahead { is_preemption why self.old.line.slice_end ≡ false → LeavesNextBucket self.old (when_choosing why now self.old) }
         ensures nearest { IfSome (chosen_by result) (λ t. IsNearest (dial_of (when_choosing why now self.old)) t) }
         ensures reply { reply_of result ≡ (value_switched why now self.old).1 }
+        ensures stands { AnswersEvent self.old self.new (switched self.old.cpu why now) (reply_of result) }
         ensures kept { KeepsCpu self.new }
         ensures no_earlier { IsNoEarlier self.new now }
     {
@@ -170,7 +178,7 @@ impl Tdq {
         }
         let preempted = is_preemption(why, self.slice_end);
         self.clear_marks();
-        match self.current {
+        match self.threads.current() {
             None => started(self.choose_next(now)),
             Some(t) => {
                 self.give_way(preempted, now, t);
@@ -184,12 +192,14 @@ impl Tdq {
     }
 
     /// Queues a thread of the start, by ordinary insertion and without a preemption test.
+    #[tactic(auto, using(crate::proofs::StandsLaws::laid_answers))]
     pub fn lay(&mut self, r: ThreadRecord)
         requires absent { thread_in self.old r.id ≡ None }
         requires bounds { KeepsBounds r }
         ensures value { self.new ≡ value_laid r self.old }
         ensures calendar { CalendarGoesOn self.old self.new }
         ensures ahead { LeavesNextBucket self.old self.new }
+        ensures stands { StandsWithLaid self.old self.new r }
         ensures kept { KeepsCpu self.new }
         ensures no_earlier { (now : ℕ) → IsNoEarlier self.old now → r.usage.ltick ≤ now → IsNoEarlier self.new now }
     {
@@ -211,6 +221,7 @@ impl Tdq {
         ensures value { self.new ≡ (value_ticked now self.old).0 }
         ensures calendar { CalendarGoesOn self.old self.new }
         ensures reply { ticked_reply result ≡ (value_ticked now self.old).1 }
+        ensures stands { AnswersEvent self.old self.new (ticked self.old.cpu now) (ticked_reply result) }
         ensures cur { result.cur ≡ self.old.current }
         ensures kept { KeepsCpu self.new }
         ensures no_earlier { IsNoEarlier self.new now }
@@ -236,6 +247,7 @@ impl Tdq {
     /// The answer has the record of the thread that left, and the number of the one that runs now,
     /// if one was queued. `sleeping` says that the first goes to sleep, and notes when. It is `None`
     /// exactly where there is no current thread; then nothing changes.
+    #[tactic(auto, using(crate::proofs::StandsLaws::leaving_answers))]
     pub fn take_current(
         &mut self,
         now: u64,
@@ -249,12 +261,13 @@ impl Tdq {
         ensures nearest { IfSome result (λ r. IfSome r.1 (λ t. IsNearest (dial_of self.old) t)) }
         ensures taken { option_map (λ r. record { thread = r.0; into = r.1 }) result ≡ (value_taken (leaving sleeping) now self.old).1 }
         ensures left { option_map (λ r. r.0.id) result ≡ self.old.current }
+        ensures stands { AnswersLeaving self.old self.new sleeping now result }
         ensures bounds { IfSome result (λ r. KeepsBounds r.0) }
         ensures kept { KeepsCpu self.new }
         ensures no_earlier { IsNoEarlier self.new now }
     {
         self.calendar_is_kept(); // so that what the calendar keeps is known
-        let t = self.current?;
+        let t = self.threads.current()?;
         let r = self.threads.get(t)?;
         let left = leaving(r, now, sleeping);
         self.let_go(t);
@@ -263,6 +276,7 @@ impl Tdq {
 
     /// A thread comes to this CPU: queued by ordinary insertion, with a preemption test, after
     /// `sched_add`. `remote` says that the worker of another CPU brought it.
+    #[tactic(auto, using(crate::proofs::StandsLaws::landing_answers))]
     pub fn add(&mut self, r: ThreadRecord, remote: bool) -> Arrival
         requires absent { thread_in self.old r.id ≡ None }
         requires bounds { KeepsBounds r }
@@ -273,6 +287,7 @@ impl Tdq {
         ensures kind { result.kind ≡ kind_at r.priority }
         ensures bucket { result.bucket ≡ bucket_of (kind_at r.priority) Ordinary self.old.line r.priority }
         ensures marked { result.marked ≡ takes_over_in r.priority remote self.old }
+        ensures stands { AnswersLanding self.old self.new r remote (landed_reply result) }
         ensures kept { KeepsCpu self.new }
         ensures no_earlier { (now : ℕ) → IsNoEarlier self.old now → r.usage.ltick ≤ now → IsNoEarlier self.new now }
     {
@@ -303,6 +318,7 @@ impl Tdq {
         ensures value { self.new ≡ (value_changed t c remote self.old).0 }
         ensures calendar { CalendarGoesOn self.old self.new }
         ensures reply { changed_reply result ≡ (value_changed t c remote self.old).1 }
+        ensures stands { AnswersChange self.old self.new t c remote (changed_reply result) }
         ensures kept { KeepsCpu self.new }
         ensures no_earlier { (now : ℕ) → IsNoEarlier self.old now → IsNoEarlier self.new now }
     {
@@ -324,6 +340,7 @@ impl Tdq {
         ensures thread { Some result ≡ thread_in self.old t }
         ensures value { self.new ≡ value_removed_from (kind_queued self.old t) t self.old }
         ensures calendar { CalendarGoesOn self.old self.new }
+        ensures stands { StandsWithout self.old self.new t result }
         ensures number { result.id ≡ t }
         ensures bounds { KeepsBounds result }
         ensures kept { KeepsCpu self.new }
@@ -349,6 +366,7 @@ impl Tdq {
     /// The child's record becomes one of its parent's child, but for its number; the parent is
     /// charged the run time of a tick. The answer is the parent, and `None` exactly where there is
     /// no current thread; then nothing changes.
+    #[tactic(auto, using(crate::proofs::StandsLaws::fork_answers))]
     pub fn fork_from(&mut self, child: &mut ThreadRecord, now: u64) -> Option<ThreadId>
         requires begun { 20000 ≤ now }
         requires bounded { now < 2 ^ 36 }
@@ -358,6 +376,7 @@ impl Tdq {
         ensures calendar { CalendarGoesOn self.old self.new }
         ensures child { child.new ≡ (value_forked now child.old self.old).child }
         ensures parent { result ≡ (value_forked now child.old self.old).parent }
+        ensures stands { AnswersFork self.old self.new now child.old child.new result }
         ensures current { result ≡ self.old.current }
         ensures number { child.new.id ≡ child.old.id }
         ensures bounds { KeepsBounds child.new }
@@ -365,7 +384,7 @@ impl Tdq {
         ensures no_earlier { IsNoEarlier self.new now }
     {
         self.calendar_is_kept(); // so that what the calendar keeps is known
-        let t = self.current?;
+        let t = self.threads.current()?;
         let born = self.born_of(t, now, *child);
         self.charge_fork(now, t);
         *child = born;
@@ -380,29 +399,37 @@ impl Tdq {
     }
 
     /// The mark that asks for a switch.
+    #[tactic(auto, using(crate::proofs::StandsLaws::mark_tells))]
     pub fn is_marked(&self) -> bool
-        ensures { result ≡ self.now.line.resched }
+        ensures value { result ≡ self.now.line.resched }
+        ensures stands { Tells self.now result mark_of }
     {
         self.resched
     }
 
     /// The current thread, after `pc_curthread`.
+    #[tactic(auto, using(crate::proofs::StandsLaws::current_tells))]
     pub fn current(&self) -> Option<ThreadId>
-        ensures { result ≡ self.now.current }
+        ensures value { result ≡ self.now.current }
+        ensures stands { Tells self.now result (current_on self.now.cpu) }
     {
-        self.current
+        self.threads.current()
     }
 
     /// Where a thread runs or waits, if it is here.
+    #[tactic(auto, using(crate::proofs::StandsLaws::place_tells))]
     pub fn place_of(&self, t: ThreadId) -> Option<Place>
-        ensures { result ≡ option_map (λ at. at.0) (value_place self.now t) }
+        ensures value { result ≡ option_map (λ at. at.0) (value_place self.now t) }
+        ensures stands { Tells self.now result (place_on self.now.cpu t) }
     {
         self.placed(t).map(|at| at.0)
     }
 
     /// What a trace tells of a thread, if it is here.
+    #[tactic(auto, using(crate::proofs::StandsLaws::line_tells))]
     pub fn thread_line(&self, t: ThreadId) -> Option<ThreadLine>
         ensures line { result ≡ value_line self.now t }
+        ensures stands { Tells self.now result (line_on self.now.cpu t) }
         ensures number { IfSome result (λ l. l.id ≡ t) }
     {
         let r = self.threads.get(t)?;
@@ -411,15 +438,19 @@ impl Tdq {
     }
 
     /// The record of a thread, if it runs or waits here.
+    #[tactic(auto, using(crate::proofs::StandsLaws::record_tells))]
     pub fn thread(&self, t: ThreadId) -> Option<ThreadRecord>
-        ensures { result ≡ thread_in self.now t }
+        ensures value { result ≡ thread_in self.now t }
+        ensures stands { Tells self.now result (record_on self.now.cpu t) }
     {
         self.threads.get(t)
     }
 
     /// The CPU's numbers.
+    #[tactic(auto, using(crate::proofs::StandsLaws::numbers_tell))]
     pub fn line(&self) -> CpuLine
-        ensures { result ≡ self.now.line }
+        ensures value { result ≡ self.now.line }
+        ensures stands { Tells self.now result numbers_of_cpu }
     {
         CpuLine {
             idx: self.queues.batch.idx(),
@@ -432,12 +463,75 @@ impl Tdq {
         }
     }
 
+    /// What a look at the CPU sees: how many threads run or are queued here, how many of the queued
+    /// ones are not bound, and the better priority of the current thread and of the next, 255 where
+    /// there is neither. After the fields of `struct tdq` that `cpu_search` reads.
+    pub fn summary(&self) -> Summary
+        ensures value { result ≡ value_summary self.now }
+        ensures stands { Tells self.now result (summary_of self.now.cpu) }
+    {
+        let current = current_priority(self.current_record());
+        let next = current_priority(self.next_record());
+        Summary {
+            load: self.load,
+            movable: self.threads.movable_count(),
+            lowpri: current.min(next).0,
+        }
+    }
+
+    /// The queued threads that are not bound.
+    pub fn movable(&self) -> &ThreadSet
+        ensures { (t : ℕ) → has result.now t ≡ is_movable self.now t }
+    {
+        self.threads.movable()
+    }
+
+    /// Sets the mark that asks for a switch.
+    pub fn mark(&mut self)
+        ensures value { self.new ≡ value_marked self.old }
+        ensures stands { (s : Side) → StandsFor self.old s → StandsFor self.new (with_mark s) }
+        ensures kept { KeepsCpu self.new }
+    {
+        self.resched = true;
+    }
+
+    /// The queue of real priorities, after `tdq_realtime`.
+    pub fn real(&self) -> &Runq
+        ensures { result.now ≡ self.now.real }
+    {
+        &self.queues.real
+    }
+
+    /// The queue of batch priorities, after `tdq_timeshare`.
+    pub fn calendar(&self) -> &Calendar
+        ensures lists { result.now.lists ≡ self.now.batch }
+        ensures insertion { result.now.idx ≡ self.now.line.idx }
+        ensures removal { result.now.ridx ≡ self.now.line.ridx }
+    {
+        &self.queues.batch
+    }
+
+    /// The queue of idle priorities, after `tdq_idle`.
+    pub fn idle(&self) -> &Runq
+        ensures { result.now ≡ self.now.idle }
+    {
+        &self.queues.idle
+    }
+
+    /// The record of the thread whose turn comes first.
+    fn next_record(&self) -> Option<ThreadRecord>
+        ensures { result ≡ next_in self.now }
+    {
+        let (_, t) = self.queues.first()?;
+        self.threads.get(t)
+    }
+
     /// A thread's place, with its position in its bucket.
     fn placed(&self, t: ThreadId) -> Option<(Place, u8)>
         ensures place { result ≡ value_place self.now t }
         ensures lock { IfSome result (λ at. lock_of at.0 ≡ Some self.now.cpu) }
     {
-        if self.current == Some(t) {
+        if self.threads.current() == Some(t) {
             return Some((Place::Running(self.cpu), 0));
         }
         if let Some(found) = self.queues.real.find(t) {
@@ -522,7 +616,7 @@ impl Tdq {
     fn current_record(&self) -> Option<ThreadRecord>
         ensures { result ≡ current_in self.now }
     {
-        let t = self.current?;
+        let t = self.threads.current()?;
         self.threads.get(t)
     }
 
@@ -610,7 +704,7 @@ impl Tdq {
         ensures no_earlier { (now : ℕ) → IsNoEarlier self.old now → IsNoEarlier self.new now }
     {
         self.threads.put(t, None);
-        self.current = None;
+        self.threads.stop();
         self.load -= 1;
         self.resched = false;
         self.slice_end = false;
@@ -644,7 +738,7 @@ impl Tdq {
         let left = after_running(self.threads.get(t).unwrap(), now);
         let priority = left.priority;
         self.threads.put(t, Some(left));
-        self.current = None;
+        self.threads.stop();
         self.switches = self.switches.saturating_add(1);
         self.queues.insert(insertion_of(preempted), priority, t);
     }
@@ -665,7 +759,7 @@ impl Tdq {
         self.queues.remove(kind, t);
         let runs = before_running(self.threads.get(t).unwrap(), now);
         self.threads.put(t, Some(runs));
-        self.current = Some(t);
+        self.threads.run(t);
         Some(t)
     }
 }

@@ -1,4 +1,6 @@
-use Rattle.std.proofs.Common.{refl, sym, ◌∙◌}
+use Rattle.std.proofs.Common.{ap, refl, sym, ◌∙◌}
+use Rattle.ule_tdq.specs.Cpu.{times_on}
+use Rattle.ule_tdq.specs.CpuThreads.{CpuThreadsValue}
 use Rattle.ule_tdq.specs.TdqFields.{value_of}
 use Rattle.ule_tdq.proofs.CpuLaws.{KeepsCpu-anew}
 use Rattle.ule_tdq.proofs.tdq.Tdq.charge_fork.Goals as goal
@@ -11,7 +13,7 @@ invariant_of-self c =
       number = c.after_fork-after.ensures.number;
       bounds = c.after_fork-after.ensures.kept;
       settings = refl;
-      threads = c.put.ensures;
+      threads = ap (λ (x : CpuThreadsValue). x.records) c.put.ensures;
       load = refl;
-      places = λ u. refl;
+      places = λ u. ap (λ (x : CpuThreadsValue). times_on (record (value_of c.self.inside) { current = x.current }) u) c.put.ensures;
     })

@@ -1,5 +1,7 @@
-use Rattle.std.proofs.Common.{◌≡◌, Some, refl, subst, sym}
+use Rattle.std.proofs.Common.{◌≡◌, ap, Some, refl, subst, sym}
 use Rattle.ule_model.specs.CpuValue.{CpuValue, current_in}
+use Rattle.ule_tdq.specs.Cpu.{times_on}
+use Rattle.ule_tdq.specs.CpuThreads.{CpuThreadsValue}
 use Rattle.ule_tdq.specs.TdqFields.{value_of}
 use Rattle.ule_tdq.proofs.CpuLaws.{KeepsCpu-anew, current_in-number}
 use Rattle.ule_tdq.proofs.tdq.Tdq.charge_tick.Goals as goal
@@ -13,9 +15,9 @@ invariant_of-self c =
       number = c.after_tick-ended.ensures.number;
       bounds = c.after_tick-ended.ensures.kept;
       settings = refl;
-      threads = c.put.ensures;
+      threads = ap (λ (x : CpuThreadsValue). x.records) c.put.ensures;
       load = refl;
-      places = λ u. refl;
+      places = λ u. ap (λ (x : CpuThreadsValue). times_on (record (value_of c.self.inside) { current = x.current }) u) c.put.ensures;
     })
 
 pub returns-clause-kept : goal.returns-clause-kept
@@ -27,7 +29,7 @@ returns-clause-kept c =
       number = c.after_tick-ended.ensures.number;
       bounds = c.after_tick-ended.ensures.kept;
       settings = refl;
-      threads = c.put.ensures;
+      threads = ap (λ (x : CpuThreadsValue). x.records) c.put.ensures;
       load = refl;
-      places = λ u. refl;
+      places = λ u. ap (λ (x : CpuThreadsValue). times_on (record (value_of c.self.inside) { current = x.current }) u) c.put.ensures;
     })

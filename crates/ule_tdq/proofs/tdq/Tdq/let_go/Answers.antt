@@ -6,10 +6,10 @@ use Rattle.ule_tdq.proofs.tdq.Tdq.let_go.Goals as goal
 
 pub overflow_sub-self : goal.overflow_sub-self
 overflow_sub-self c =
-    let current : c.self.inside.current ≡ Some c.args.t = ap (λ (v : CpuValue). v.current) c.self.view_is ∙ c.requires.current in
+    let current : c.self.inside.threads.current ≡ Some c.args.t = ap (λ (v : CpuValue). v.current) c.self.view_is ∙ c.requires.current in
     load-positive (value_of c.self.inside) c.args.t c.self.invariant current
 
 pub invariant_of-self : goal.invariant_of-self
 invariant_of-self c =
-    let current : c.self.inside.current ≡ Some c.args.t = ap (λ (v : CpuValue). v.current) c.self.view_is ∙ c.requires.current in
-    rw c.put.ensures (KeepsCpu-let_go (value_of c.self.inside) c.args.t _ c.self.invariant current)
+    let current : c.self.inside.threads.current ≡ Some c.args.t = ap (λ (v : CpuValue). v.current) c.self.view_is ∙ c.requires.current in
+    rw (c.stop.ensures, c.put.ensures) (KeepsCpu-let_go (value_of c.self.inside) c.args.t _ c.self.invariant current)

@@ -1,11 +1,13 @@
-use Rattle.std.proofs.Common.{◌≡◌, ◌≢◌, ℕ, ◌<◌, ◌≤◌, Option, None, List, length, slice_set, get_or-set_same, get_or-set_other, subst, sym, ⊎_elim, rules}
+use Rattle.std.proofs.Common.{◌≡◌, ◌≢◌, ℕ, ◌<◌, ◌≤◌, Option, None, List, length, slice_set, get_or-set_same, get_or-set_other, subst, sym, ap, ⊎_elim, rules}
 use Rattle.std.proofs.lemmas.Bool.{cases_eq, cases_lt}
 use Rattle.std.proofs.lemmas.List.{set_past}
 use Rattle.ule_model.specs.CpuChange.{kind_queued, value_removed_from}
 use Rattle.ule_model.specs.CpuValue.{CpuValue, IsNoEarlier}
 use Rattle.ule_score.specs.declared.record.ThreadRecord.{ThreadRecord}
+use Rattle.ule_tdq.specs.CpuThreads.{CpuThreadsValue}
 use Rattle.ule_tdq.proofs.CpuLaws.{AllNoEarlier}
 use Rattle.ule_tdq.proofs.PromiseLaws.{goes_on_by_value, removed_goes_on}
+use Rattle.ule_tdq.proofs.StandsLaws.{removal_answers}
 use Rattle.ule_tdq.proofs.tdq.Tdq.rem.Goals as goal
 
 -- slots without a later CPU-use update have none with one slot emptied
@@ -21,10 +23,14 @@ AllNoEarlier-without threads t now old u =
 pub returns-clause-no_earlier : goal.returns-clause-no_earlier
 returns-clause-no_earlier c = λ now before.
     let old = subst (λ (v : CpuValue). IsNoEarlier v now) (sym c.self.view_is) before in
-    rw c.put.ensures (AllNoEarlier-without c.self.inside.threads c.args.t now old)
+    subst (λ (threads : List (Option ThreadRecord)). AllNoEarlier threads now) (sym (ap (λ (x : CpuThreadsValue). x.records) c.put.ensures))
+    (AllNoEarlier-without c.self.inside.threads.records c.args.t now old)
 
 pub returns-clause-calendar : goal.returns-clause-calendar
 returns-clause-calendar c =
     let removed : CpuValue = value_removed_from (kind_queued c.args.self.now c.args.t) c.args.t c.args.self.now in
     goes_on_by_value c.args.self.now _ removed c.calendar_is_kept.ensures (search rules)
     (removed_goes_on (kind_queued c.args.self.now c.args.t) c.args.t c.args.self.now)
+
+pub returns-clause-stands : goal.returns-clause-stands
+returns-clause-stands c = removal_answers c.args.t c.args.self.now _ _ c.requires (search rules) (search rules)

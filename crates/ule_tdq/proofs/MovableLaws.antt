@@ -1,0 +1,101 @@
+-- What keeps the set and the count of the threads on a CPU that are not bound.
+use Rattle.std.proofs.Common.{◌≡◌, ℕ, ◌+◌, ◌<◌, ◌≤◌, ◌==◌, Bool, true, false, not, ◌&&◌, List, [], ◌∷◌, length, slice_index_or, slice_set, Option, Some, None, ⊎_elim, if◌then◌else◌, refl, sym, ◌∙◌, ap, arith, get_or-set_same, get_or-set_other}
+use Rattle.std.specs.Prelude.{count_by, suc}
+use Rattle.std.proofs.lemmas.Bool.{cases_eq, cases_lt, eq-eqb, ne_eqb}
+use Rattle.std.proofs.lemmas.List.{get_or_past, set_past}
+use Rattle.std.proofs.lemmas.List.Sums.{count_by-le-length, get_or-le-sum_by, sum_by-cons, sum_by-set}
+use Rattle.ule_model.specs.CpuNumbers.{is_unbound, records_but}
+use Rattle.ule_model.specs.Places.{is_number}
+use Rattle.ule_runq.specs.Set.{has}
+use Rattle.ule_score.specs.declared.record.ThreadRecord.{ThreadRecord}
+use Rattle.ule_tdq.specs.CpuThreads.{HasUnbound}
+
+-- what a record adds to the count
+abbrev pub counted : Option ThreadRecord → ℕ
+counted o = if is_unbound o then 1 else 0
+
+-- a set has one thread or not, and every other as before
+abbrev pub IsSetAt : List ℕ → List ℕ → ℕ → Bool → Type 0
+IsSetAt old new t movable = (u : ℕ) → has new u ≡ (if u == t then movable else has old u)
+
+-- a table without records has none that is not bound
+pub none_unbound : (slots : List (Option ThreadRecord)) → ((t : ℕ) → slice_index_or slots t None ≡ None) → count_by is_unbound slots ≡ 0
+none_unbound [] none = refl
+none_unbound (o ∷ rest) none =
+    let first : counted o ≡ 0 = ap counted (none 0) in
+    let more : count_by is_unbound rest ≡ 0 = none_unbound rest (λ t. none (suc t)) in
+    let all : count_by is_unbound (o ∷ rest) ≡ counted o + count_by is_unbound rest = sum_by-cons counted o rest in
+    omega arith
+
+-- no more threads are counted than there are slots
+pub unbound_few : (slots : List (Option ThreadRecord)) → length slots ≡ 256 → count_by is_unbound slots ≤ 256
+unbound_few slots long = let most = count_by-le-length is_unbound slots in omega arith
+
+-- a thread in a slot is counted
+pub counted_within : (slots : List (Option ThreadRecord)) (t : ℕ) → t < length slots → counted (slice_index_or slots t None) ≤ count_by is_unbound slots
+counted_within slots t within = get_or-le-sum_by counted slots t None within
+
+-- the count once another record is kept in a slot
+pub recounted : (slots : List (Option ThreadRecord)) (t : ℕ) (kept : Option ThreadRecord) → t < length slots →
+    count_by is_unbound (slice_set slots t kept) + counted (slice_index_or slots t None) ≡ count_by is_unbound slots + counted kept
+recounted slots t kept within = sum_by-set counted slots t kept None within
+
+-- what a table without the current thread's record has
+but_at : (current : Option ℕ) (slots : List (Option ThreadRecord)) (u : ℕ) →
+    slice_index_or (records_but current slots) u None ≡ (if is_number u current then None else slice_index_or slots u None)
+but_at None slots u = refl
+but_at (Some c) slots u = ⊎_elim same other (cases_eq u c)
+  where
+    gone : slice_index_or (slice_set slots c None) c None ≡ None
+    gone =
+        ⊎_elim (λ (within : c < length slots). get_or-set_same slots c None None within)
+        (λ (past : length slots ≤ c). ap (λ xs. slice_index_or xs c None) (set_past slots c None past) ∙ get_or_past slots c None past)
+        (cases_lt c (length slots))
+
+    same : u ≡ c → slice_index_or (slice_set slots c None) u None ≡ (if u == c then None else slice_index_or slots u None)
+    same is =
+        ap (λ z. slice_index_or (slice_set slots c None) z None) is ∙ gone ∙
+        sym (ap (λ d. if d then None else slice_index_or slots u None) (eq-eqb u c is))
+
+    other : (u ≡ c → ⊥) → slice_index_or (slice_set slots c None) u None ≡ (if u == c then None else slice_index_or slots u None)
+    other differs =
+        get_or-set_other slots c u None None differs ∙ sym (ap (λ d. if d then None else slice_index_or slots u None) (ne_eqb u c differs))
+
+-- a record that isn't looked at counts for none
+hidden : (kept : Option ThreadRecord) (d : Bool) → (is_unbound kept && not d) ≡ is_unbound (if d then None else kept)
+hidden kept true = none (is_unbound kept)
+  where
+    none : (b : Bool) → (b && false) ≡ false
+    none true = refl
+    none false = refl
+hidden kept false = all (is_unbound kept)
+  where
+    all : (b : Bool) → (b && true) ≡ b
+    all true = refl
+    all false = refl
+
+-- the set of the queued threads that are not bound, once another record is kept of a thread
+pub movable_kept : (old new : List ℕ) (current : Option ℕ) (slots : List (Option ThreadRecord)) (t : ℕ) (kept : Option ThreadRecord) →
+    t < length slots → HasUnbound old (records_but current slots) → IsSetAt old new t (is_unbound kept && not (is_number t current)) →
+    HasUnbound new (records_but current (slice_set slots t kept))
+movable_kept old new current slots t kept within has_old is_set u = ⊎_elim same other (cases_eq u t)
+  where
+    at : slice_index_or (records_but current (slice_set slots t kept)) u None ≡
+        (if is_number u current then None else slice_index_or (slice_set slots t kept) u None)
+    at = but_at current (slice_set slots t kept) u
+
+    shown : (o : Option ThreadRecord) → slice_index_or (slice_set slots t kept) u None ≡ o →
+        is_unbound (slice_index_or (records_but current (slice_set slots t kept)) u None) ≡ is_unbound (if is_number u current then None else o)
+    shown o is = ap is_unbound at ∙ ap (λ x. is_unbound (if is_number u current then None else x)) is
+
+    same : u ≡ t → has new u ≡ is_unbound (slice_index_or (records_but current (slice_set slots t kept)) u None)
+    same is =
+        is_set u ∙ ap (λ d. if d then is_unbound kept && not (is_number t current) else has old u) (eq-eqb u t is) ∙
+        ap (λ z. is_unbound kept && not (is_number z current)) (sym is) ∙ hidden kept (is_number u current) ∙
+        sym (shown kept (ap (λ z. slice_index_or (slice_set slots t kept) z None) is ∙ get_or-set_same slots t kept None within))
+
+    other : (u ≡ t → ⊥) → has new u ≡ is_unbound (slice_index_or (records_but current (slice_set slots t kept)) u None)
+    other differs =
+        is_set u ∙ ap (λ d. if d then is_unbound kept && not (is_number t current) else has old u) (ne_eqb u t differs) ∙
+        has_old u ∙ ap is_unbound (but_at current slots u) ∙
+        sym (shown (slice_index_or slots u None) (get_or-set_other slots t u kept None differs))
