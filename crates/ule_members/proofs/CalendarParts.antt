@@ -19,7 +19,7 @@ use Rattle.ule_model.specs.Insertion.{bucket_of, members_in, place_of_insertion,
 use Rattle.ule_model.specs.Switch.{after_leaving, after_queue_removal, choosing_next, lifted, put_running, running_chosen}
 use Rattle.ule_model.specs.World.{Member, Side, is_numbered, moved_to, others, thread_of}
 use Rattle.ule_members.proofs.CalendarMoves.{IsQueuedOn, queued_where_waits}
-use Rattle.ule_members.proofs.CalendarPlaces.{Filing, FindsEach, IsFiled, filed_at, filed_found, filed_in, filed_itself, filing_found, filing_moved, filing_moved_other, filing_of, filing_recorded, none_where_filed, some_filed}
+use Rattle.ule_members.proofs.CalendarPlaces.{Filing, FindsEach, IsFiled, filed_at, filed_found, filed_in, filed_itself, filing_found, filing_moved, filing_moved_other, filing_of, filing_recorded, none_where_filed, some_filed, unfiled_kind}
 use Rattle.ule_members.proofs.CalendarRules.{IndexRule, IsClose, IsWithin, Passage, Tells, ordinary_is_ahead, removes, rule_from, stays, turns}
 use Rattle.ule_members.proofs.Membership.{Has, has-filter, has_filtered, has_thread_of}
 use Rattle.ule_members.proofs.Moves.{calendar_bucket_small, choice_stands}
@@ -45,14 +45,8 @@ joined_bucket how c b p line is = split how (of_kind (kind_at p) is)
   where
     of_kind : (k : Kind) → filed_at c (Queued c k (bucket_of k how line p)) ≡ Some b → b ≡ bucket_of Batch how line p
     of_kind Batch is = same_Some b (bucket_of Batch how line p) (sym is ∙ filed_itself c (bucket_of Batch how line p))
-    of_kind Real is = absurd (none-some b (sym (none_of Real refl) ∙ is))
-      where
-        none_of : (k : Kind) → filed_in k (bucket_of Real how line p) ≡ None → filed_at c (Queued c k (bucket_of Real how line p)) ≡ None
-        none_of k none = cond-true (c == c) (filed_in k (bucket_of Real how line p)) None (eq-eqb c c refl) ∙ none
-    of_kind Idle is = absurd (none-some b (sym (none_of Idle refl) ∙ is))
-      where
-        none_of : (k : Kind) → filed_in k (bucket_of Idle how line p) ≡ None → filed_at c (Queued c k (bucket_of Idle how line p)) ≡ None
-        none_of k none = cond-true (c == c) (filed_in k (bucket_of Idle how line p)) None (eq-eqb c c refl) ∙ none
+    of_kind Real is = absurd (none-some b (sym (unfiled_kind c (bucket_of Real how line p) Real refl) ∙ is))
+    of_kind Idle is = absurd (none-some b (sym (unfiled_kind c (bucket_of Idle how line p) Idle refl) ∙ is))
 
     split : (h : Insertion) → b ≡ bucket_of Batch h line p → IsJoined h line.idx line.ridx b
     split Ordinary same = (p, same)
@@ -153,8 +147,7 @@ module _ (c : ℕ) (m : Member) (s : Side) (finds : FindsEach s.members) (found 
       unfiled j none is t a there =
           without_other m.thread.id t (filing_of c s.members)
           (λ same. none-some a
-          (sym (ap (filing_of c s.members) same ∙ filing_found c m.thread.id m s.members found ∙ ap (filed_at c) is ∙
-          cond-true (c == c) (filed_in j b) None (eq-eqb c c refl) ∙ none) ∙ there)) ∙
+          (sym (ap (filing_of c s.members) same ∙ filing_found c m.thread.id m s.members found ∙ ap (filed_at c) is ∙ unfiled_kind c b j none) ∙ there)) ∙
           there
 
       of_kind : (j : Kind) → m.place ≡ Queued c j b → RuleAt (after_queue_removal j c s.line (others m.thread.id s.members))
@@ -164,17 +157,18 @@ module _ (c : ℕ) (m : Member) (s : Side) (finds : FindsEach s.members) (found 
 
 -- ---- the choice
 
--- threads that are filed alike
+-- whether a bucket is empty is told alike of threads that are filed alike
+tells_alike : (empty : Bool) (b : ℕ) (g h : Filing) → ((t : ℕ) → h t ≡ g t) → Tells empty b g → Tells empty b h
+tells_alike empty b g h alike tells = record {
+  some = λ is. let one = tells.some is in (one.0, alike one.0 ∙ one.1);
+  none = λ t is. tells.none t (sym (alike t) ∙ is);
+}
+
+-- a rule that looked at some threads looked so at threads that are filed alike
 pub rule_alike : (i r j q : ℕ) (f g h : Filing) → ((t : ℕ) → h t ≡ g t) → IndexRule i r j q f g → IndexRule i r j q f h
 rule_alike i r j q f g h alike (stays same still within) = stays same still (λ t b is. alike t ∙ within t b is)
-rule_alike i r j q f g h alike (removes empty tells same to) = removes empty (tells_alike empty r tells) same to
-  where
-    tells_alike : (e : Bool) (b : ℕ) → Tells e b g → Tells e b h
-    tells_alike e b tells = record { some = λ is. let one = tells.some is in (one.0, alike one.0 ∙ one.1); none = λ t is. tells.none t (sym (alike t) ∙ is) }
-rule_alike i r j q f g h alike (turns empty tells within to also) = turns empty (tells_alike empty r tells) (λ t b is. alike t ∙ within t b is) to also
-  where
-    tells_alike : (e : Bool) (b : ℕ) → Tells e b g → Tells e b h
-    tells_alike e b tells = record { some = λ is. let one = tells.some is in (one.0, alike one.0 ∙ one.1); none = λ t is. tells.none t (sym (alike t) ∙ is) }
+rule_alike i r j q f g h alike (removes empty tells same to) = removes empty (tells_alike empty r g h alike tells) same to
+rule_alike i r j q f g h alike (turns empty tells within to also) = turns empty (tells_alike empty r g h alike tells) (λ t b is. alike t ∙ within t b is) to also
 
 -- a side where the next thread was chosen, by the index rule
 pub record Chose (c : ℕ) (s n : Side) : Type 0 where

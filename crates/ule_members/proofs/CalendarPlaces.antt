@@ -49,6 +49,10 @@ filed_itself c b = cond-true (c == c) (Some b) None (eq-eqb c c refl)
 pub filed_elsewhere : (c d : ℕ) (k : Kind) (b : ℕ) → c ≢ d → filed_at c (Queued d k b) ≡ None
 filed_elsewhere c d k b apart = cond-false (c == d) (filed_in k b) None (ne_eqb c d apart)
 
+-- a bucket of another queue is in no calendar
+pub unfiled_kind : (c b : ℕ) (k : Kind) → filed_in k b ≡ None → filed_at c (Queued c k b) ≡ None
+unfiled_kind c b k none = cond-true (c == c) (filed_in k b) None (eq-eqb c c refl) ∙ none
+
 -- a place that is filed is that bucket
 pub filed_place : (c b : ℕ) (place : Place) → filed_at c place ≡ Some b → place ≡ Queued c Batch b
 filed_place c b (Running d) is = absurd (none-some b is)
