@@ -2,50 +2,22 @@
 use Rattle.std.proofs.Common.{◌≡◌, ◌≢◌, ◌==◌, ℕ, ◌+◌, ◌%◌, ◌<◌, ◌≤◌, Bool, true, false, not, cond, ◌&&◌, Option, Some, IfSome, List, length, arith, refl, sym, subst, ap, ◌∙◌, ⊎_elim}
 use Rattle.std.proofs.lemmas.Bool.{cases_lt, eqb-false, eqb-true}
 use Rattle.ule_model.specs.CalendarIndexes.{calendar_bucket, distance_of, reach_of}
+use Rattle.ule_model.proofs.IndexLaws.{goes_by_one, goes_nearer, turned_from}
 use Rattle.ule_runq.specs.Runq.{IsFirstFrom, IsRunq, bucket_in, is_empty_at, list_at}
 use Rattle.ule_runq.proofs.RunqLaws.{bucket_in-at}
 use Rattle.ule_runq.proofs.Counts.{count_head}
 use Rattle.ule_calendar.specs.Calendar.{AreClose, Dial, turned}
-use Rattle.ule_calendar.specs.Promise.{GoesOn, HasCloseIndexes, IsNearest}
+use Rattle.ule_calendar.specs.Promise.{DialGoesOn, DialIsClose, IsNearest}
 
--- ---- a round of 64
-
--- an index that goes on, or doesn't, goes by one at most
-steps-le : (i : ℕ) (goes : Bool) → i < 64 → distance_of i (cond goes ((i + 1) % 64) i) ≤ 1
-steps-le i true below = omega arith
-steps-le i false below = omega arith
-
--- by that it comes nearer to every bucket but the one that it leaves
-nearer_by_steps : (i b : ℕ) (goes : Bool) → i < 64 → b < 64 → (b ≡ i → goes ≡ false) →
-    distance_of (cond goes ((i + 1) % 64) i) b + distance_of i (cond goes ((i + 1) % 64) i) ≡ distance_of i b
-nearer_by_steps i b true below within stays =
-    let apart : b ≢ i = λ here. let no = stays here in cc in
-    omega arith
-nearer_by_steps i b false below within stays = omega arith
-
--- ---- the tests that the indexes go by
-
--- one bucket back, where the bucket is the one at the removal index and the indexes differ
-ahead_if : (i r b : ℕ) (same here : Bool) → r < 64 → (r == i) ≡ same → (b == r) ≡ here → i ≢ r → cond (not same && here) ((b + 63) % 64) b ≢ r
-ahead_if i r b true here within es eh apart = absurd (apart (sym (eqb-true r i es)))
-ahead_if i r b false true within es eh apart = let is : b ≡ r = eqb-true b r eh in λ stays. omega arith
-ahead_if i r b false false within es eh apart = eqb-false b r eh
+-- ---- what the calls keep
 
 -- a bucket that has a thread is not left at a turn
 not_left_at_turn : (q : List (List ℕ)) (b r : ℕ) (same : Bool) → (b ≡ r → is_empty_at q b ≡ false) → b ≡ r → (same && is_empty_at q r) ≡ false
 not_left_at_turn q b r true kept here = ap (is_empty_at q) (sym here) ∙ kept here
 not_left_at_turn q b r false kept here = refl
 
--- the removal index after a turn goes on from itself, since it goes only where the indexes are equal
-turned_from : (i r : ℕ) (same empty : Bool) → (i == r) ≡ same → cond (same && empty) ((i + 1) % 64) r ≡ cond (same && empty) ((r + 1) % 64) r
-turned_from i r true true es = ap (λ n. (n + 1) % 64) (eqb-true i r es)
-turned_from i r true false es = refl
-turned_from i r false empty es = refl
-
--- ---- what the calls keep
-
 -- indexes that are where a calendar has them are close
-pub close_indexes : (d : Dial) → d.ridx < 64 → AreClose d → HasCloseIndexes d
+pub close_indexes : (d : Dial) → d.ridx < 64 → AreClose d → DialIsClose d
 close_indexes d within close = record {
   apart =
       ⊎_elim (λ (same : d.idx ≡ d.ridx). omega arith) (λ (ahead : (d.idx ≡ (d.ridx + 1) % 64) × (is_empty_at d.lists d.ridx ≡ false)). let one = ahead.0 in omega arith) close;
@@ -54,13 +26,13 @@ close_indexes d within close = record {
 
 -- a calendar goes on where its insertion index stays, and its removal index goes on by one at most, from a bucket
 -- that is empty then
-pub goes_on_by : (old new : Dial) (goes : Bool) → old.ridx < 64 → HasCloseIndexes new → new.idx ≡ old.idx →
-    new.ridx ≡ cond goes ((old.ridx + 1) % 64) old.ridx → (goes ≡ true → is_empty_at new.lists old.ridx ≡ true) → GoesOn old new
+pub goes_on_by : (old new : Dial) (goes : Bool) → old.ridx < 64 → DialIsClose new → new.idx ≡ old.idx →
+    new.ridx ≡ cond goes ((old.ridx + 1) % 64) old.ridx → (goes ≡ true → is_empty_at new.lists old.ridx ≡ true) → DialGoesOn old new
 goes_on_by old new goes within close idx ridx empty = record {
   close = close;
   idx = let same = idx in omega arith;
-  ridx = rw ridx (steps-le old.ridx goes within);
-  nearer = λ b below kept. rw ridx (nearer_by_steps old.ridx b goes within below (λ here. stays goes b here (kept here) empty));
+  ridx = rw ridx (goes_by_one old.ridx goes within);
+  nearer = λ b below kept. rw ridx (goes_nearer old.ridx b goes within below (λ here. stays goes b here (kept here) empty));
 }
   where
     stays : (g : Bool) (b : ℕ) → b ≡ old.ridx → is_empty_at new.lists b ≡ false → (g ≡ true → is_empty_at new.lists old.ridx ≡ true) → g ≡ false
@@ -68,22 +40,16 @@ goes_on_by old new goes within close idx ridx empty = record {
     stays false b here some none = refl
 
 -- a calendar goes on at a turn
-pub goes_on_turned : (d : Dial) → d.idx < 64 → d.ridx < 64 → HasCloseIndexes (turned d) → GoesOn d (turned d)
+pub goes_on_turned : (d : Dial) → d.idx < 64 → d.ridx < 64 → DialIsClose (turned d) → DialGoesOn d (turned d)
 goes_on_turned d idx_within ridx_within close =
     let empty : Bool = is_empty_at d.lists d.ridx in
     let from = turned_from d.idx d.ridx (d.idx == d.ridx) empty refl in record {
       close = close;
-      idx = steps-le d.idx (d.idx == d.ridx) idx_within;
-      ridx = rw from (steps-le d.ridx ((d.idx == d.ridx) && empty) ridx_within);
+      idx = goes_by_one d.idx (d.idx == d.ridx) idx_within;
+      ridx = rw from (goes_by_one d.ridx ((d.idx == d.ridx) && empty) ridx_within);
       nearer = λ b within kept.
-          rw from (nearer_by_steps d.ridx b ((d.idx == d.ridx) && empty) ridx_within within (not_left_at_turn d.lists b d.ridx (d.idx == d.ridx) kept));
+          rw from (goes_nearer d.ridx b ((d.idx == d.ridx) && empty) ridx_within within (not_left_at_turn d.lists b d.ridx (d.idx == d.ridx) kept));
     }
-
--- while the indexes differ, no ordinary insertion joins the bucket at the removal index
-pub ordinary_ahead : (i r p : ℕ) → r < 64 → i ≢ r → calendar_bucket i r p ≢ r
-ordinary_ahead i r p within apart =
-    let b : ℕ = (reach_of p + i) % 64 in
-    ahead_if i r b (r == i) (b == r) within refl refl apart
 
 -- ---- the thread that is chosen
 

@@ -25,14 +25,14 @@ abbrev pub KeepsIndexes : Dial → Dial → Type 0
 KeepsIndexes old new = (new.idx ≡ old.idx) × (new.ridx ≡ old.ridx)
 
 -- the insertion index is at most one ahead of the removal index, and then the bucket at the removal index has a thread
-pub record HasCloseIndexes (d : Dial) : Type 0 where
+pub record DialIsClose (d : Dial) : Type 0 where
   pub apart : distance_of d.ridx d.idx ≤ 1
   pub held : distance_of d.ridx d.idx ≡ 1 → is_empty_at d.lists d.ridx ≡ false
 
 -- what every call keeps: the indexes are close after it, each goes on by one at most, and by the steps of the
 -- removal index each bucket comes nearer, but for the one that it left behind empty
-pub record GoesOn (old new : Dial) : Type 0 where
-  pub close : HasCloseIndexes new
+pub record DialGoesOn (old new : Dial) : Type 0 where
+  pub close : DialIsClose new
   pub idx : idx_steps old new ≤ 1
   pub ridx : ridx_steps old new ≤ 1
   pub nearer : (b : ℕ) → b < 64 → IsKept old new b → ComesNearer old new b

@@ -5,7 +5,7 @@ ghost use Rattle.ule_prio.specs.declared.kind.Kind.TheVariants.{Batch};
 ghost use Rattle.ule_runq.specs.Runq.{times, bucket_in, first_from};
 ghost use Rattle.ule_model.specs.CalendarIndexes.{calendar_bucket, distance_of};
 ghost use Rattle.ule_calendar.specs.Calendar.{with_ordinary, with_next, after_removal, turned, IsCalendar};
-ghost use Rattle.ule_calendar.specs.Promise.{GoesOn, HasCloseIndexes, IsNearest, KeepsIndexes};
+ghost use Rattle.ule_calendar.specs.Promise.{DialGoesOn, DialIsClose, IsNearest, KeepsIndexes};
 
 use std::alloc::Global;
 use std::marker::Model;
@@ -56,7 +56,7 @@ impl Calendar {
     /// An empty calendar, after `tdq_setup`. It takes all the memory that it ever needs.
     pub fn empty(alloc: Global) -> Result<Calendar, Memory>
         ensures start { IfOk result (λ c. c ≡ record { lists = replicate 64 []; idx = 0; ridx = 0 }) }
-        ensures close { IfOk result (λ c. HasCloseIndexes c) }
+        ensures close { IfOk result (λ c. DialIsClose c) }
     {
         Ok(Calendar {
             lists: Runq::empty(alloc)?,
@@ -76,7 +76,7 @@ impl Calendar {
         ensures within { result < 64 }
         ensures filed { self.new ≡ with_ordinary self.old t p }
         ensures calendar { IsCalendar self.new }
-        ensures goes_on { GoesOn self.old self.new }
+        ensures goes_on { DialGoesOn self.old self.new }
         ensures indexes { KeepsIndexes self.old self.new }
         ensures ahead { self.old.idx ≢ self.old.ridx → result ≢ self.old.ridx }
     {
@@ -94,7 +94,7 @@ impl Calendar {
         ensures within { result < 64 }
         ensures filed { self.new ≡ with_next self.old t head }
         ensures calendar { IsCalendar self.new }
-        ensures goes_on { GoesOn self.old self.new }
+        ensures goes_on { DialGoesOn self.old self.new }
         ensures indexes { KeepsIndexes self.old self.new }
     {
         if head {
@@ -113,7 +113,7 @@ impl Calendar {
         ensures bucket { bucket_in self.old.lists t ≡ Some result }
         ensures rest { self.new ≡ after_removal self.old t }
         ensures calendar { IsCalendar self.new }
-        ensures goes_on { GoesOn self.old self.new }
+        ensures goes_on { DialGoesOn self.old self.new }
         ensures idx { self.new.idx ≡ self.old.idx }
     {
         let bucket = self.lists.remove(t);
@@ -129,7 +129,7 @@ impl Calendar {
     pub fn turn(&mut self)
         ensures turned { self.new ≡ turned self.old }
         ensures calendar { IsCalendar self.new }
-        ensures goes_on { GoesOn self.old self.new }
+        ensures goes_on { DialGoesOn self.old self.new }
     {
         if self.idx == self.ridx {
             self.idx = (self.idx + 1) % 64;
@@ -146,7 +146,7 @@ impl Calendar {
         ensures none { IsNone result ↔ All (λ xs. xs ≡ []) self.now.lists }
         ensures found { IfSome result (λ t. times self.now.lists t ≡ 1) }
         ensures nearest { IfSome result (λ t. IsNearest self.now t) }
-        ensures close { HasCloseIndexes self.now }
+        ensures close { DialIsClose self.now }
     {
         let (_, t) = self.lists.first_from(self.ridx)?;
         Some(t)
@@ -157,7 +157,7 @@ impl Calendar {
     pub fn distance(&self, b: u8) -> u8
         requires { b < 64 }
         ensures value { result ≡ distance_of self.now.ridx b }
-        ensures close { HasCloseIndexes self.now }
+        ensures close { DialIsClose self.now }
     {
         (b + 64 - self.ridx) % 64
     }
@@ -166,7 +166,7 @@ impl Calendar {
     pub fn idx(&self) -> u8
         ensures value { result ≡ self.now.idx }
         ensures calendar { IsCalendar self.now }
-        ensures close { HasCloseIndexes self.now }
+        ensures close { DialIsClose self.now }
     {
         self.idx
     }
@@ -175,7 +175,7 @@ impl Calendar {
     pub fn ridx(&self) -> u8
         ensures value { result ≡ self.now.ridx }
         ensures calendar { IsCalendar self.now }
-        ensures close { HasCloseIndexes self.now }
+        ensures close { DialIsClose self.now }
     {
         self.ridx
     }
@@ -183,7 +183,7 @@ impl Calendar {
     /// The 64 buckets, after `tdq_timeshare`.
     pub fn lists(&self) -> &Runq
         ensures value { result.now ≡ self.now.lists }
-        ensures close { HasCloseIndexes self.now }
+        ensures close { DialIsClose self.now }
     {
         &self.lists
     }

@@ -10,7 +10,7 @@ use Rattle.ule_score.specs.declared.place.Place.{Place}
 use Rattle.ule_score.specs.declared.record.ThreadRecord.{ThreadRecord}
 use Rattle.ule_types.specs.declared.look.Summary.{Summary}
 use Rattle.ule_model.specs.Choice.{choice_of}
-use Rattle.ule_model.specs.CpuNumbers.{is_unbound, low_priority_in, low_priority_of, movable_in, movable_of, next_in, queued_records, records_but, summary_of, value_summary}
+use Rattle.ule_model.specs.CpuNumbers.{is_unbound, low_priority_in, low_priority_of, movable_in, movable_of, next_record, queued_records, records_but, summary_of, value_summary}
 use Rattle.ule_model.specs.CpuValue.{CpuValue, StandsFor, first_in, thread_in}
 use Rattle.ule_model.specs.Landing.{current_priority, current_record}
 use Rattle.ule_model.specs.Places.{is_on, runs_on, waits_on}
@@ -201,7 +201,7 @@ movable_stands v s stands made =
 
 -- the record of the thread whose turn comes first is that of the choice
 pub next_stands : (v : CpuValue) (s : Side) → StandsFor v s → IsWellMade s.members →
-    next_in v ≡ option_map (λ m. m.thread) (choice_of v.cpu s.line.ridx s.members)
+    next_record v ≡ option_map (λ m. m.thread) (choice_of v.cpu s.line.ridx s.members)
 next_stands v s stands made = look (first_in v) (choice_of v.cpu s.line.ridx s.members) (choices_agree v s stands made)
   where
     look : (first : Option (Kind × ℕ)) (choice : Option Member) → Agrees v.cpu s.members first choice →
@@ -219,7 +219,7 @@ next_stands v s stands made = look (first_in v) (choice_of v.cpu s.line.ridx s.m
 pub low_priority_stands : (v : CpuValue) (s : Side) → StandsFor v s → IsWellMade s.members →
     low_priority_in v ≡ low_priority_of v.cpu s.line.ridx s.members
 low_priority_stands v s stands made =
-    ap (λ o. min (current_priority o) (current_priority (next_in v))) (current_in_is v s stands made) ∙
+    ap (λ o. min (current_priority o) (current_priority (next_record v))) (current_in_is v s stands made) ∙
     ap (λ o. min (current_priority (current_record v.cpu s.members)) (current_priority o)) (next_stands v s stands made)
 
 -- ---- all three

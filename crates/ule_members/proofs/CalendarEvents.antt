@@ -30,7 +30,7 @@ use Rattle.ule_model.specs.World.{Member, Side, current_of, thread_of, with_chan
 use Rattle.ule_members.proofs.CalendarMoves.{AreMoved, Others, current_unfiled, forked_moved, gave_moved, moved_aside, moved_finds, recorded, taken_moved, unmoved}
 use Rattle.ule_members.proofs.CalendarParts.{IsNextIf, Joins, SidePassage, choosing_chose, joined_chose, joined_passes, lifted_rule, queued_joins, unaltered, without_itself, without_one, without_other, without_within}
 use Rattle.ule_members.proofs.CalendarPlaces.{Filing, FindsEach, IsFiled, filed_found, filing_moved_aside, filing_of, filing_recorded, none_where_filed, some_filed}
-use Rattle.ule_members.proofs.CalendarRules.{IndexRule, IsClose, Tells, indexes_within, rule_from, turns}
+use Rattle.ule_members.proofs.CalendarRules.{IndexRule, IsClose, TellsEmpty, indexes_within, rule_from, turns}
 use Rattle.ule_members.proofs.Membership.{has_thread_of}
 use Rattle.ule_members.proofs.Reach.{is_number_itself}
 use Rattle.ule_members.proofs.Threads.{thread_of-changed_same}
@@ -70,7 +70,7 @@ module _ (worker now : ℕ) (e : Event) (c : ℕ) (s : Side) (close : IsClose s.
   -- ---- ticks
 
   -- whether the bucket at the removal index is empty
-  bucket_tells : Tells (length (members_in c Batch s.line.ridx s.members) == 0) s.line.ridx (filing_of c s.members)
+  bucket_tells : TellsEmpty (length (members_in c Batch s.line.ridx s.members) == 0) s.line.ridx (filing_of c s.members)
   bucket_tells = record {
     some = λ is. let one = some_filed c s.line.ridx s.members s.members finds (λ m has. has) is in (one.0.thread.id, one.1.1);
     none = λ t is.

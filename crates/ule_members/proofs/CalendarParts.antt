@@ -19,28 +19,29 @@ use Rattle.ule_model.specs.Insertion.{bucket_of, members_in, place_of_insertion,
 use Rattle.ule_model.specs.Switch.{after_leaving, after_queue_removal, choosing_next, lifted, put_running, running_chosen}
 use Rattle.ule_model.specs.World.{Member, Side, is_numbered, moved_to, others, thread_of}
 use Rattle.ule_members.proofs.CalendarMoves.{IsQueuedOn, queued_where_waits}
+use Rattle.ule_model.proofs.IndexLaws.{ordinary_is_ahead}
 use Rattle.ule_members.proofs.CalendarPlaces.{Filing, FindsEach, IsFiled, filed_at, filed_found, filed_in, filed_itself, filing_found, filing_moved, filing_moved_other, filing_of, filing_recorded, none_where_filed, some_filed, unfiled_kind}
-use Rattle.ule_members.proofs.CalendarRules.{IndexRule, IsClose, IsWithin, Passage, Tells, ordinary_is_ahead, removes, rule_from, stays, turns}
+use Rattle.ule_members.proofs.CalendarRules.{IndexRule, IsClose, IsWithin, Passage, TellsEmpty, removes, rule_from, stays, turns}
 use Rattle.ule_members.proofs.Membership.{Has, has-filter, has_filtered, has_thread_of}
 use Rattle.ule_members.proofs.Moves.{calendar_bucket_small, choice_stands}
 
 -- ---- a thread that joins
 
 -- the bucket that an insertion of each kind joins, by these indexes
-abbrev pub IsJoined : Insertion → (i r b : ℕ) → Type 0
-IsJoined Ordinary i r b = (p : ℕ) × (b ≡ calendar_bucket i r p)
-IsJoined Borrowing i r b = b ≡ r
-IsJoined Preempted i r b = b ≡ r
+abbrev pub HasJoined : Insertion → (i r b : ℕ) → Type 0
+HasJoined Ordinary i r b = (p : ℕ) × (b ≡ calendar_bucket i r p)
+HasJoined Borrowing i r b = b ≡ r
+HasJoined Preempted i r b = b ≡ r
 
 -- a side with the indexes i and r where thread u may have joined the threads that were filed by f
 pub record Joins (how : Insertion) (c u i r : ℕ) (f : Filing) (n : Side) : Type 0 where
   pub insertion : n.line.idx ≡ i
   pub removal : n.line.ridx ≡ r
   pub kept : IsWithin f (filing_of c n.members)
-  pub came : (t b : ℕ) → filing_of c n.members t ≡ Some b → (f t ≡ Some b) ⊎ ((t ≡ u) × IsJoined how i r b)
+  pub came : (t b : ℕ) → filing_of c n.members t ≡ Some b → (f t ≡ Some b) ⊎ ((t ≡ u) × HasJoined how i r b)
 
 -- the bucket of an insertion in the calendar is the one that it joins
-pub joined_bucket : (how : Insertion) (c b p : ℕ) (line : CpuLine) → filed_at c (place_of_insertion how c line p) ≡ Some b → IsJoined how line.idx line.ridx b
+pub joined_bucket : (how : Insertion) (c b p : ℕ) (line : CpuLine) → filed_at c (place_of_insertion how c line p) ≡ Some b → HasJoined how line.idx line.ridx b
 joined_bucket how c b p line is = split how (of_kind (kind_at p) is)
   where
     of_kind : (k : Kind) → filed_at c (Queued c k (bucket_of k how line p)) ≡ Some b → b ≡ bucket_of Batch how line p
@@ -48,7 +49,7 @@ joined_bucket how c b p line is = split how (of_kind (kind_at p) is)
     of_kind Real is = absurd (none-some b (sym (unfiled_kind c (bucket_of Real how line p) Real refl) ∙ is))
     of_kind Idle is = absurd (none-some b (sym (unfiled_kind c (bucket_of Idle how line p) Idle refl) ∙ is))
 
-    split : (h : Insertion) → b ≡ bucket_of Batch h line p → IsJoined h line.idx line.ridx b
+    split : (h : Insertion) → b ≡ bucket_of Batch h line p → HasJoined h line.idx line.ridx b
     split Ordinary same = (p, same)
     split Borrowing same = same
     split Preempted same = same
@@ -116,7 +117,7 @@ without_within u f t b is = sym (without_other u t f (without_apart u t b f is))
 
 module _ (c : ℕ) (m : Member) (s : Side) (finds : FindsEach s.members) (found : thread_of m.thread.id s.members ≡ Some m) where
   -- whether the bucket at the removal index is empty of the others
-  others_tell : Tells (length (members_in c Batch s.line.ridx (others m.thread.id s.members)) == 0) s.line.ridx (without_one m.thread.id (filing_of c s.members))
+  others_tell : TellsEmpty (length (members_in c Batch s.line.ridx (others m.thread.id s.members)) == 0) s.line.ridx (without_one m.thread.id (filing_of c s.members))
   others_tell = record {
     some = λ is.
         let one = some_filed c s.line.ridx (others m.thread.id s.members) s.members finds (λ x has. (has_filtered (λ y. not (is_numbered m.thread.id y)) x s.members has).0) is in
@@ -158,7 +159,7 @@ module _ (c : ℕ) (m : Member) (s : Side) (finds : FindsEach s.members) (found 
 -- ---- the choice
 
 -- whether a bucket is empty is told alike of threads that are filed alike
-tells_alike : (empty : Bool) (b : ℕ) (g h : Filing) → ((t : ℕ) → h t ≡ g t) → Tells empty b g → Tells empty b h
+tells_alike : (empty : Bool) (b : ℕ) (g h : Filing) → ((t : ℕ) → h t ≡ g t) → TellsEmpty empty b g → TellsEmpty empty b h
 tells_alike empty b g h alike tells = record {
   some = λ is. let one = tells.some is in (one.0, alike one.0 ∙ one.1);
   none = λ t is. tells.none t (sym (alike t) ∙ is);
@@ -216,7 +217,7 @@ IsNextIf Borrowing P = P
 IsNextIf Preempted P = P
 
 -- who joined goes to a bucket that is there, and where the indexes differ to that at the removal index only if it goes next
-pub joined_came : (next : ℕ → Bool) (how : Insertion) (u i r t b : ℕ) → r < 64 → IsNextIf how (next u ≡ true) → t ≡ u → IsJoined how i r b →
+pub joined_came : (next : ℕ → Bool) (how : Insertion) (u i r t b : ℕ) → r < 64 → IsNextIf how (next u ≡ true) → t ≡ u → HasJoined how i r b →
     (b < 64) × (i ≢ r → b ≡ r → next t ≡ true)
 joined_came next Ordinary u i r t b below goes same is =
     (subst (λ n. n < 64) (sym is.1) (calendar_bucket_small i r is.0), λ apart here. absurd (ordinary_is_ahead i r is.0 below apart (sym is.1 ∙ here)))
@@ -248,7 +249,7 @@ module _ (taken next : ℕ → Bool) (c : ℕ) (s : Side) (close : IsClose s.lin
     kept = joins.kept;
     stood = λ t b before after left. before;
     came = λ t b is. ⊎_elim (λ (old : filing_of c s.members t ≡ Some b). inl old)
-        (λ (new : (t ≡ u) × IsJoined how s.line.idx s.line.ridx b). inr (joined_came next how u s.line.idx s.line.ridx t b close.removal goes new.0 new.1))
+        (λ (new : (t ≡ u) × HasJoined how s.line.idx s.line.ridx b). inr (joined_came next how u s.line.idx s.line.ridx t b close.removal goes new.0 new.1))
         (joins.came t b is);
   }
 
@@ -263,6 +264,6 @@ module _ (taken next : ℕ → Bool) (c : ℕ) (s : Side) (close : IsClose s.lin
     kept = λ t b is. is;
     stood = λ t b before after left. after;
     came = λ t b is. ⊎_elim (λ (old : filing_of c s.members t ≡ Some b). inl old)
-        (λ (new : (t ≡ u) × IsJoined how s.line.idx s.line.ridx b). inr (joined_came next how u s.line.idx s.line.ridx t b close.removal goes new.0 new.1))
+        (λ (new : (t ≡ u) × HasJoined how s.line.idx s.line.ridx b). inr (joined_came next how u s.line.idx s.line.ridx t b close.removal goes new.0 new.1))
         (joins.came t b (chose.among t b is));
   }

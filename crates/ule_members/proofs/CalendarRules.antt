@@ -2,12 +2,13 @@
 use Rattle.std.proofs.Common.{◌≡◌, ◌≢◌, ℕ, ◌+◌, ◌%◌, ◌<◌, ◌≤◌, ◌==◌, Bool, true, false, not, cond, ◌&&◌, Some, ◌⊎◌, inl, inr, ⊎_elim, refl, sym, ◌∙◌, ap, subst, arith}
 use Rattle.std.proofs.lemmas.Bool.{both_ways, eqb-false, eqb-true}
 use Rattle.ule_model.specs.CalendarIndexes.{calendar_bucket, distance_of, idx_after_turn, reach_of, ridx_after_removal, ridx_after_turn}
+use Rattle.ule_model.proofs.IndexLaws.{goes_by_one, goes_nearer, goes_within, ordinary_is_ahead, turned_from}
 use Rattle.ule_members.proofs.CalendarPlaces.{Filing}
 
 -- ---- what an event makes of a calendar
 
 -- whether a bucket is empty, of the threads that are filed so
-pub record Tells (empty : Bool) (b : ℕ) (g : Filing) : Type 0 where
+pub record TellsEmpty (empty : Bool) (b : ℕ) (g : Filing) : Type 0 where
   pub some : empty ≡ false → (t : ℕ) × (g t ≡ Some b)
   pub none : (t : ℕ) → g t ≡ Some b → empty ≡ false
 
@@ -18,8 +19,8 @@ IsWithin f g = (t b : ℕ) → f t ≡ Some b → g t ≡ Some b
 -- the indexes i and r become j and q by one of the rules, which looks at the threads filed by g; f were filed before
 pub data IndexRule (i r j q : ℕ) (f g : Filing) : Type 0 where
   stays : j ≡ i → q ≡ r → IsWithin f g → IndexRule i r j q f g
-  removes : (empty : Bool) → Tells empty r g → j ≡ i → q ≡ ridx_after_removal i r empty → IndexRule i r j q f g
-  turns : (empty : Bool) → Tells empty r g → IsWithin f g → j ≡ idx_after_turn i r → q ≡ ridx_after_turn i r empty → IndexRule i r j q f g
+  removes : (empty : Bool) → TellsEmpty empty r g → j ≡ i → q ≡ ridx_after_removal i r empty → IndexRule i r j q f g
+  turns : (empty : Bool) → TellsEmpty empty r g → IsWithin f g → j ≡ idx_after_turn i r → q ≡ ridx_after_turn i r empty → IndexRule i r j q f g
 
 -- an event makes j and q of the indexes i and r, and h of the threads filed by f; it takes some up, and some go next
 pub record Passage (taken next : ℕ → Bool) (i r j q : ℕ) (f h : Filing) : Type 0 where
@@ -37,42 +38,6 @@ pub record IsClose (i r : ℕ) (f : Filing) : Type 0 where
   pub lead : distance_of r i ≤ 1
   pub some : distance_of r i ≡ 1 → (t : ℕ) × (f t ≡ Some r)
   pub filed : (t b : ℕ) → f t ≡ Some b → b < 64
-
--- ---- a round of 64 buckets
-
--- an index that goes on, or doesn't, goes by one at most
-goes_by_one : (i : ℕ) (goes : Bool) → i < 64 → distance_of i (cond goes ((i + 1) % 64) i) ≤ 1
-goes_by_one i true below = omega arith
-goes_by_one i false below = omega arith
-
--- an index that goes on, or doesn't, is that of a bucket
-goes_within : (i : ℕ) (goes : Bool) → i < 64 → cond goes ((i + 1) % 64) i < 64
-goes_within i true below = omega arith
-goes_within i false below = omega arith
-
--- it comes nearer to every bucket but the one that it leaves
-goes_nearer : (i b : ℕ) (goes : Bool) → i < 64 → b < 64 → (b ≡ i → goes ≡ false) →
-    distance_of (cond goes ((i + 1) % 64) i) b + distance_of i (cond goes ((i + 1) % 64) i) ≡ distance_of i b
-goes_nearer i b true below within still =
-    let apart : b ≢ i = λ here. both_ways true (still here) refl in
-    omega arith
-goes_nearer i b false below within still = omega arith
-
--- a bucket that is not the one at the removal index where the indexes differ
-ahead_of_removal : (i r b : ℕ) (same here : Bool) → r < 64 → (r == i) ≡ same → (b == r) ≡ here → i ≢ r → cond (not same && here) ((b + 63) % 64) b ≢ r
-ahead_of_removal i r b true here within es eh apart = absurd (apart (sym (eqb-true r i es)))
-ahead_of_removal i r b false true within es eh apart = let is : b ≡ r = eqb-true b r eh in λ still. omega arith
-ahead_of_removal i r b false false within es eh apart = eqb-false b r eh
-
--- while the indexes differ, an ordinary insertion is ahead of the removal index
-pub ordinary_is_ahead : (i r p : ℕ) → r < 64 → i ≢ r → calendar_bucket i r p ≢ r
-ordinary_is_ahead i r p within apart = ahead_of_removal i r ((reach_of p + i) % 64) (r == i) (((reach_of p + i) % 64) == r) within refl refl apart
-
--- the removal index after a turn goes on from itself, since it goes only where the indexes are equal
-turned_from : (i r : ℕ) (same empty : Bool) → (i == r) ≡ same → cond (same && empty) ((i + 1) % 64) r ≡ cond (same && empty) ((r + 1) % 64) r
-turned_from i r true true es = ap (λ n. (n + 1) % 64) (eqb-true i r es)
-turned_from i r true false es = refl
-turned_from i r false empty es = refl
 
 -- ---- how far the indexes go
 
@@ -152,7 +117,7 @@ module _ (i r j q : ℕ) (f g : Filing) (close : IsClose i r f) where
           split false is = let some = eqb-false (distance_of r i) 0 is in let most = close.lead in inr (omega arith)
 
   -- after a removal
-  near_after_removal : (empty same : Bool) → (i == r) ≡ same → Tells empty r g → j ≡ i → q ≡ cond (not same && empty) ((r + 1) % 64) r → IsNear
+  near_after_removal : (empty same : Bool) → (i == r) ≡ same → TellsEmpty empty r g → j ≡ i → q ≡ cond (not same && empty) ((r + 1) % 64) r → IsNear
   near_after_removal empty true is tells stay to = equal (stay ∙ eqb-true i r is ∙ sym to)
   near_after_removal true false is tells stay to =
       let apart = eqb-false i r is in let most = close.lead in let a = close.insertion in let b = close.removal in equal (omega arith)
@@ -162,7 +127,7 @@ module _ (i r j q : ℕ) (f g : Filing) (close : IsClose i r f) where
       ahead (omega arith) there.0 (there.1 ∙ ap (λ (n : ℕ). Some n) (sym to))
 
   -- after a turn
-  near_after_turn : (empty same : Bool) → (i == r) ≡ same → Tells empty r g → IsWithin f g → j ≡ cond same ((i + 1) % 64) i →
+  near_after_turn : (empty same : Bool) → (i == r) ≡ same → TellsEmpty empty r g → IsWithin f g → j ≡ cond same ((i + 1) % 64) i →
       q ≡ cond (same && empty) ((i + 1) % 64) r → IsNear
   near_after_turn true true is tells within to also = equal (to ∙ sym also)
   near_after_turn false true is tells within to also =
@@ -212,8 +177,8 @@ pub lead_after : (i r j q : ℕ) → i < 64 → r < 64 → j < 64 → q < 64 →
 lead_after i r j q a b c d one two three four = omega arith
 
 -- a turn that finds the indexes equal brings the insertion index on by one
-pub turn_goes_on : (i r j : ℕ) → i < 64 → i ≡ r → j ≡ idx_after_turn i r → distance_of i j ≡ 1
-turn_goes_on i r j below same to = split (i == r) refl to
+pub turn_advances : (i r j : ℕ) → i < 64 → i ≡ r → j ≡ idx_after_turn i r → distance_of i j ≡ 1
+turn_advances i r j below same to = split (i == r) refl to
   where
     split : (e : Bool) → (i == r) ≡ e → j ≡ cond e ((i + 1) % 64) i → distance_of i j ≡ 1
     split true is to = omega arith

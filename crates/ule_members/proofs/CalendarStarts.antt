@@ -17,7 +17,7 @@ use Rattle.ule_model.specs.Insertion.{place_of_insertion}
 use Rattle.ule_model.specs.Shows.{numbers_of}
 use Rattle.ule_model.specs.Start.{empty_world, laid, record_of, start_line, unborn_member, unborn_record, with_unborn, world_at_start}
 use Rattle.ule_model.specs.World.{Member, World, fresh_line, is_numbered, side_of, thread_of}
-use Rattle.ule_members.proofs.CalendarParts.{IsJoined, joined_bucket}
+use Rattle.ule_members.proofs.CalendarParts.{HasJoined, joined_bucket}
 use Rattle.ule_members.proofs.CalendarPlaces.{FindsEach, filed_at, filed_elsewhere, filing_of}
 use Rattle.ule_members.proofs.CalendarSteps.{IsCalm}
 use Rattle.ule_members.proofs.Membership.{Has}
@@ -95,7 +95,7 @@ laid_below : (c d b p : ℕ) (line : CpuLine) → filed_at c (place_of_insertion
 laid_below c d b p line is =
     ⊎_elim
     (λ (same : c ≡ d).
-    let joined : IsJoined Ordinary line.idx line.ridx b = joined_bucket Ordinary d b p line (ap (λ (x : ℕ). filed_at x (place_of_insertion Ordinary d line p)) (sym same) ∙ is) in
+    let joined : HasJoined Ordinary line.idx line.ridx b = joined_bucket Ordinary d b p line (ap (λ (x : ℕ). filed_at x (place_of_insertion Ordinary d line p)) (sym same) ∙ is) in
     subst (λ (n : ℕ). n < 64) (sym joined.1) (calendar_bucket_small line.idx line.ridx joined.0))
     (λ (apart : c ≡ d → ⊥). absurd (none-some b (sym (filed_elsewhere c d _ _ apart) ∙ is)))
     (cases_eq c d)

@@ -59,12 +59,12 @@ abbrev pub movable_in : CpuValue → ℕ
 movable_in v = count_by is_unbound (queued_records v)
 
 -- the record of the thread whose turn comes first
-abbrev pub next_in : CpuValue → Option ThreadRecord
-next_in v = option_and_then (λ first. thread_in v first.1) (first_in v)
+abbrev pub next_record : CpuValue → Option ThreadRecord
+next_record v = option_and_then (λ first. thread_in v first.1) (first_in v)
 
 -- the better of the priorities of the current thread and of the next, each of them 255 where there is none
 abbrev pub low_priority_in : CpuValue → ℕ
-low_priority_in v = min (current_priority (current_in v)) (current_priority (next_in v))
+low_priority_in v = min (current_priority (current_in v)) (current_priority (next_record v))
 
 -- what a look at the CPU sees
 abbrev pub value_summary : CpuValue → Summary

@@ -8,7 +8,7 @@ use Rattle.ule_runq.specs.Runq.{bucket_in, is_empty_at, list_at, times, with_hea
 use Rattle.ule_runq.proofs.Counts.{count}
 use Rattle.ule_runq.proofs.RunqLaws.{bucket_in-none, bucket_in_Some, length-with_head, length-with_tail, length-without, list_at-with_tail_other}
 use Rattle.ule_calendar.specs.Calendar.{AreClose, Dial, IsCalendar, after_removal, turned}
-use Rattle.ule_calendar.specs.Promise.{ComesNearer, GoesOn, IsNearest}
+use Rattle.ule_calendar.specs.Promise.{ComesNearer, DialGoesOn, IsNearest}
 use Rattle.ule_calendar.proofs.CalendarLaws.{AreClose-after_removal, AreClose-turned, AreClose-with_head, AreClose-with_tail, goes_round}
 use Rattle.ule_calendar.proofs.PromiseLaws.{close_indexes, goes_on_by, goes_on_turned}
 use Rattle.ule_model.specs.CalendarIndexes.{calendar_bucket, distance_of, reach_of}
@@ -50,7 +50,7 @@ bucket_kept q t b found = some (list_at q b) (bucket_in_Some q t b found).1
     some (x ∷ xs) one = ne_eqb (length (x ∷ xs)) 0 (λ none. omega arith)
 
 -- a calendar that was changed by an insertion: its indexes are where they were
-pub record IsFiled (d e : Dial) : Type 0 where
+pub record HasNewThread (d e : Dial) : Type 0 where
   pub idx : e.idx ≡ d.idx
   pub ridx : e.ridx ≡ d.ridx
   pub kept : HasIndexes d → HasIndexes e
@@ -63,14 +63,14 @@ pub record IsDrained (d e : Dial) : Type 0 where
   pub empty : goes ≡ true → is_empty_at e.lists d.ridx ≡ true
   pub kept : HasIndexes d → HasIndexes e
 
-filed_same : (d : Dial) → IsFiled d d
+filed_same : (d : Dial) → HasNewThread d d
 filed_same d = record { idx = refl; ridx = refl; kept = λ k. k }
 
 drained_same : (d : Dial) → IsDrained d d
 drained_same d = record { goes = false; idx = refl; ridx = refl; empty = λ no. cc; kept = λ k. k }
 
 -- a removal after an insertion is a removal
-filed_drained : (d e f : Dial) → IsFiled d e → IsDrained e f → IsDrained d f
+filed_drained : (d e f : Dial) → HasNewThread d e → IsDrained e f → IsDrained d f
 filed_drained d e f filed drained = record {
   goes = drained.goes;
   idx = drained.idx ∙ filed.idx;
@@ -86,7 +86,7 @@ drained_goes_on old new k drained = record { indexes = on; threads = nearer }
     after : HasIndexes (dial_of new)
     after = drained.kept k
 
-    on : GoesOn (dial_of old) (dial_of new)
+    on : DialGoesOn (dial_of old) (dial_of new)
     on = goes_on_by (dial_of old) (dial_of new) drained.goes k.ridx (close_indexes (dial_of new) after.ridx after.close) drained.idx drained.ridx drained.empty
 
     nearer : (t b : ℕ) → bucket_in old.batch t ≡ Some b → bucket_in new.batch t ≡ Some b → ComesNearer (dial_of old) (dial_of new) b
@@ -96,7 +96,7 @@ drained_goes_on old new k drained = record { indexes = on; threads = nearer }
 -- ---- insertions
 
 -- a thread more at a tail
-filed_tail : (d : Dial) (b t : ℕ) → b < 64 → IsFiled d (record d { lists = with_tail d.lists b t })
+filed_tail : (d : Dial) (b t : ℕ) → b < 64 → HasNewThread d (record d { lists = with_tail d.lists b t })
 filed_tail d b t within = record {
   idx = refl;
   ridx = refl;
@@ -109,7 +109,7 @@ filed_tail d b t within = record {
 }
 
 -- a thread more at a head
-filed_head : (d : Dial) (b t : ℕ) → b < 64 → IsFiled d (record d { lists = with_head d.lists b t })
+filed_head : (d : Dial) (b t : ℕ) → b < 64 → HasNewThread d (record d { lists = with_head d.lists b t })
 filed_head d b t within = record {
   idx = refl;
   ridx = refl;
@@ -131,7 +131,7 @@ bucket_within i r p = step (reach_of p + i) (not (r == i) && ((reach_of p + i) %
 
 -- an insertion in the queue of a kind
 filed_in : (k : Kind) (how : Insertion) (p t : ℕ) (v : CpuValue) → v.line.ridx < 64 →
-    IsFiled (dial_of v) (dial_of (inserted_in k how (bucket_of k how v.line p) t v))
+    HasNewThread (dial_of v) (dial_of (inserted_in k how (bucket_of k how v.line p) t v))
 filed_in Real how p t v within = filed_same (dial_of v)
 filed_in Batch Ordinary p t v within = filed_tail (dial_of v) (calendar_bucket v.line.idx v.line.ridx p) t (bucket_within v.line.idx v.line.ridx p)
 filed_in Batch Borrowing p t v within = filed_tail (dial_of v) v.line.ridx t within
@@ -139,7 +139,7 @@ filed_in Batch Preempted p t v within = filed_head (dial_of v) v.line.ridx t wit
 filed_in Idle how p t v within = filed_same (dial_of v)
 
 -- an insertion of a thread that has a record, if it has one
-filed_thread : (how : Insertion) (t : ℕ) (o : Option ThreadRecord) (v : CpuValue) → v.line.ridx < 64 → IsFiled (dial_of v) (dial_of (inserted_thread how t o v))
+filed_thread : (how : Insertion) (t : ℕ) (o : Option ThreadRecord) (v : CpuValue) → v.line.ridx < 64 → HasNewThread (dial_of v) (dial_of (inserted_thread how t o v))
 filed_thread how t None v within = filed_same (dial_of v)
 filed_thread how t (Some r) v within = filed_in (kind_at r.priority) how r.priority t v within
 
@@ -222,12 +222,12 @@ turned_indexes d k = record {
 
 -- a CPU whose calendar turns goes on
 pub turned_goes_on : (old new : CpuValue) → HasIndexes (dial_of old) → dial_of new ≡ turned (dial_of old) → CalendarGoesOn old new
-turned_goes_on old new k is = record { indexes = subst (λ (d : Dial). GoesOn (dial_of old) d) (sym is) on; threads = nearer }
+turned_goes_on old new k is = record { indexes = subst (λ (d : Dial). DialGoesOn (dial_of old) d) (sym is) on; threads = nearer }
   where
     after : HasIndexes (turned (dial_of old))
     after = turned_indexes (dial_of old) k
 
-    on : GoesOn (dial_of old) (turned (dial_of old))
+    on : DialGoesOn (dial_of old) (turned (dial_of old))
     on = goes_on_turned (dial_of old) k.idx k.ridx (close_indexes (turned (dial_of old)) after.ridx after.close)
 
     nearer : (t b : ℕ) → bucket_in old.batch t ≡ Some b → bucket_in new.batch t ≡ Some b → ComesNearer (dial_of old) (dial_of new) b
@@ -243,7 +243,7 @@ ticked_goes_on now v k = turned_goes_on v (value_ticked now v).0 k (ticked_dial 
 pub switched_goes_on : (why : Why) (now : ℕ) (v : CpuValue) → HasIndexes (dial_of v) → CalendarGoesOn v (value_switched why now v).0
 switched_goes_on why now v k = step (is_unasked why v.line.resched)
   where
-    gives_way : (t : ℕ) (preempted : Bool) → IsFiled (dial_of v) (dial_of (with_given_way preempted now t (without_marks v)))
+    gives_way : (t : ℕ) (preempted : Bool) → HasNewThread (dial_of v) (dial_of (with_given_way preempted now t (without_marks v)))
     gives_way t preempted =
         let unmarked = without_marks v in
         let left = with_thread_after now t ran (record unmarked { current = None; line = record unmarked.line { switches = one_more unmarked.line.switches } }) in
@@ -275,7 +275,7 @@ taken_goes_on change now v k = drained_goes_on v (value_taken change now v).0 k 
     from (Some t) = with (thread_in v t) t
 
 -- an insertion alone is a removal of nothing
-filed_goes_on : (old new : CpuValue) → HasIndexes (dial_of old) → IsFiled (dial_of old) (dial_of new) → CalendarGoesOn old new
+filed_goes_on : (old new : CpuValue) → HasIndexes (dial_of old) → HasNewThread (dial_of old) (dial_of new) → CalendarGoesOn old new
 filed_goes_on old new k filed = drained_goes_on old new k (filed_drained (dial_of old) (dial_of new) (dial_of new) filed (drained_same (dial_of new)))
 
 -- a CPU with one record more

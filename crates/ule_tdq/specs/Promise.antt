@@ -1,7 +1,7 @@
 -- What each call on a CPU keeps of the calendar promise.
 use Rattle.std.specs.Prelude.{◌≡◌, ◌≢◌, ℕ, Bool, Option, Some, None}
 use Rattle.ule_calendar.specs.Calendar.{Dial}
-use Rattle.ule_calendar.specs.Promise.{ComesNearer, GoesOn}
+use Rattle.ule_calendar.specs.Promise.{ComesNearer, DialGoesOn}
 use Rattle.ule_model.specs.CpuValue.{CpuValue, with_given_way, without_marks}
 use Rattle.ule_model.specs.Switch.{is_preemption}
 use Rattle.ule_runq.specs.Runq.{bucket_in, list_at}
@@ -16,7 +16,7 @@ dial_of v = record { lists = v.batch; idx = v.line.idx; ridx = v.line.ridx }
 -- what every call keeps: the calendar goes on, and by just the steps of the removal index it comes nearer to each
 -- thread that stands in one of its buckets before and after
 pub record CalendarGoesOn (old new : CpuValue) : Type 0 where
-  pub indexes : GoesOn (dial_of old) (dial_of new)
+  pub indexes : DialGoesOn (dial_of old) (dial_of new)
   pub threads : (t b : ℕ) → bucket_in old.batch t ≡ Some b → bucket_in new.batch t ≡ Some b → ComesNearer (dial_of old) (dial_of new) b
 
 -- while the indexes differ, the bucket at the removal index stays as it was
@@ -35,7 +35,7 @@ abbrev pub when_choosing : Why → ℕ → CpuValue → CpuValue
 when_choosing why now v = after_giving_way v.current (is_preemption why v.line.slice_end) now (without_marks v)
 
 -- the thread that a switch chose, if it chose one
-abbrev pub chosen_by : SwitchOut → Option ℕ
-chosen_by Unmarked = None
-chosen_by Nothing = None
-chosen_by (Switched left into preempted) = into
+abbrev pub chosen_in : SwitchOut → Option ℕ
+chosen_in Unmarked = None
+chosen_in Nothing = None
+chosen_in (Switched left into preempted) = into

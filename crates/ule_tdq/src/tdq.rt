@@ -5,7 +5,7 @@ ghost use Rattle.ule_score.specs.Bounds.{KeepsBounds};
 ghost use Rattle.ule_score.specs.Changes.{forks};
 ghost use Rattle.ule_score.specs.Charges.{HasShortRun};
 ghost use Rattle.ule_model.specs.CpuChange.{kind_queued, value_changed, value_followed, value_forked, value_recorded, value_removed_from, value_requeued};
-ghost use Rattle.ule_model.specs.CpuNumbers.{is_movable, next_in, summary_of, value_marked, value_summary, with_mark};
+ghost use Rattle.ule_model.specs.CpuNumbers.{is_movable, next_record, summary_of, value_marked, value_summary, with_mark};
 ghost use Rattle.ule_model.specs.CpuValue.{IsNoEarlier, StandsFor, chosen_next, current_in, takes_over_in, thread_in, value_added, value_clocked, value_laid, value_line, value_place, value_switched, value_taken, value_ticked, value_ticked_with, with_given_way, with_thread_after, without_current, without_marks};
 ghost use Rattle.ule_model.specs.Places.{lock_of};
 ghost use Rattle.ule_model.specs.Switch.{is_preemption, started_reply, switched};
@@ -20,7 +20,7 @@ ghost use Rattle.ule_calendar.specs.Promise.{IsNearest};
 ghost use Rattle.ule_model.specs.World.{Side};
 ghost use Rattle.ule_runq.specs.Set.{has};
 ghost use Rattle.ule_tdq.specs.Cpu.{KeepsCpu};
-ghost use Rattle.ule_tdq.specs.Promise.{CalendarGoesOn, LeavesNextBucket, chosen_by, dial_of, when_choosing};
+ghost use Rattle.ule_tdq.specs.Promise.{CalendarGoesOn, LeavesNextBucket, chosen_in, dial_of, when_choosing};
 ghost use Rattle.ule_tdq.specs.Records.{leaving};
 ghost use Rattle.ule_tdq.specs.Replies.{changed_reply, landed_reply, reply_of, ticked_reply};
 ghost use Rattle.ule_tdq.specs.Stands.{AnswersChange, AnswersEvent, AnswersFork, AnswersLanding, AnswersLeaving, StandsAtStart, StandsWithLaid, StandsWithout, Tells, current_on, line_on, mark_of, numbers_of_cpu, place_on, record_on};
@@ -80,7 +80,7 @@ pub struct Arrival {
 /// What a switch without a current thread came to.
 fn started(into: Option<ThreadId>) -> SwitchOut
     ensures reply { reply_of result ≡ started_reply into }
-    ensures chosen { chosen_by result ≡ into }
+    ensures chosen { chosen_in result ≡ into }
 {
     match into {
         None => SwitchOut::Nothing,
@@ -166,7 +166,7 @@ impl Tdq {
         ensures value { self.new ≡ (value_switched why now self.old).0 }
         ensures calendar { CalendarGoesOn self.old self.new }
         ensures ahead { is_preemption why self.old.line.slice_end ≡ false → LeavesNextBucket self.old (when_choosing why now self.old) }
-        ensures nearest { IfSome (chosen_by result) (λ t. IsNearest (dial_of (when_choosing why now self.old)) t) }
+        ensures nearest { IfSome (chosen_in result) (λ t. IsNearest (dial_of (when_choosing why now self.old)) t) }
         ensures reply { reply_of result ≡ (value_switched why now self.old).1 }
         ensures stands { AnswersEvent self.old self.new (switched self.old.cpu why now) (reply_of result) }
         ensures kept { KeepsCpu self.new }
@@ -520,7 +520,7 @@ impl Tdq {
 
     /// The record of the thread whose turn comes first.
     fn next_record(&self) -> Option<ThreadRecord>
-        ensures { result ≡ next_in self.now }
+        ensures { result ≡ next_record self.now }
     {
         let (_, t) = self.queues.first()?;
         self.threads.get(t)
