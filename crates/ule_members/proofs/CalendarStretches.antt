@@ -18,7 +18,7 @@ use Rattle.ule_model.specs.Tick.{clocked, is_due, load_of, ticked, ticked_with}
 use Rattle.ule_model.specs.World.{Member, Side, World, current_of, fresh_line, side_of}
 use Rattle.ule_members.proofs.CalendarChoices.{entry_picks}
 use Rattle.ule_members.proofs.CalendarPlaces.{filed_found, filed_from, filed_itself, filed_at, filing_of, in_bucket_from, waits_where_filed}
-use Rattle.ule_members.proofs.CalendarRules.{IsClose, Passage, insertion_by_one, lead_after, removal_by_one, stays_nearer, turn_advances}
+use Rattle.ule_members.proofs.CalendarRules.{IsClose, Passage, insertion_by_one, lead_after, removal_by_one, stays_nearer, turning_by_one}
 use Rattle.ule_members.proofs.CalendarSteps.{IsCalm, entry_calm, entry_passes}
 use Rattle.ule_members.proofs.Membership.{has-filter, has_none, has_thread_of}
 use Rattle.ule_members.proofs.Steps.{step_leaves_rest}
@@ -127,7 +127,7 @@ module _ (w : World) (worker now c : ℕ) (calm : IsCalm w) (same : (numbers_on 
   -- the tick itself
   tick_goes_on : c < length w.lines → distance_of (numbers_on c w).idx (numbers_on c (step w worker (event.Tick c) now).0).idx ≡ 1
   tick_goes_on below =
-      turn_advances (numbers_on c w).idx (numbers_on c w).ridx (numbers_on c (step w worker (event.Tick c) now).0).idx (calm.close c).insertion same
+      turning_by_one (numbers_on c w).idx (numbers_on c w).ridx (numbers_on c (step w worker (event.Tick c) now).0).idx (calm.close c).insertion same
       (ap (λ (l : CpuLine). l.idx) (get_or-set_same w.lines c (ticked c now (side_of c w)).0.line fresh_line below) ∙ ticked_turns c now (side_of c w))
 
   -- an event that is one
