@@ -1,24 +1,22 @@
 -- The events of sleep chains and of limbo, on the value under their lock and on the world: a thread goes from
 -- a hand to its place there, or from there to a hand.
-use Rattle.std.proofs.Common.{◌≡◌, ℕ, ◌<◌, Bool, true, false, ◌==◌, pos, List, length, Option, Some, None, if◌then◌else◌, option_and_then, refl, sym, ◌∙◌, ap, subst, ◌≢◌, ◌+◌, ◌%◌, ◌⊎◌, inl, inr, arith}
+use Rattle.std.proofs.Common.{◌≡◌, ℕ, Bool, true, false, ◌==◌, pos, List, Option, Some, None, if◌then◌else◌, option_and_then, refl, sym, ◌∙◌, ap, subst, ◌≢◌, ◌+◌, ◌%◌, inl, inr, arith}
 use Rattle.std.specs.Option.{option_map}
 use Rattle.std.proofs.lemmas.Bool.{cond-true, eq-eqb}
 use Rattle.std.proofs.lemmas.Option.{none-some}
 use Rattle.ule_score.specs.declared.place.Place.{Place}
 use Rattle.ule_score.specs.declared.place.Place.TheVariants.{Running, Queued, Asleep, Unborn, Gone, Hand}
 use Rattle.ule_score.specs.declared.record.ThreadRecord.{ThreadRecord}
-use Rattle.ule_sleep.specs.Chain.{with_standing, without_standing, ChainValue, standing_in}
+use Rattle.ule_sleep.specs.Chain.{ChainValue, standing_in}
 use Rattle.ule_threads.specs.declared.standing.Standing.{Standing}
 use Rattle.ule_model.specs.Events.{holder_of}
 use Rattle.ule_model.specs.Places.{hand_of, is_hand_of, is_under, is_number, lock_of}
 use Rattle.ule_model.specs.WellMade.{IsWellMade}
-use Rattle.ule_model.specs.World.{Member, moved_to, thread_of, with_record, World}
+use Rattle.ule_model.specs.World.{Member, moved_to, thread_of, World}
 use Rattle.ule_model.specs.WorldValue.{if_thread, IsAsleepOn, IsChainOf, IsLimboOf, Shows, StandsUnder, WorldValue, held_by, standing_of}
 use Rattle.ule_members.proofs.PlaceFinds.{thread_at_within}
-use Rattle.ule_members.proofs.Threads.{changed_further}
 use Rattle.ule_members.proofs.Within.{Within, changed, within_thread}
-use Rattle.ule_laws.proofs.LockLaws.{AreThese, IsThis, put_in, put_under, take_from_under, take_out_of}
-use Rattle.std.proofs.lemmas.List.{length-set}
+use Rattle.ule_laws.proofs.LockLaws.{IsThis, put_in, take_out_of}
 use Rattle.ule_score.specs.Changes.{record_after, woken}
 use Rattle.ule_score.proofs.ChangeLaws.{change_number}
 use Rattle.ule_sleep.specs.Limbo.{LimboValue}
@@ -30,7 +28,8 @@ use Rattle.ule_model.specs.Step.{chain_bedded, chain_woken, limbo_buried, limbo_
 use Rattle.ule_model.specs.Sleep.{put_in_hand, woken_reply, woken_thread}
 use Rattle.ule_laws.proofs.SeekLaws.{found_stands}
 use Rattle.ule_laws.proofs.WorldLaws.{IsMadeFor, at_some}
-use Rattle.ule_laws.proofs.StepFrom.{IsStepUnder, put_each, slot_of, take_each}
+use Rattle.ule_laws.proofs.SleepLaws.{chain_joined, chain_left, limbo_joined, limbo_left, placed_at, taken_up, taken_up_is}
+use Rattle.ule_laws.proofs.StepFrom.{IsStepUnder, slot_of}
 
 -- ---- the thread in a hand
 
@@ -82,56 +81,18 @@ holder_holds ms worker t held made this holds = split (thread_of t ms) refl hold
               cond-true (is_hand_of worker m.place) (Some m) None (ap (is_hand_of worker) place ∙ eq-eqb worker worker refl)));
         }
 
--- ---- a thread put down under a lock
+-- the hand whose thread was put down elsewhere is empty
+pub hand_emptied : (ms : List Member) (worker t : ℕ) (held : Option ThreadRecord) (p : Place) → IsInHand ms worker t held → IsThis worker ms held →
+    is_hand_of worker p ≡ false → IsThis worker (moved_to t p (pos 0) ms) None
+hand_emptied ms worker t held p is this off =
+    take_out_of worker t is.member ms (placed_at p) is.within refl (ap (is_hand_of worker) is.place ∙ eq-eqb worker worker refl) off is.member.thread
+    (subst (IsThis worker ms) is.held_is this)
 
--- a thread at a place
-abbrev pub placed_at : Place → Member → Member
-placed_at p m = record m { place = p; order = pos 0 }
-
--- what stands under the lock, and what the hand has, after the thread in the hand was put there
-pub record IsPutDown (ns : List Member) (worker l : ℕ) (r : ThreadRecord) (p : Place) (slots : List (Option Standing)) : Type 0 where
-  pub under : AreThese l ns (with_standing r p slots)
-  pub hand : IsThis worker ns None
-
-pub put_down : (ms : List Member) (worker l t : ℕ) (held : Option ThreadRecord) (p : Place) (slots : List (Option Standing)) → (is : IsInHand ms worker t held) →
-    IsThis worker ms held → AreThese l ms slots → length slots ≡ 256 → is_under l p ≡ true → is_hand_of worker p ≡ false →
-    IsPutDown (moved_to t p (pos 0) ms) worker l is.member.thread p slots
-put_down ms worker l t held p slots is this these count under off = record {
-  under = put_under l t is.member ms slots (placed_at p) is.within small refl under these;
-  hand = take_out_of worker t is.member ms (placed_at p) is.within refl (ap (is_hand_of worker) is.place ∙ eq-eqb worker worker refl) off is.member.thread (subst (IsThis worker ms) is.held_is this);
-}
-  where
-    small : t < length slots
-    small =
-        subst (λ (i : ℕ). t < i) (sym count) (subst (λ (i : ℕ). i < 256) is.within.number is.within.made.numbers.id)
-
--- ---- a thread taken up from under a lock
-
--- a thread in a worker's hand, with its record changed
-abbrev pub taken_up : ℕ → (ThreadRecord → ThreadRecord) → Member → Member
-taken_up worker change m = record m { thread = change m.thread; place = Hand worker; order = pos 0 }
-
--- what stands under the lock, and what the hand has, after a thread was taken up from there
-pub record IsTakenUp (ns : List Member) (worker l t : ℕ) (r : ThreadRecord) (slots : List (Option Standing)) : Type 0 where
-  pub under : AreThese l ns (without_standing t slots)
-  pub hand : IsThis worker ns (Some r)
-
-pub take_up : (ms : List Member) (worker l t : ℕ) (m : Member) (change : ThreadRecord → ThreadRecord) (slots : List (Option Standing)) →
-    ((r : ThreadRecord) → (change r).id ≡ r.id) → Within t m ms → IsThis worker ms None → AreThese l ms slots → length slots ≡ 256 →
-    IsTakenUp (changed t (taken_up worker change) ms) worker l t (change m.thread) slots
-take_up ms worker l t m change slots number within empty these count = record {
-  under = take_from_under l t m ms slots (taken_up worker change) within small (number m.thread) refl these;
-  hand = put_in worker t m ms (taken_up worker change) within (number m.thread) (eq-eqb worker worker refl) empty;
-}
-  where
-    small : t < length slots
-    small = subst (λ (i : ℕ). t < i) (sym count) (subst (λ (i : ℕ). i < 256) within.number within.made.numbers.id)
-
--- a move to a hand, with a change of the record, is that change
-pub taken_up_is : (t worker : ℕ) (change : ThreadRecord → ThreadRecord) (ms : List Member) → ((r : ThreadRecord) → (change r).id ≡ r.id) →
-    moved_to t (Hand worker) (pos 0) (with_record t change ms) ≡ changed t (taken_up worker change) ms
-taken_up_is t worker change ms number =
-    changed_further t (λ n. record n { thread = change n.thread }) (placed_at (Hand worker)) ms (λ n. number n.thread)
+-- the empty hand that took a thread up has its record
+pub hand_filled : (ms : List Member) (worker t : ℕ) (m : Member) (change : ThreadRecord → ThreadRecord) → ((r : ThreadRecord) → (change r).id ≡ r.id) →
+    Within t m ms → IsThis worker ms None → IsThis worker (changed t (taken_up worker change) ms) (Some (change m.thread))
+hand_filled ms worker t m change number within empty =
+    put_in worker t m ms (taken_up worker change) within (number m.thread) (eq-eqb worker worker refl) empty
 
 -- ---- the events of chains and limbo
 
@@ -139,18 +100,10 @@ taken_up_is t worker change ms number =
 pub bed_made : (v : WorldValue) (w : World) (worker t channel now : ℕ) (c : ChainValue) → Shows v w → IsChainOf w (16 + channel % 8) c → IsInHand w.members worker t (held_by v worker) →
     IsStepUnder v w worker (Bed t channel) now (16 + channel % 8) (chain c)
 bed_made v w worker t channel now c shows is held =
-    let down : IsPutDown (moved_to t (Asleep channel) (pos 0) w.members) worker (16 + channel % 8) held.member.thread (Asleep channel) c.slots =
-    put_down w.members worker (16 + channel % 8) t (held_by v worker) (Asleep channel) c.slots held (shows.hands worker) is.under is.slots (eq-eqb (16 + channel % 8) (16 + channel % 8) refl) refl in
     subst (λ (o : Option ThreadRecord). IsMadeFor (step w worker (Bed t channel) now).0 worker (16 + channel % 8) Bedded (chain_bedded channel o c)) (sym held.held_is)
     (record {
-      value = record {
-        number = is.number;
-        small = is.small;
-        slots = length-set c.slots held.member.thread.id (Some (record { thread = held.member.thread; place = Asleep channel })) ∙ is.slots;
-        under = down.under;
-        asleep = put_each (IsAsleepOn c.number) c.slots held.member.thread.id (record { thread = held.member.thread; place = Asleep channel }) is.asleep (record { channel = channel; place = refl; chain = let e = is.number in omega arith });
-      };
-      hand = down.hand;
+      value = chain_joined w (16 + channel % 8) t channel held.member c held.within is (let e = is.number in omega arith);
+      hand = hand_emptied w.members worker t (held_by v worker) (Asleep channel) held (shows.hands worker) refl;
       answer = refl;
     })
 
@@ -158,17 +111,10 @@ bed_made v w worker t channel now c shows is held =
 pub return_made : (v : WorldValue) (w : World) (worker t now : ℕ) (c : LimboValue) → Shows v w → IsLimboOf w 24 c → IsInHand w.members worker t (held_by v worker) →
     IsStepUnder v w worker (Return t) now 24 (limbo c)
 return_made v w worker t now c shows is held =
-    let down : IsPutDown (moved_to t Unborn (pos 0) w.members) worker 24 held.member.thread Unborn c.slots =
-    put_down w.members worker 24 t (held_by v worker) Unborn c.slots held (shows.hands worker) is.under is.slots refl refl in
     subst (λ (o : Option ThreadRecord). IsMadeFor (step w worker (Return t) now).0 worker 24 Returned (limbo_returned o c)) (sym held.held_is)
     (record {
-      value = record {
-        number = refl;
-        slots = length-set c.slots held.member.thread.id (Some (record { thread = held.member.thread; place = Unborn })) ∙ is.slots;
-        under = down.under;
-        still = put_each (λ s. (s.place ≡ Unborn) ⊎ (s.place ≡ Gone)) c.slots held.member.thread.id (record { thread = held.member.thread; place = Unborn }) is.still (inl refl);
-      };
-      hand = down.hand;
+      value = limbo_joined w 24 t Unborn held.member c held.within is (inl refl);
+      hand = hand_emptied w.members worker t (held_by v worker) Unborn held (shows.hands worker) refl;
       answer = refl;
     })
 
@@ -176,17 +122,10 @@ return_made v w worker t now c shows is held =
 pub bury_made : (v : WorldValue) (w : World) (worker t now : ℕ) (c : LimboValue) → Shows v w → IsLimboOf w 24 c → IsInHand w.members worker t (held_by v worker) →
     IsStepUnder v w worker (Bury t) now 24 (limbo c)
 bury_made v w worker t now c shows is held =
-    let down : IsPutDown (moved_to t Gone (pos 0) w.members) worker 24 held.member.thread Gone c.slots =
-    put_down w.members worker 24 t (held_by v worker) Gone c.slots held (shows.hands worker) is.under is.slots refl refl in
     subst (λ (o : Option ThreadRecord). IsMadeFor (step w worker (Bury t) now).0 worker 24 Buried (limbo_buried o c)) (sym held.held_is)
     (record {
-      value = record {
-        number = refl;
-        slots = length-set c.slots held.member.thread.id (Some (record { thread = held.member.thread; place = Gone })) ∙ is.slots;
-        under = down.under;
-        still = put_each (λ s. (s.place ≡ Unborn) ⊎ (s.place ≡ Gone)) c.slots held.member.thread.id (record { thread = held.member.thread; place = Gone }) is.still (inr refl);
-      };
-      hand = down.hand;
+      value = limbo_joined w 24 t Gone held.member c held.within is (inr refl);
+      hand = hand_emptied w.members worker t (held_by v worker) Gone held (shows.hands worker) refl;
       answer = refl;
     })
 
@@ -195,17 +134,10 @@ pub hatch_made : (v : WorldValue) (w : World) (worker t now : ℕ) (m : Member) 
     thread_of t w.members ≡ Some m → m.place ≡ Unborn → IsStepUnder v w worker (Hatch t) now 24 (limbo c)
 hatch_made v w worker t now m c shows is empty found place =
     let within : Within t m w.members = within_thread t w.members m shows.made found in
-    let up : IsTakenUp (changed t (taken_up worker (λ r. r)) w.members) worker 24 t m.thread c.slots =
-    take_up w.members worker 24 t m (λ r. r) c.slots (λ r. refl) within (subst (IsThis worker w.members) empty (shows.hands worker)) is.under is.slots in
     subst (λ (o : Option Standing). IsMadeFor (step w worker (Hatch t) now).0 worker 24 Hatched (limbo_hatched t (held_by v worker) o c)) (sym (slot_of w 24 t m c.slots is.under shows.made found (ap (is_under 24) place)))
     (record {
-      value = record {
-        number = refl;
-        slots = length-set c.slots t None ∙ is.slots;
-        under = up.under;
-        still = take_each (λ s. (s.place ≡ Unborn) ⊎ (s.place ≡ Gone)) c.slots t is.still;
-      };
-      hand = up.hand;
+      value = limbo_left w 24 t worker (λ r. r) m c (λ r. refl) within is;
+      hand = hand_filled w.members worker t m (λ r. r) (λ r. refl) within (subst (IsThis worker w.members) empty (shows.hands worker));
       answer = refl;
     })
 
@@ -215,21 +147,15 @@ pub wake_made : (v : WorldValue) (w : World) (worker t now channel : ℕ) (m : M
     IsMadeFor (record w { members = (woken_thread worker now w.settings m w.members).0 }) worker (16 + channel % 8) (woken_thread worker now w.settings m w.members).1 (lock_step v.settings worker (Wake t) now (held_by v worker) (chain c))
 wake_made v w worker t now channel m c shows is empty found place =
     let within : Within t m w.members = within_thread t w.members m shows.made found in
-    let up : IsTakenUp (changed t (taken_up worker (record_after w.settings now woken)) w.members) worker (16 + channel % 8) t (record_after w.settings now woken m.thread) c.slots =
-    take_up w.members worker (16 + channel % 8) t m (record_after w.settings now woken) c.slots (change_number w.settings now woken) within (subst (IsThis worker w.members) empty (shows.hands worker)) is.under is.slots in
     subst (λ (o : Option Standing). IsMadeFor (record w { members = (woken_thread worker now w.settings m w.members).0 }) worker (16 + channel % 8) (woken_thread worker now w.settings m w.members).1 (chain_woken v.settings now t (held_by v worker) o c))
     (sym (slot_of w (16 + channel % 8) t m c.slots is.under shows.made found (ap (is_under (16 + channel % 8)) place ∙ eq-eqb (16 + channel % 8) (16 + channel % 8) refl)))
     (subst (λ (i : ℕ). IsMadeFor (record w { members = put_in_hand w.settings now worker woken i w.members }) worker (16 + channel % 8) (woken_thread worker now w.settings m w.members).1 (chain_woken v.settings now t (held_by v worker) (Some (standing_of m)) c)) (sym within.number)
     (subst (λ (ns : List Member). IsMadeFor (record w { members = ns }) worker (16 + channel % 8) (woken_thread worker now w.settings m w.members).1 (chain_woken v.settings now t (held_by v worker) (Some (standing_of m)) c)) (sym (taken_up_is t worker (record_after w.settings now woken) w.members (change_number w.settings now woken)))
     (record {
-      value = record {
-        number = is.number;
-        small = is.small;
-        slots = length-set c.slots t None ∙ is.slots;
-        under = up.under;
-        asleep = take_each (IsAsleepOn c.number) c.slots t is.asleep;
-      };
-      hand = subst (λ s. IsThis worker (changed t (taken_up worker (record_after w.settings now woken)) w.members) (Some (record_after s now woken m.thread))) (sym shows.settings) up.hand;
+      value = chain_left w (16 + channel % 8) t worker (record_after w.settings now woken) m c (change_number w.settings now woken) within is;
+      hand =
+          subst (λ s. IsThis worker (changed t (taken_up worker (record_after w.settings now woken)) w.members) (Some (record_after s now woken m.thread))) (sym shows.settings)
+          (hand_filled w.members worker t m (record_after w.settings now woken) (change_number w.settings now woken) within (subst (IsThis worker w.members) empty (shows.hands worker)));
       answer = ap (λ s. woken_reply (record_after s now woken m.thread)) shows.settings;
     })))
 

@@ -1,18 +1,16 @@
 -- What a change that can move a priority makes of the value under the lock of its thread's place is what it makes of a
 -- world, wherever the thread stands; and what a fork makes of a CPU's value and of the hand.
-use Rattle.std.proofs.Common.{◌≡◌, ℕ, ◌+◌, ◌%◌, ◌<◌, ◌==◌, Bool, true, not, ◌⊎◌, inl, inr, List, length, slice_set, if◌then◌else◌, Option, Some, None, IfSome, is_some, refl, sym, ◌∙◌, ap, subst}
+use Rattle.std.proofs.Common.{◌≡◌, ℕ, ◌+◌, ◌%◌, ◌==◌, Bool, true, not, ◌⊎◌, inl, inr, if◌then◌else◌, Option, Some, None, is_some, refl, sym, ◌∙◌, ap, subst}
 use Rattle.std.specs.Option.{option_map}
 use Rattle.std.proofs.lemmas.Bool.{eq-eqb, or_left, or_right, true≢false}
-use Rattle.std.proofs.lemmas.List.{length-set}
 use Rattle.std.proofs.lemmas.Option.{none-some, same_Some}
-use Rattle.ule_score.proofs.ChangeLaws.{change_number}
-use Rattle.ule_score.specs.Changes.{IsSoundChange, after_change, changed as record_changed}
+use Rattle.ule_score.specs.Changes.{IsSoundChange, changed as record_changed}
 use Rattle.ule_score.specs.declared.place.Place.{Place}
 use Rattle.ule_score.specs.declared.place.Place.TheVariants.{Running, Queued, Asleep, Unborn, Gone, Hand}
 use Rattle.ule_score.specs.declared.record.Change.{Change}
 use Rattle.ule_score.specs.declared.record.Settings.{Settings}
 use Rattle.ule_score.specs.declared.record.ThreadRecord.{ThreadRecord}
-use Rattle.ule_sleep.specs.Chain.{ChainValue, standing_changed, standing_in}
+use Rattle.ule_sleep.specs.Chain.{ChainValue, standing_in}
 use Rattle.ule_sleep.specs.Limbo.{LimboValue}
 use Rattle.ule_threads.specs.declared.standing.Standing.{Standing}
 use Rattle.ule_types.specs.declared.event.Event.TheVariants.{Fork}
@@ -25,20 +23,20 @@ use Rattle.ule_model.specs.LockValue.{LockValue, chain, limbo, nothing, queue}
 use Rattle.ule_model.specs.Places.{is_number, is_on, is_under, lock_of, runs_on, waits_on}
 use Rattle.ule_model.specs.PriorityChange.{changed_at, changed_still, changed_unborn, forked_on, gone_answer, priority_changed, unborn_answer}
 use Rattle.ule_model.specs.Step.{Stepped, chain_changed, kept, limbo_changed, limbo_changed_at, limbo_changed_unborn, queue_forked, queue_stepped}
-use Rattle.ule_model.specs.WellMade.{IsWellMade}
-use Rattle.ule_model.specs.World.{Member, Side, World, on_side, side_of, thread_of, with_record, with_side}
+use Rattle.ule_model.specs.World.{Member, Side, World, on_side, side_of, thread_of, with_side}
 use Rattle.ule_model.specs.WorldValue.{IsAsleepOn, IsChainOf, IsHandOf, IsLimboOf, IsQueueOf, Shows, StandsUnder, WorldValue, held_by, standing_of}
 use Rattle.ule_members.proofs.PlaceFinds.{thread_at_within}
 use Rattle.ule_members.proofs.Done.{kept_some}
 use Rattle.ule_members.proofs.Steps.{forked_kept, priority_changed_kept}
 use Rattle.ule_members.proofs.Threads.{thread_of_within}
-use Rattle.ule_members.proofs.Within.{Within, changed, within_thread}
+use Rattle.ule_members.proofs.Within.{Within, within_thread}
 use Rattle.ule_laws.proofs.ChainSteps.{IsInHand}
 use Rattle.ule_laws.proofs.CpuChanges.{AreForked, forked_stands, priority_changed_stands}
 use Rattle.ule_laws.proofs.CpuEvents.{own_side, queue_stands}
 use Rattle.ule_laws.proofs.CpuLaws.{ActsAlike}
-use Rattle.ule_laws.proofs.LockLaws.{AreThese, IsThis, put_under}
-use Rattle.ule_laws.proofs.StepFrom.{IsAtEvent, IsStepUnder, chain_at, hand_changes, limbo_at, own_hand, put_each, slot_of, take_each}
+use Rattle.ule_laws.proofs.LockLaws.{IsThis}
+use Rattle.ule_laws.proofs.SleepLaws.{chain_record_changed, limbo_record_changed}
+use Rattle.ule_laws.proofs.StepFrom.{IsAtEvent, IsStepUnder, chain_at, hand_changes, limbo_at, own_hand, slot_of}
 use Rattle.ule_laws.proofs.WorldLaws.{IsMadeFor, at_some}
 
 -- what a change makes of the value under a lock
@@ -117,43 +115,6 @@ module _ (v : WorldValue) (w : World) (worker t : ℕ) (change : Change) (m : Me
 
 -- ---- under the lock of a chain and of limbo
 
--- slots with the record of their thread t changed
-abbrev pub slots_changed : Settings → Change → ℕ → List (Option Standing) → List (Option Standing)
-slots_changed settings change t slots = slice_set slots t (option_map (standing_changed settings change) (standing_in slots t))
-
--- what each slot keeps, each keeps with one record changed
-change_each : (P : Standing → Type 0) (settings : Settings) (change : Change) (t : ℕ) (slots : List (Option Standing)) →
-    ((s : Standing) → P s → P (standing_changed settings change s)) → ((u : ℕ) → IfSome (standing_in slots u) P) →
-    (u : ℕ) → IfSome (standing_in (slots_changed settings change t slots) u) P
-change_each P settings change t slots keeps each = split (standing_in slots t) (each t)
-  where
-    split : (o : Option Standing) → IfSome o P → (u : ℕ) → IfSome (standing_in (slice_set slots t (option_map (standing_changed settings change) o)) u) P
-    split None here = take_each P slots t each
-    split (Some s) here = put_each P slots t (standing_changed settings change s) each (keeps s here)
-
--- a thread under the lock whose record changes where it stands is changed among those there
-change_under : (settings : Settings) (change : Change) (w : World) (l t : ℕ) (m : Member) (slots : List (Option Standing)) → IsWellMade w.members →
-    AreThese l w.members slots → length slots ≡ 256 → thread_of t w.members ≡ Some m → is_under l m.place ≡ true →
-    AreThese l (with_record m.thread.id (after_change settings change) w.members) (slots_changed settings change t slots)
-change_under settings change w l t m slots made these count found under =
-    subst (λ (i : ℕ). AreThese l (with_record i (after_change settings change) w.members) (slots_changed settings change t slots)) (sym within.number)
-    (subst (λ (o : Option Standing). AreThese l (changed t f w.members) (slice_set slots t (option_map (standing_changed settings change) o)))
-    (sym (slot_of w l t m slots these made found under))
-    (subst (λ (i : ℕ). AreThese l (changed t f w.members) (slice_set slots i (Some (standing_of (f m))))) (number ∙ within.number)
-    (put_under l t m w.members slots f within small number under these)))
-  where
-    within : Within t m w.members
-    within = within_thread t w.members m made found
-
-    f : Member → Member
-    f n = record n { thread = after_change settings change n.thread }
-
-    number : (f m).thread.id ≡ m.thread.id
-    number = change_number settings 0 (record_changed change) m.thread
-
-    small : t < length slots
-    small = subst (λ (i : ℕ). t < i) (sym count) (subst (λ (i : ℕ). i < 256) within.number within.made.numbers.id)
-
 module _ (v : WorldValue) (w : World) (worker t : ℕ) (change : Change) (m : Member) where
   -- a change of a sleeper
   change_on_chain : (channel : ℕ) (c : ChainValue) → Shows v w → thread_of t w.members ≡ Some m → m.place ≡ Asleep channel →
@@ -164,13 +125,7 @@ module _ (v : WorldValue) (w : World) (worker t : ℕ) (change : Change) (m : Me
       (subst (λ (o : Option Standing). IsMadeFor n worker l (changed_still change m w).1 (chain_changed w.settings change t (held_by v worker) o c))
       (sym (slot_of w l t m c.slots is.under shows.made found under))
       (record {
-        value = record {
-          number = is.number;
-          small = is.small;
-          slots = length-set c.slots t (option_map (standing_changed w.settings change) (standing_in c.slots t)) ∙ is.slots;
-          under = change_under w.settings change w l t m c.slots shows.made is.under is.slots found under;
-          asleep = change_each (IsAsleepOn c.number) w.settings change t c.slots (λ s here. record { channel = here.channel; place = here.place; chain = here.chain }) is.asleep;
-        };
+        value = chain_record_changed w.settings change w l t m c shows.made found under is;
         hand = hand;
         answer = refl;
       }))
@@ -189,12 +144,7 @@ module _ (v : WorldValue) (w : World) (worker t : ℕ) (change : Change) (m : Me
       IsHandOf (changed_still change m w).0 worker (held_by v worker) →
       IsMadeFor (changed_still change m w).0 worker 24 (changed_still change m w).1 (limbo_changed_unborn None w.settings change t (held_by v worker) m.thread c)
   change_in_limbo c shows found under is hand = record {
-    value = record {
-      number = refl;
-      slots = length-set c.slots t (option_map (standing_changed w.settings change) (standing_in c.slots t)) ∙ is.slots;
-      under = change_under w.settings change w 24 t m c.slots shows.made is.under is.slots found under;
-      still = change_each (λ (s : Standing). (s.place ≡ Unborn) ⊎ (s.place ≡ Gone)) w.settings change t c.slots (λ s here. here) is.still;
-    };
+    value = limbo_record_changed w.settings change w 24 t m c shows.made found under is;
     hand = hand;
     answer = refl;
   }

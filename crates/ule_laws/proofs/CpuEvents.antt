@@ -9,13 +9,13 @@ use Rattle.ule_prio.specs.Preemption.{takes_over}
 use Rattle.ule_prio.specs.declared.kind.Kind.TheVariants.{Real, Batch, Idle}
 use Rattle.ule_runq.specs.Runq.{is_empty_at}
 use Rattle.ule_score.proofs.ChangeLaws.{change_number}
-use Rattle.ule_score.specs.Changes.{IsSoundChange, RecordChange, after_tick, placed, placed_on, ran, record_after, sleeps, ticked as tick_of}
+use Rattle.ule_score.specs.Changes.{IsSoundChange, RecordChange, after_tick, placed, placed_on, record_after, sleeps, ticked as tick_of}
 use Rattle.ule_score.specs.declared.place.Place.TheVariants.{Hand}
 use Rattle.ule_score.specs.declared.record.CpuLine.{CpuLine}
 use Rattle.ule_score.specs.declared.record.Settings.{Settings}
 use Rattle.ule_score.specs.declared.record.ThreadRecord.{ThreadRecord}
 use Rattle.ule_types.specs.declared.event.Reply.{Reply}
-use Rattle.ule_types.specs.declared.event.Reply.TheVariants.{Dropped, Landed, Nothing, Ticked}
+use Rattle.ule_types.specs.declared.event.Reply.TheVariants.{Landed, Nothing, Ticked}
 use Rattle.ule_model.specs.CpuValue.{CpuValue, StandsFor, Taken, chosen_next, current_in, queue_of, takes_over_in, thread_in, value_added, value_clocked, value_laid, value_taken, value_taken_from, value_taken_with, value_ticked, value_ticked_with, with_thread_after, without_current, value_switched}
 use Rattle.ule_model.specs.Insertion.{bucket_of, members_in, queued}
 use Rattle.ule_model.specs.declared.insertion.Insertion.TheVariants.{Ordinary}

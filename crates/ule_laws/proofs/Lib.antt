@@ -16,6 +16,8 @@ pub mod LockLaws
 pub mod WorldLaws
 pub mod SeekLaws
 pub mod StepFrom
+pub mod SleepLaws
+pub mod SleepCallLaws
 pub mod ChainSteps
 pub mod CpuEvents
 pub mod CpuNumbers

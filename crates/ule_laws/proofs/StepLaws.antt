@@ -24,7 +24,7 @@ use Rattle.ule_model.specs.Places.{hand_of, lock_of}
 use Rattle.ule_model.specs.PriorityChange.{changed_at, thread_changed, thread_changed_with}
 use Rattle.ule_model.specs.Sleep.{woken_at, woken_thread, woken_with}
 use Rattle.ule_model.specs.WellMade.{IsWellMade}
-use Rattle.ule_model.specs.World.{Member, Side, World, current_of, side_of, thread_of}
+use Rattle.ule_model.specs.World.{Member, Side, World, side_of, thread_of}
 use Rattle.ule_model.specs.WorldValue.{IsHandOf, IsQueueOf, Shows, StandsUnder, WorldValue, held_by, lock_for, lock_with}
 use Rattle.ule_laws.proofs.ChainSteps.{holder_holds, bed_made, return_made, bury_made, hatch_made, wake_made, stay_made}
 use Rattle.ule_laws.proofs.ChangeSteps.{change_made, fork_made, lock_changed}
