@@ -478,69 +478,26 @@ module _ (w : World) (worker : ℕ) (e : Event) (now : ℕ) (calm : IsCalm w) wh
 
 -- ---- each step
 
--- what the step of an event makes of the calendars
-pub step_passes : (w : World) (worker : ℕ) (e : Event) (now : ℕ) → IsCalm w → has_thread w worker e ≡ true → StepPasses w worker e now (step w worker e now)
-step_passes w worker (event.Tick c) now calm thread =
-    side_passes w worker (event.Tick c) now calm c (ticked c now (side_of c w)) (ticked_passes worker now (event.Tick c) c (side_of c w) (calm.close c) calm.finds)
-step_passes w worker (event.Switch c why) now calm thread =
-    side_passes w worker (event.Switch c why) now calm c (switched c why now (side_of c w)) (switched_passes worker now (event.Switch c why) c (side_of c w) (calm.close c) calm.finds why)
-step_passes w worker (event.Drop c channel) now calm thread =
-    side_passes w worker (event.Drop c channel) now calm c (dropped c worker now (side_of c w)) (dropped_passes worker now (event.Drop c channel) c (side_of c w) (calm.close c) calm.finds)
-step_passes w worker (event.Bed t channel) now calm thread =
-    put_passes w worker (event.Bed t channel) now calm t (Asleep channel) (bedded t channel w.members).1
-    (λ c. held_unfiled w worker t c thread) (λ c. refl)
-step_passes w worker (event.Wake t) now calm thread = woken_passes w worker (event.Wake t) now calm t
-step_passes w worker (event.Look c) now calm thread = nothing_passes w worker (event.Look c) now calm (step w worker (event.Look c) now).1
-step_passes w worker (event.Land t c) now calm thread =
-    side_passes w worker (event.Land t c) now calm c (landed t c worker now (side_of c w))
-    (landed_passes worker now (event.Land t c) c (side_of c w) (calm.close c) calm.finds t (λ d. held_unfiled w worker t d thread))
-step_passes w worker (event.Move a b why) now calm thread = nothing_passes w worker (event.Move a b why) now calm (step w worker (event.Move a b why) now).1
-step_passes w worker (event.Lend t p) now calm thread = thread_changed_passes w worker (event.Lend t p) now calm t (Lend p) refl
-step_passes w worker (event.Unlend t) now calm thread = thread_changed_passes w worker (event.Unlend t) now calm t Unlend refl
-step_passes w worker (event.Renice t n) now calm thread = thread_changed_passes w worker (event.Renice t n) now calm t (Renice n) refl
-step_passes w worker (event.Hatch t) now calm thread =
-    put_passes w worker (event.Hatch t) now calm t (Hand worker) (hatched t worker w.members).1 (λ c. unborn_unfiled w worker t c thread) (λ c. refl)
-step_passes w worker (event.Fork c t) now calm thread =
-    side_passes w worker (event.Fork c t) now calm c (forked_on c t now (side_of c w)) (forked_passes worker now (event.Fork c t) c (side_of c w) (calm.close c) calm.finds t)
-step_passes w worker (event.Return t) now calm thread =
-    put_passes w worker (event.Return t) now calm t Unborn (returned t w.members).1 (λ c. held_unfiled w worker t c thread) (λ c. refl)
-step_passes w worker (event.Exit c) now calm thread =
-    side_passes w worker (event.Exit c) now calm c (exited c worker now (side_of c w)) (exited_passes worker now (event.Exit c) c (side_of c w) (calm.close c) calm.finds)
-step_passes w worker (event.Bury t) now calm thread =
-    put_passes w worker (event.Bury t) now calm t Gone (buried t w.members).1 (λ c. held_unfiled w worker t c thread) (λ c. refl)
-step_passes w worker (event.Inherit t run) now calm thread = thread_changed_passes w worker (event.Inherit t run) now calm t (Inherit run) refl
-
 -- a thread that a step chose from CPU c's calendar is no farther than the bucket of one that stands there
 abbrev pub StepPicks : (c b : ℕ) → World → ℕ → Event → ℕ → Reply → Type 0
 StepPicks c b w worker e now r =
     (s : Side) (u a : ℕ) → choosing_side c w e now ≡ Some s → chosen_by r ≡ Some u → IsInBucket c a u s.members → distance_of s.line.ridx a ≤ distance_of s.line.ridx b
 
-module _ (c t b : ℕ) (w : World) (calm : IsCalm w) (stands : filing_of c w.members t ≡ Some b) where
-  -- no step chooses from farther away
-  pub step_picks : (worker : ℕ) (e : Event) (now : ℕ) → StepPicks c b w worker e now (step w worker e now).1
-  step_picks worker (event.Switch d why) now =
-      picks_here c d b (side_of_switch (current_of c w.members) c why now (side_of c w)) (λ x. (switched x why now (side_of x w)).1)
-      (switch_picks worker now (event.Switch c why) c (side_of c w) (calm.close c) calm.finds t b stands why)
-  step_picks worker (event.Drop d channel) now =
-      picks_here c d b (side_of c w) (λ x. (dropped x worker now (side_of x w)).1)
-      (drop_picks worker now (event.Drop c channel) c (side_of c w) (calm.close c) calm.finds t b stands)
-  step_picks worker (event.Exit d) now =
-      picks_here c d b (side_of c w) (λ x. (exited x worker now (side_of x w)).1)
-      (exit_picks worker now (event.Exit c) c (side_of c w) (calm.close c) calm.finds t b stands)
-  step_picks worker (event.Tick d) now = λ s u a none. absurd (none-some s none)
-  step_picks worker (event.Bed u channel) now = λ s v a none. absurd (none-some s none)
-  step_picks worker (event.Wake u) now = λ s v a none. absurd (none-some s none)
-  step_picks worker (event.Look d) now = λ s u a none. absurd (none-some s none)
-  step_picks worker (event.Land u d) now = λ s v a none. absurd (none-some s none)
-  step_picks worker (event.Move x y why) now = λ s u a none. absurd (none-some s none)
-  step_picks worker (event.Lend u p) now = λ s v a none. absurd (none-some s none)
-  step_picks worker (event.Unlend u) now = λ s v a none. absurd (none-some s none)
-  step_picks worker (event.Renice u n) now = λ s v a none. absurd (none-some s none)
-  step_picks worker (event.Hatch u) now = λ s v a none. absurd (none-some s none)
-  step_picks worker (event.Fork d u) now = λ s v a none. absurd (none-some s none)
-  step_picks worker (event.Return u) now = λ s v a none. absurd (none-some s none)
-  step_picks worker (event.Bury u) now = λ s v a none. absurd (none-some s none)
-  step_picks worker (event.Inherit u run) now = λ s v a none. absurd (none-some s none)
+-- what a step keeps of the calendars, where it answered so: what it makes of them if the event's thread is there, that it chooses
+-- none from farther away, and that a tick turns the insertion index
+record StepKeeps (w : World) (worker : ℕ) (e : Event) (now : ℕ) (done : World × Reply) : Type 0 where
+  passes : has_thread w worker e ≡ true → StepPasses w worker e now done
+  picks : (c t b : ℕ) → filing_of c w.members t ≡ Some b → StepPicks c b w worker e now done.1
+  turned : (c : ℕ) → is_tick_of c e ≡ true → c < length w.lines → (numbers_on c done.0).idx ≡ idx_after_turn (numbers_on c w).idx (numbers_on c w).ridx
+
+-- an event that is no tick and chooses no thread keeps them by what it makes of them alone
+keeps_plainly : (w : World) (worker : ℕ) (e : Event) (now : ℕ) (done : World × Reply) → ((c : ℕ) → (is_tick_of c e ≡ false) × (choosing_side c w e now ≡ None)) →
+    (has_thread w worker e ≡ true → StepPasses w worker e now done) → StepKeeps w worker e now done
+keeps_plainly w worker e now done plain passes = record {
+  passes = passes;
+  picks = λ c t b stands s u a is. absurd (none-some s (sym (plain c).1 ∙ is));
+  turned = λ c is below. absurd (both_ways (is_tick_of c e) (plain c).0 is);
+}
 
 -- a tick turns the insertion index
 ticked_turns : (c now : ℕ) (s : Side) → (ticked c now s).0.line.idx ≡ idx_after_turn s.line.idx s.line.ridx
@@ -550,31 +507,99 @@ ticked_turns c now s = split (current_of c s.members)
     split None = refl
     split (Some m) = refl
 
--- a tick of CPU c that finds the indexes equal brings the insertion index on
-module _ (w : World) (worker now c : ℕ) (calm : IsCalm w) (same : (numbers_on c w).idx ≡ (numbers_on c w).ridx) where
-  -- the tick itself
-  tick_goes_on : c < length w.lines → distance_of (numbers_on c w).idx (numbers_on c (step w worker (event.Tick c) now).0).idx ≡ 1
-  tick_goes_on below =
-      turn_advances (numbers_on c w).idx (numbers_on c w).ridx (numbers_on c (step w worker (event.Tick c) now).0).idx (calm.close c).insertion same
-      (ap (λ (l : CpuLine). l.idx) (get_or-set_same w.lines c (ticked c now (side_of c w)).0.line fresh_line below) ∙ ticked_turns c now (side_of c w))
+-- a tick of a CPU that is there turns its insertion index in the world
+tick_turned : (w : World) (now c x : ℕ) → (x == c) ≡ true → x < length w.lines →
+    (numbers_on x (with_side c (ticked c now (side_of c w)).0 w)).idx ≡ idx_after_turn (numbers_on x w).idx (numbers_on x w).ridx
+tick_turned w now c x is below =
+    subst (λ (d : ℕ). (numbers_on x (with_side d (ticked d now (side_of d w)).0 w)).idx ≡ idx_after_turn (numbers_on x w).idx (numbers_on x w).ridx) (eqb-true x c is)
+    (ap (λ (l : CpuLine). l.idx) (get_or-set_same w.lines x (ticked x now (side_of x w)).0.line fresh_line below) ∙ ticked_turns x now (side_of x w))
 
-  -- an event that is one
-  pub turning_goes_on : (e : Event) → is_tick_of c e ≡ true → c < length w.lines → distance_of (numbers_on c w).idx (numbers_on c (step w worker e now).0).idx ≡ 1
-  turning_goes_on (event.Tick d) is below =
-      subst (λ (x : ℕ). distance_of (numbers_on c w).idx (numbers_on c (step w worker (event.Tick x) now).0).idx ≡ 1) (eqb-true c d is) (tick_goes_on below)
-  turning_goes_on (event.Switch d why) is below = absurd (both_ways false refl is)
-  turning_goes_on (event.Drop d channel) is below = absurd (both_ways false refl is)
-  turning_goes_on (event.Bed t channel) is below = absurd (both_ways false refl is)
-  turning_goes_on (event.Wake t) is below = absurd (both_ways false refl is)
-  turning_goes_on (event.Look d) is below = absurd (both_ways false refl is)
-  turning_goes_on (event.Land t d) is below = absurd (both_ways false refl is)
-  turning_goes_on (event.Move a b why) is below = absurd (both_ways false refl is)
-  turning_goes_on (event.Lend t p) is below = absurd (both_ways false refl is)
-  turning_goes_on (event.Unlend t) is below = absurd (both_ways false refl is)
-  turning_goes_on (event.Renice t n) is below = absurd (both_ways false refl is)
-  turning_goes_on (event.Hatch t) is below = absurd (both_ways false refl is)
-  turning_goes_on (event.Fork d t) is below = absurd (both_ways false refl is)
-  turning_goes_on (event.Return t) is below = absurd (both_ways false refl is)
-  turning_goes_on (event.Exit d) is below = absurd (both_ways false refl is)
-  turning_goes_on (event.Bury t) is below = absurd (both_ways false refl is)
-  turning_goes_on (event.Inherit t run) is below = absurd (both_ways false refl is)
+-- the step of each event keeps the calendars
+step_keeps : (w : World) (worker : ℕ) (e : Event) (now : ℕ) → IsCalm w → StepKeeps w worker e now (step w worker e now)
+step_keeps w worker (event.Tick c) now calm = record {
+  passes = λ thread.
+      side_passes w worker (event.Tick c) now calm c (ticked c now (side_of c w)) (ticked_passes worker now (event.Tick c) c (side_of c w) (calm.close c) calm.finds);
+  picks = λ x t b stands s u a none. absurd (none-some s none);
+  turned = λ x is below. tick_turned w now c x is below;
+}
+step_keeps w worker (event.Switch c why) now calm = record {
+  passes = λ thread.
+      side_passes w worker (event.Switch c why) now calm c (switched c why now (side_of c w)) (switched_passes worker now (event.Switch c why) c (side_of c w) (calm.close c) calm.finds why);
+  picks = λ x t b stands.
+      picks_here x c b (side_of_switch (current_of x w.members) x why now (side_of x w)) (λ y. (switched y why now (side_of y w)).1)
+      (switch_picks worker now (event.Switch c why) x (side_of x w) (calm.close x) calm.finds t b stands why);
+  turned = λ x is below. absurd (both_ways false refl is);
+}
+step_keeps w worker (event.Drop c channel) now calm = record {
+  passes = λ thread.
+      side_passes w worker (event.Drop c channel) now calm c (dropped c worker now (side_of c w)) (dropped_passes worker now (event.Drop c channel) c (side_of c w) (calm.close c) calm.finds);
+  picks = λ x t b stands.
+      picks_here x c b (side_of x w) (λ y. (dropped y worker now (side_of y w)).1)
+      (drop_picks worker now (event.Drop c channel) x (side_of x w) (calm.close x) calm.finds t b stands);
+  turned = λ x is below. absurd (both_ways false refl is);
+}
+step_keeps w worker (event.Bed t channel) now calm =
+    keeps_plainly w worker (event.Bed t channel) now (step w worker (event.Bed t channel) now) (λ x. (refl, refl))
+    (λ thread. put_passes w worker (event.Bed t channel) now calm t (Asleep channel) (bedded t channel w.members).1 (λ c. held_unfiled w worker t c thread) (λ c. refl))
+step_keeps w worker (event.Wake t) now calm =
+    keeps_plainly w worker (event.Wake t) now (step w worker (event.Wake t) now) (λ x. (refl, refl))
+    (λ thread. woken_passes w worker (event.Wake t) now calm t)
+step_keeps w worker (event.Look c) now calm =
+    keeps_plainly w worker (event.Look c) now (step w worker (event.Look c) now) (λ x. (refl, refl))
+    (λ thread. nothing_passes w worker (event.Look c) now calm (step w worker (event.Look c) now).1)
+step_keeps w worker (event.Land t c) now calm =
+    keeps_plainly w worker (event.Land t c) now (step w worker (event.Land t c) now) (λ x. (refl, refl))
+    (λ thread. side_passes w worker (event.Land t c) now calm c (landed t c worker now (side_of c w))
+    (landed_passes worker now (event.Land t c) c (side_of c w) (calm.close c) calm.finds t (λ d. held_unfiled w worker t d thread)))
+step_keeps w worker (event.Move a b why) now calm =
+    keeps_plainly w worker (event.Move a b why) now (step w worker (event.Move a b why) now) (λ x. (refl, refl))
+    (λ thread. nothing_passes w worker (event.Move a b why) now calm (step w worker (event.Move a b why) now).1)
+step_keeps w worker (event.Lend t p) now calm =
+    keeps_plainly w worker (event.Lend t p) now (step w worker (event.Lend t p) now) (λ x. (refl, refl))
+    (λ thread. thread_changed_passes w worker (event.Lend t p) now calm t (Lend p) refl)
+step_keeps w worker (event.Unlend t) now calm =
+    keeps_plainly w worker (event.Unlend t) now (step w worker (event.Unlend t) now) (λ x. (refl, refl))
+    (λ thread. thread_changed_passes w worker (event.Unlend t) now calm t Unlend refl)
+step_keeps w worker (event.Renice t n) now calm =
+    keeps_plainly w worker (event.Renice t n) now (step w worker (event.Renice t n) now) (λ x. (refl, refl))
+    (λ thread. thread_changed_passes w worker (event.Renice t n) now calm t (Renice n) refl)
+step_keeps w worker (event.Hatch t) now calm =
+    keeps_plainly w worker (event.Hatch t) now (step w worker (event.Hatch t) now) (λ x. (refl, refl))
+    (λ thread. put_passes w worker (event.Hatch t) now calm t (Hand worker) (hatched t worker w.members).1 (λ c. unborn_unfiled w worker t c thread) (λ c. refl))
+step_keeps w worker (event.Fork c t) now calm =
+    keeps_plainly w worker (event.Fork c t) now (step w worker (event.Fork c t) now) (λ x. (refl, refl))
+    (λ thread. side_passes w worker (event.Fork c t) now calm c (forked_on c t now (side_of c w))
+    (forked_passes worker now (event.Fork c t) c (side_of c w) (calm.close c) calm.finds t))
+step_keeps w worker (event.Return t) now calm =
+    keeps_plainly w worker (event.Return t) now (step w worker (event.Return t) now) (λ x. (refl, refl))
+    (λ thread. put_passes w worker (event.Return t) now calm t Unborn (returned t w.members).1 (λ c. held_unfiled w worker t c thread) (λ c. refl))
+step_keeps w worker (event.Exit c) now calm = record {
+  passes = λ thread.
+      side_passes w worker (event.Exit c) now calm c (exited c worker now (side_of c w)) (exited_passes worker now (event.Exit c) c (side_of c w) (calm.close c) calm.finds);
+  picks = λ x t b stands.
+      picks_here x c b (side_of x w) (λ y. (exited y worker now (side_of y w)).1)
+      (exit_picks worker now (event.Exit c) x (side_of x w) (calm.close x) calm.finds t b stands);
+  turned = λ x is below. absurd (both_ways false refl is);
+}
+step_keeps w worker (event.Bury t) now calm =
+    keeps_plainly w worker (event.Bury t) now (step w worker (event.Bury t) now) (λ x. (refl, refl))
+    (λ thread. put_passes w worker (event.Bury t) now calm t Gone (buried t w.members).1 (λ c. held_unfiled w worker t c thread) (λ c. refl))
+step_keeps w worker (event.Inherit t run) now calm =
+    keeps_plainly w worker (event.Inherit t run) now (step w worker (event.Inherit t run) now) (λ x. (refl, refl))
+    (λ thread. thread_changed_passes w worker (event.Inherit t run) now calm t (Inherit run) refl)
+
+-- what the step of an event makes of the calendars
+pub step_passes : (w : World) (worker : ℕ) (e : Event) (now : ℕ) → IsCalm w → has_thread w worker e ≡ true → StepPasses w worker e now (step w worker e now)
+step_passes w worker e now calm = (step_keeps w worker e now calm).passes
+
+-- no step chooses from farther away than the bucket of a thread that stands in the calendar
+pub step_picks : (c t b : ℕ) (w : World) → IsCalm w → filing_of c w.members t ≡ Some b → (worker : ℕ) (e : Event) (now : ℕ) →
+    StepPicks c b w worker e now (step w worker e now).1
+step_picks c t b w calm stands worker e now = (step_keeps w worker e now calm).picks c t b stands
+
+-- a tick of CPU c that finds the indexes equal brings the insertion index on
+pub turning_goes_on : (w : World) (worker now c : ℕ) → IsCalm w → (numbers_on c w).idx ≡ (numbers_on c w).ridx → (e : Event) → is_tick_of c e ≡ true →
+    c < length w.lines → distance_of (numbers_on c w).idx (numbers_on c (step w worker e now).0).idx ≡ 1
+turning_goes_on w worker now c calm same e is below =
+    turn_advances (numbers_on c w).idx (numbers_on c w).ridx (numbers_on c (step w worker e now).0).idx (calm.close c).insertion same
+    ((step_keeps w worker e now calm).turned c is below)
