@@ -228,8 +228,8 @@ module _ (worker now : ℕ) (e : Event) (c : ℕ) (s : Side) (close : IsClose s.
   started_chosen None = refl
   started_chosen (Some t) = refl
 
-  switch_picks : (t b : ℕ) → filing_of c s.members t ≡ Some b → (why : Why) → PicksFrom c b (side_of_switch (current_of c s.members) c why now s) (switched c why now s).1
-  switch_picks t b stands why = asked (is_unasked why s.line.resched)
+  switch_picks : (why : Why) (t b : ℕ) → filing_of c s.members t ≡ Some b → PicksFrom c b (side_of_switch (current_of c s.members) c why now s) (switched c why now s).1
+  switch_picks why t b stands = asked (is_unasked why s.line.resched)
     where
       p : Bool
       p = is_preemption why s.line.slice_end
@@ -499,6 +499,18 @@ keeps_plainly w worker e now done plain passes = record {
   turned = λ c is below. absurd (both_ways (is_tick_of c e) (plain c).0 is);
 }
 
+-- an event of CPU c that is no tick, and chooses from such a side
+keeps_choosing : (w : World) (worker : ℕ) (e : Event) (now : ℕ) (calm : IsCalm w) (c : ℕ) (act : ℕ → Side → Side × Reply) (from : ℕ → Side) →
+    ((x : ℕ) → (is_tick_of x e ≡ false) × (choosing_side x w e now ≡ (if x == c then Some (from x) else None))) →
+    SidePasses worker now e c (side_of c w) (act c (side_of c w)) →
+    ((x t b : ℕ) → filing_of x w.members t ≡ Some b → PicksFrom x b (from x) (act x (side_of x w)).1) →
+    StepKeeps w worker e now (with_side c (act c (side_of c w)).0 w, (act c (side_of c w)).1)
+keeps_choosing w worker e now calm c act from is passes picks = record {
+  passes = λ thread. side_passes w worker e now calm c (act c (side_of c w)) passes;
+  picks = λ x t b stands s u a from_it. picks_here x c b (from x) (λ y. (act y (side_of y w)).1) (picks x t b stands) s u a (sym (is x).1 ∙ from_it);
+  turned = λ x tick below. absurd (both_ways (is_tick_of x e) (is x).0 tick);
+}
+
 -- a tick turns the insertion index
 ticked_turns : (c now : ℕ) (s : Side) → (ticked c now s).0.line.idx ≡ idx_after_turn s.line.idx s.line.ridx
 ticked_turns c now s = split (current_of c s.members)
@@ -514,79 +526,60 @@ tick_turned w now c x is below =
     subst (λ (d : ℕ). (numbers_on x (with_side d (ticked d now (side_of d w)).0 w)).idx ≡ idx_after_turn (numbers_on x w).idx (numbers_on x w).ridx) (eqb-true x c is)
     (ap (λ (l : CpuLine). l.idx) (get_or-set_same w.lines x (ticked x now (side_of x w)).0.line fresh_line below) ∙ ticked_turns x now (side_of x w))
 
--- the step of each event keeps the calendars
-step_keeps : (w : World) (worker : ℕ) (e : Event) (now : ℕ) → IsCalm w → StepKeeps w worker e now (step w worker e now)
-step_keeps w worker (event.Tick c) now calm = record {
+-- a tick keeps the calendars, and chooses no thread
+tick_keeps : (w : World) (worker now c : ℕ) → IsCalm w → StepKeeps w worker (event.Tick c) now (step w worker (event.Tick c) now)
+tick_keeps w worker now c calm = record {
   passes = λ thread.
       side_passes w worker (event.Tick c) now calm c (ticked c now (side_of c w)) (ticked_passes worker now (event.Tick c) c (side_of c w) (calm.close c) calm.finds);
   picks = λ x t b stands s u a none. absurd (none-some s none);
   turned = λ x is below. tick_turned w now c x is below;
 }
-step_keeps w worker (event.Switch c why) now calm = record {
-  passes = λ thread.
-      side_passes w worker (event.Switch c why) now calm c (switched c why now (side_of c w)) (switched_passes worker now (event.Switch c why) c (side_of c w) (calm.close c) calm.finds why);
-  picks = λ x t b stands.
-      picks_here x c b (side_of_switch (current_of x w.members) x why now (side_of x w)) (λ y. (switched y why now (side_of y w)).1)
-      (switch_picks worker now (event.Switch c why) x (side_of x w) (calm.close x) calm.finds t b stands why);
-  turned = λ x is below. absurd (both_ways false refl is);
-}
-step_keeps w worker (event.Drop c channel) now calm = record {
-  passes = λ thread.
-      side_passes w worker (event.Drop c channel) now calm c (dropped c worker now (side_of c w)) (dropped_passes worker now (event.Drop c channel) c (side_of c w) (calm.close c) calm.finds);
-  picks = λ x t b stands.
-      picks_here x c b (side_of x w) (λ y. (dropped y worker now (side_of y w)).1)
-      (drop_picks worker now (event.Drop c channel) x (side_of x w) (calm.close x) calm.finds t b stands);
-  turned = λ x is below. absurd (both_ways false refl is);
-}
+
+-- the step of each event keeps the calendars
+step_keeps : (w : World) (worker : ℕ) (e : Event) (now : ℕ) → IsCalm w → StepKeeps w worker e now (step w worker e now)
+step_keeps w worker (event.Tick c) now calm = tick_keeps w worker now c calm
+step_keeps w worker (event.Switch c why) now calm =
+    keeps_choosing w worker (event.Switch c why) now calm c (λ x. switched x why now) (λ x. side_of_switch (current_of x w.members) x why now (side_of x w)) (λ x. (refl, refl))
+    (switched_passes worker now (event.Switch c why) c (side_of c w) (calm.close c) calm.finds why) (λ x. switch_picks worker now (event.Switch c why) x (side_of x w) (calm.close x) calm.finds why)
+step_keeps w worker (event.Drop c channel) now calm =
+    keeps_choosing w worker (event.Drop c channel) now calm c (λ x. dropped x worker now) (λ x. side_of x w) (λ x. (refl, refl))
+    (dropped_passes worker now (event.Drop c channel) c (side_of c w) (calm.close c) calm.finds) (λ x. drop_picks worker now (event.Drop c channel) x (side_of x w) (calm.close x) calm.finds)
 step_keeps w worker (event.Bed t channel) now calm =
-    keeps_plainly w worker (event.Bed t channel) now (step w worker (event.Bed t channel) now) (λ x. (refl, refl))
+    keeps_plainly w worker (event.Bed t channel) now _ (λ x. (refl, refl))
     (λ thread. put_passes w worker (event.Bed t channel) now calm t (Asleep channel) (bedded t channel w.members).1 (λ c. held_unfiled w worker t c thread) (λ c. refl))
 step_keeps w worker (event.Wake t) now calm =
-    keeps_plainly w worker (event.Wake t) now (step w worker (event.Wake t) now) (λ x. (refl, refl))
-    (λ thread. woken_passes w worker (event.Wake t) now calm t)
+    keeps_plainly w worker (event.Wake t) now _ (λ x. (refl, refl)) (λ thread. woken_passes w worker (event.Wake t) now calm t)
 step_keeps w worker (event.Look c) now calm =
-    keeps_plainly w worker (event.Look c) now (step w worker (event.Look c) now) (λ x. (refl, refl))
-    (λ thread. nothing_passes w worker (event.Look c) now calm (step w worker (event.Look c) now).1)
+    keeps_plainly w worker (event.Look c) now _ (λ x. (refl, refl)) (λ thread. nothing_passes w worker (event.Look c) now calm (step w worker (event.Look c) now).1)
 step_keeps w worker (event.Land t c) now calm =
-    keeps_plainly w worker (event.Land t c) now (step w worker (event.Land t c) now) (λ x. (refl, refl))
+    keeps_plainly w worker (event.Land t c) now _ (λ x. (refl, refl))
     (λ thread. side_passes w worker (event.Land t c) now calm c (landed t c worker now (side_of c w))
     (landed_passes worker now (event.Land t c) c (side_of c w) (calm.close c) calm.finds t (λ d. held_unfiled w worker t d thread)))
 step_keeps w worker (event.Move a b why) now calm =
-    keeps_plainly w worker (event.Move a b why) now (step w worker (event.Move a b why) now) (λ x. (refl, refl))
-    (λ thread. nothing_passes w worker (event.Move a b why) now calm (step w worker (event.Move a b why) now).1)
+    keeps_plainly w worker (event.Move a b why) now _ (λ x. (refl, refl)) (λ thread. nothing_passes w worker (event.Move a b why) now calm (step w worker (event.Move a b why) now).1)
 step_keeps w worker (event.Lend t p) now calm =
-    keeps_plainly w worker (event.Lend t p) now (step w worker (event.Lend t p) now) (λ x. (refl, refl))
-    (λ thread. thread_changed_passes w worker (event.Lend t p) now calm t (Lend p) refl)
+    keeps_plainly w worker (event.Lend t p) now _ (λ x. (refl, refl)) (λ thread. thread_changed_passes w worker (event.Lend t p) now calm t (Lend p) refl)
 step_keeps w worker (event.Unlend t) now calm =
-    keeps_plainly w worker (event.Unlend t) now (step w worker (event.Unlend t) now) (λ x. (refl, refl))
-    (λ thread. thread_changed_passes w worker (event.Unlend t) now calm t Unlend refl)
+    keeps_plainly w worker (event.Unlend t) now _ (λ x. (refl, refl)) (λ thread. thread_changed_passes w worker (event.Unlend t) now calm t Unlend refl)
 step_keeps w worker (event.Renice t n) now calm =
-    keeps_plainly w worker (event.Renice t n) now (step w worker (event.Renice t n) now) (λ x. (refl, refl))
-    (λ thread. thread_changed_passes w worker (event.Renice t n) now calm t (Renice n) refl)
+    keeps_plainly w worker (event.Renice t n) now _ (λ x. (refl, refl)) (λ thread. thread_changed_passes w worker (event.Renice t n) now calm t (Renice n) refl)
 step_keeps w worker (event.Hatch t) now calm =
-    keeps_plainly w worker (event.Hatch t) now (step w worker (event.Hatch t) now) (λ x. (refl, refl))
+    keeps_plainly w worker (event.Hatch t) now _ (λ x. (refl, refl))
     (λ thread. put_passes w worker (event.Hatch t) now calm t (Hand worker) (hatched t worker w.members).1 (λ c. unborn_unfiled w worker t c thread) (λ c. refl))
 step_keeps w worker (event.Fork c t) now calm =
-    keeps_plainly w worker (event.Fork c t) now (step w worker (event.Fork c t) now) (λ x. (refl, refl))
-    (λ thread. side_passes w worker (event.Fork c t) now calm c (forked_on c t now (side_of c w))
-    (forked_passes worker now (event.Fork c t) c (side_of c w) (calm.close c) calm.finds t))
+    keeps_plainly w worker (event.Fork c t) now _ (λ x. (refl, refl))
+    (λ thread. side_passes w worker (event.Fork c t) now calm c (forked_on c t now (side_of c w)) (forked_passes worker now (event.Fork c t) c (side_of c w) (calm.close c) calm.finds t))
 step_keeps w worker (event.Return t) now calm =
-    keeps_plainly w worker (event.Return t) now (step w worker (event.Return t) now) (λ x. (refl, refl))
+    keeps_plainly w worker (event.Return t) now _ (λ x. (refl, refl))
     (λ thread. put_passes w worker (event.Return t) now calm t Unborn (returned t w.members).1 (λ c. held_unfiled w worker t c thread) (λ c. refl))
-step_keeps w worker (event.Exit c) now calm = record {
-  passes = λ thread.
-      side_passes w worker (event.Exit c) now calm c (exited c worker now (side_of c w)) (exited_passes worker now (event.Exit c) c (side_of c w) (calm.close c) calm.finds);
-  picks = λ x t b stands.
-      picks_here x c b (side_of x w) (λ y. (exited y worker now (side_of y w)).1)
-      (exit_picks worker now (event.Exit c) x (side_of x w) (calm.close x) calm.finds t b stands);
-  turned = λ x is below. absurd (both_ways false refl is);
-}
+step_keeps w worker (event.Exit c) now calm =
+    keeps_choosing w worker (event.Exit c) now calm c (λ x. exited x worker now) (λ x. side_of x w) (λ x. (refl, refl))
+    (exited_passes worker now (event.Exit c) c (side_of c w) (calm.close c) calm.finds) (λ x. exit_picks worker now (event.Exit c) x (side_of x w) (calm.close x) calm.finds)
 step_keeps w worker (event.Bury t) now calm =
-    keeps_plainly w worker (event.Bury t) now (step w worker (event.Bury t) now) (λ x. (refl, refl))
+    keeps_plainly w worker (event.Bury t) now _ (λ x. (refl, refl))
     (λ thread. put_passes w worker (event.Bury t) now calm t Gone (buried t w.members).1 (λ c. held_unfiled w worker t c thread) (λ c. refl))
 step_keeps w worker (event.Inherit t run) now calm =
-    keeps_plainly w worker (event.Inherit t run) now (step w worker (event.Inherit t run) now) (λ x. (refl, refl))
-    (λ thread. thread_changed_passes w worker (event.Inherit t run) now calm t (Inherit run) refl)
+    keeps_plainly w worker (event.Inherit t run) now _ (λ x. (refl, refl)) (λ thread. thread_changed_passes w worker (event.Inherit t run) now calm t (Inherit run) refl)
 
 -- what the step of an event makes of the calendars
 pub step_passes : (w : World) (worker : ℕ) (e : Event) (now : ℕ) → IsCalm w → has_thread w worker e ≡ true → StepPasses w worker e now (step w worker e now)
