@@ -62,13 +62,13 @@ module _ (worker now : ℕ) (e : Event) (c : ℕ) (s : Side) (close : IsClose s.
   filed_alike ns moves t = moved_aside AllCpus s.members ns c t tt moves
 
   -- moves outside all calendars are such outside those of the other CPUs
-  elsewhere : (ns : List Member) → AreMoved AllCpus s.members ns → AreMoved (Others c) s.members ns
-  elsewhere ns moves = moved_fewer AllCpus (Others c) s.members ns (λ d other. tt) moves
+  others_aside : (ns : List Member) → AreMoved AllCpus s.members ns → AreMoved (Others c) s.members ns
+  others_aside ns moves = moved_fewer AllCpus (Others c) s.members ns (λ d other. tt) moves
 
   -- nothing joins, leaves or turns
   left_alone : (done : Side × Reply) → done.0.line.idx ≡ s.line.idx → done.0.line.ridx ≡ s.line.ridx → AreMoved AllCpus s.members done.0.members → Passes done
   left_alone done same still moves = record {
-    moves = elsewhere done.0.members moves;
+    moves = others_aside done.0.members moves;
     passes = unaltered (is_taken done.1) (is_next done.1) c s close done.0 same still (filed_alike done.0.members moves);
   }
 
@@ -82,11 +82,11 @@ module _ (worker now : ℕ) (e : Event) (c : ℕ) (s : Side) (close : IsClose s.
         passes = joined_chose (is_taken r) (is_next r) c s close how u g (choosing_next c now g).0 goes joins (choosing_chose c now g each);
       }
 
-  -- the record of the current thread changes
+  -- a change of the current thread's record moves nothing in any calendar
   current_noted : (change : RecordChange) (m : Member) → AreMoved AllCpus s.members (with_change s.settings now m.thread.id change s.members)
   current_noted change m = noted_moved AllCpus s.members s.settings now m.thread.id change s.members unmoved
 
-  -- and it is in no calendar
+  -- the current thread stands in no calendar after a change of its record
   noted_unfiled : (change : RecordChange) (m : Member) → current_of c s.members ≡ Some m → (d : ℕ) →
       filing_of d (with_change s.settings now m.thread.id change s.members) m.thread.id ≡ None
   noted_unfiled change m found d =
@@ -101,12 +101,13 @@ module _ (worker now : ℕ) (e : Event) (c : ℕ) (s : Side) (close : IsClose s.
       moved (with_change s.settings now m.thread.id change s.members) m.thread.id (Hand worker) (pos 0)
       (λ d all. noted_unfiled change m found d) (λ d all. refl) (current_noted change m)
 
-  -- what is left of the side where this current thread goes to the worker's hand, if there is one
-  abbrev IsLeft : RecordChange → (Option Member → Side × Reply) → Type 0
-  IsLeft change done = ((done None).0 ≡ s) × ((m : Member) → (done (Some m)).0 ≡ (choosing_next c now (taken worker now change m.thread.id s)).0)
+  -- an event, by the current thread that it finds: it leaves the side as it was if there is none, and else puts that thread in the
+  -- worker's hand and chooses the next
+  abbrev TakesCurrent : RecordChange → (Option Member → Side × Reply) → Type 0
+  TakesCurrent change done = ((done None).0 ≡ s) × ((m : Member) → (done (Some m)).0 ≡ (choosing_next c now (taken worker now change m.thread.id s)).0)
 
-  -- such an event passes
-  left_passes : (change : RecordChange) (done : Option Member → Side × Reply) → IsLeft change done → Passes (done (current_of c s.members))
+  -- an event by which the current thread leaves passes
+  left_passes : (change : RecordChange) (done : Option Member → Side × Reply) → TakesCurrent change done → Passes (done (current_of c s.members))
   left_passes change done is = split (current_of c s.members) refl
     where
       split : (o : Option Member) → current_of c s.members ≡ o → Passes (done o)
@@ -116,9 +117,9 @@ module _ (worker now : ℕ) (e : Event) (c : ℕ) (s : Side) (close : IsClose s.
           let moves : AreMoved AllCpus s.members gone.members = taken_moved change m found in
           subst (λ (g : Side). Passes (g, (done (Some m)).1)) (sym (is.1 m))
           (joins_and_chooses Ordinary m.thread.id gone (done (Some m)).1 tt
-          (nobody_joins Ordinary c m.thread.id s.line.idx s.line.ridx (filing_of c s.members) gone refl refl (filed_alike gone.members moves)) (elsewhere gone.members moves))
+          (nobody_joins Ordinary c m.thread.id s.line.idx s.line.ridx (filing_of c s.members) gone refl refl (filed_alike gone.members moves)) (others_aside gone.members moves))
 
-  -- it chooses none from farther away, where it answers what was chosen
+  -- an event by which the current thread leaves, and which answers what was chosen, chooses none from farther away
   left_picks : (change : RecordChange) (r : Option Member → Reply) → chosen_by (r None) ≡ None →
       ((m : Member) → chosen_by (r (Some m)) ≡ (choosing_next c now (taken worker now change m.thread.id s)).1) →
       (t b : ℕ) → filing_of c s.members t ≡ Some b → PicksFrom c b s (r (current_of c s.members))
@@ -134,17 +135,21 @@ module _ (worker now : ℕ) (e : Event) (c : ℕ) (s : Side) (close : IsClose s.
 
   -- ---- a drop
 
+  -- a drop lets the current thread leave with its record changed as it falls asleep
   dropped_passes : Passes (dropped c worker now s)
   dropped_passes = left_passes sleeps (λ o. dropped_with o c worker now s) (refl, λ m. refl)
 
+  -- a drop chooses none from farther away
   drop_picks : (t b : ℕ) → filing_of c s.members t ≡ Some b → PicksFrom c b s (dropped c worker now s).1
   drop_picks = left_picks sleeps (λ o. (dropped_with o c worker now s).1) refl (λ m. refl)
 
   -- ---- an exit
 
+  -- an exit lets the current thread leave with its record changed as it ran
   exited_passes : Passes (exited c worker now s)
   exited_passes = left_passes ran (λ o. exited_with o c worker now s) (refl, λ m. refl)
 
+  -- an exit chooses none from farther away
   exit_picks : (t b : ℕ) → filing_of c s.members t ≡ Some b → PicksFrom c b s (exited c worker now s).1
   exit_picks = left_picks ran (λ o. (exited_with o c worker now s).1) refl (λ m. refl)
 
@@ -164,7 +169,7 @@ module _ (worker now : ℕ) (e : Event) (c : ℕ) (s : Side) (close : IsClose s.
       done.0.line.ridx ≡ ridx_after_turn s.line.idx s.line.ridx (length (members_in c Batch s.line.ridx s.members) == 0) →
       AreMoved AllCpus s.members done.0.members → Passes done
   turned_passes done to also moves = record {
-    moves = elsewhere done.0.members moves;
+    moves = others_aside done.0.members moves;
     passes = record {
       between = filing_of c s.members;
       rule = turns (length (members_in c Batch s.line.ridx s.members) == 0) bucket_tells (λ t b is. is) to also;
@@ -193,17 +198,18 @@ module _ (worker now : ℕ) (e : Event) (c : ℕ) (s : Side) (close : IsClose s.
       queued_joins (insertion_of p) c m.thread.id (counted (record (unmarked s) { members = with_change s.settings now m.thread.id ran s.members })) (filing_of c s.members)
       (λ t apart. filed_alike (with_change s.settings now m.thread.id ran s.members) (current_noted ran m) t) (current_unfiled c c m s.members finds found)
 
-  -- which moves nothing on other CPUs
+  -- a current thread that gives way moves nothing in the calendars of other CPUs
   gave_moved : (p : Bool) (m : Member) → current_of c s.members ≡ Some m → AreMoved (Others c) s.members (given_way c p now m.thread.id (unmarked s)).members
   gave_moved p m found =
       queued_moved (Others c) s.members (insertion_of p) c m.thread.id _ (λ d other. other) (λ d other. noted_unfiled ran m found d)
-      (elsewhere (with_change s.settings now m.thread.id ran s.members) (current_noted ran m))
+      (others_aside (with_change s.settings now m.thread.id ran s.members) (current_noted ran m))
 
   -- a preempted thread goes next
   preempted_next : (p : Bool) (t : ℕ) (into : Option ℕ) → IsNextIf (insertion_of p) (goes_next t (entry_by worker e now (Switched (Some t) into p)) ≡ true)
   preempted_next true t into = eq-eqb t t refl
   preempted_next false t into = tt
 
+  -- a switch: the current thread gives way, if there is one, and the next is chosen
   switched_passes : (why : Why) → Passes (switched c why now s)
   switched_passes why = asked (is_unasked why s.line.resched)
     where
@@ -228,6 +234,7 @@ module _ (worker now : ℕ) (e : Event) (c : ℕ) (s : Side) (close : IsClose s.
   started_chosen None = refl
   started_chosen (Some t) = refl
 
+  -- a switch chooses none from farther away, once the current thread has given way
   switch_picks : (why : Why) (t b : ℕ) → filing_of c s.members t ≡ Some b → PicksFrom c b (side_of_switch (current_of c s.members) c why now s) (switched c why now s).1
   switch_picks why t b stands = asked (is_unasked why s.line.resched)
     where
@@ -248,14 +255,14 @@ module _ (worker now : ℕ) (e : Event) (c : ℕ) (s : Side) (close : IsClose s.
 
   -- ---- a landing
 
-  -- of a thread that stands in no calendar
+  -- a landing of a thread that stands in no calendar: the thread joins
   landed_passes : (t : ℕ) → ((d : ℕ) → filing_of d s.members t ≡ None) → Passes (landed t c worker now s)
   landed_passes t old = split (thread_of t s.members) refl
     where
       split : (o : Option Member) → thread_of t s.members ≡ o → Passes (landed_with o c worker now s)
       split None found = left_alone (landed_with None c worker now s) refl refl unmoved
       split (Some m) found = record {
-        moves = queued_moved (Others c) s.members Ordinary c m.thread.id _ (λ d other. other) (λ d other. alike d m.thread.id ∙ nowhere d) (elsewhere base.members noted);
+        moves = queued_moved (Others c) s.members Ordinary c m.thread.id _ (λ d other. other) (λ d other. alike d m.thread.id ∙ nowhere d) (others_aside base.members noted);
         passes = joined_passes (is_taken (landed_with (Some m) c worker now s).1) (is_next (landed_with (Some m) c worker now s).1) c s close Ordinary
             m.thread.id (record next { line = marked_if (is_taking_over m.thread.priority c worker s) next.line }) tt
             (record { insertion = joins.insertion; removal = joins.removal; kept = joins.kept; came = joins.came });
@@ -281,6 +288,7 @@ module _ (worker now : ℕ) (e : Event) (c : ℕ) (s : Side) (close : IsClose s.
 
   -- ---- a fork
 
+  -- a fork changes two records
   forked_passes : (t : ℕ) → Passes (forked_on c t now s)
   forked_passes t = split (current_of c s.members) (thread_of t s.members)
     where
@@ -303,19 +311,19 @@ module _ (worker now : ℕ) (e : Event) (c : ℕ) (s : Side) (close : IsClose s.
     abbrev noted : Side
     noted = record s { members = with_record m.thread.id (after_change s.settings change) s.members }
 
-    -- it keeps its number
+    -- a change of a priority keeps the thread's number
     number_kept : renewed.thread.id ≡ m.thread.id
     number_kept = change_number s.settings now (changed change) m.thread
 
-    -- only the record changes
+    -- a change of the record alone moves nothing in any calendar
     noted_moves : AreMoved AllCpus s.members noted.members
     noted_moves = recorded s.members m.thread.id (after_change s.settings change) (change_number s.settings now (changed change)) unmoved
 
-    -- the threads are filed as they were
+    -- the threads are filed as they were before the change of the record
     noted_alike : (t : ℕ) → filing_of c noted.members t ≡ filing_of c s.members t
     noted_alike = filed_alike noted.members noted_moves
 
-    -- no more follows
+    -- a change of the record alone passes
     only_noted : (r : Reply) → Passes (noted, r)
     only_noted r = left_alone (noted, r) refl refl noted_moves
 
@@ -355,7 +363,7 @@ module _ (worker now : ℕ) (e : Event) (c : ℕ) (s : Side) (close : IsClose s.
             (λ d other.
             moved_aside AllCpus s.members noted.members d u tt noted_moves ∙ ap (filing_of d s.members) number_kept ∙
             filing_found d m.thread.id m s.members found ∙ ap (filed_at d) place ∙ filed_elsewhere d c k b other)
-            (elsewhere noted.members noted_moves)
+            (others_aside noted.members noted_moves)
 
         rule : IndexRule s.line.idx s.line.ridx out.line.idx out.line.ridx (filing_of c s.members) (without_one u f)
         rule =
@@ -406,7 +414,7 @@ module _ (worker now : ℕ) (e : Event) (c : ℕ) (s : Side) (close : IsClose s.
 -- ---- events of no CPU
 
 module _ (w : World) (worker : ℕ) (e : Event) (now : ℕ) (calm : IsCalm w) where
-  -- a wake
+  -- a wake puts a sleeper in the worker's hand, and moves nothing where the thread doesn't sleep
   woken_passes : (t : ℕ) → StepPasses w worker e now (record w { members = (woken t worker now w.settings w.members).0 }, (woken t worker now w.settings w.members).1)
   woken_passes t = split (thread_of t w.members) refl
     where
@@ -430,7 +438,7 @@ module _ (w : World) (worker : ℕ) (e : Event) (now : ℕ) (calm : IsCalm w) wh
       split None found = nothing_passes w worker e now calm (woken_with None worker now w.settings w.members).1
       split (Some m) found = at_place m found m.place refl
 
-  -- a change of a priority
+  -- a change of a priority, wherever the thread stands
   thread_changed_passes : (t : ℕ) (change : Change) → sought_by e ≡ Some t → StepPasses w worker e now (thread_changed t change worker w)
   thread_changed_passes t change sought = split (thread_of t w.members) refl
     where
@@ -499,7 +507,7 @@ keeps_plainly w worker e now done plain passes = record {
   turned = λ c is below. absurd (both_ways (is_tick_of c e) (plain c).0 is);
 }
 
--- an event of CPU c that is no tick, and chooses from such a side
+-- an event of CPU c that is no tick, and whose choice is made from a side of the CPU
 keeps_choosing : (w : World) (worker : ℕ) (e : Event) (now : ℕ) (calm : IsCalm w) (c : ℕ) (act : ℕ → Side → Side × Reply) (from : ℕ → Side) →
     ((x : ℕ) → (is_tick_of x e ≡ false) × (choosing_side x w e now ≡ (if x == c then Some (from x) else None))) →
     SidePasses worker now e c (side_of c w) (act c (side_of c w)) →
@@ -547,22 +555,17 @@ step_keeps w worker (event.Drop c channel) now calm =
 step_keeps w worker (event.Bed t channel) now calm =
     keeps_plainly w worker (event.Bed t channel) now _ (λ x. (refl, refl))
     (λ thread. put_passes w worker (event.Bed t channel) now calm t (Asleep channel) (bedded t channel w.members).1 (λ c. held_unfiled w worker t c thread) (λ c. refl))
-step_keeps w worker (event.Wake t) now calm =
-    keeps_plainly w worker (event.Wake t) now _ (λ x. (refl, refl)) (λ thread. woken_passes w worker (event.Wake t) now calm t)
-step_keeps w worker (event.Look c) now calm =
-    keeps_plainly w worker (event.Look c) now _ (λ x. (refl, refl)) (λ thread. nothing_passes w worker (event.Look c) now calm (step w worker (event.Look c) now).1)
+step_keeps w worker (event.Wake t) now calm = keeps_plainly w worker (event.Wake t) now _ (λ x. (refl, refl)) (λ thread. woken_passes w worker (event.Wake t) now calm t)
+step_keeps w worker (event.Look c) now calm = keeps_plainly w worker (event.Look c) now _ (λ x. (refl, refl)) (λ thread. nothing_passes w worker (event.Look c) now calm (step w worker (event.Look c) now).1)
 step_keeps w worker (event.Land t c) now calm =
     keeps_plainly w worker (event.Land t c) now _ (λ x. (refl, refl))
     (λ thread. side_passes w worker (event.Land t c) now calm c (landed t c worker now (side_of c w))
     (landed_passes worker now (event.Land t c) c (side_of c w) (calm.close c) calm.finds t (λ d. held_unfiled w worker t d thread)))
 step_keeps w worker (event.Move a b why) now calm =
     keeps_plainly w worker (event.Move a b why) now _ (λ x. (refl, refl)) (λ thread. nothing_passes w worker (event.Move a b why) now calm (step w worker (event.Move a b why) now).1)
-step_keeps w worker (event.Lend t p) now calm =
-    keeps_plainly w worker (event.Lend t p) now _ (λ x. (refl, refl)) (λ thread. thread_changed_passes w worker (event.Lend t p) now calm t (Lend p) refl)
-step_keeps w worker (event.Unlend t) now calm =
-    keeps_plainly w worker (event.Unlend t) now _ (λ x. (refl, refl)) (λ thread. thread_changed_passes w worker (event.Unlend t) now calm t Unlend refl)
-step_keeps w worker (event.Renice t n) now calm =
-    keeps_plainly w worker (event.Renice t n) now _ (λ x. (refl, refl)) (λ thread. thread_changed_passes w worker (event.Renice t n) now calm t (Renice n) refl)
+step_keeps w worker (event.Lend t p) now calm = keeps_plainly w worker (event.Lend t p) now _ (λ x. (refl, refl)) (λ thread. thread_changed_passes w worker (event.Lend t p) now calm t (Lend p) refl)
+step_keeps w worker (event.Unlend t) now calm = keeps_plainly w worker (event.Unlend t) now _ (λ x. (refl, refl)) (λ thread. thread_changed_passes w worker (event.Unlend t) now calm t Unlend refl)
+step_keeps w worker (event.Renice t n) now calm = keeps_plainly w worker (event.Renice t n) now _ (λ x. (refl, refl)) (λ thread. thread_changed_passes w worker (event.Renice t n) now calm t (Renice n) refl)
 step_keeps w worker (event.Hatch t) now calm =
     keeps_plainly w worker (event.Hatch t) now _ (λ x. (refl, refl))
     (λ thread. put_passes w worker (event.Hatch t) now calm t (Hand worker) (hatched t worker w.members).1 (λ c. unborn_unfiled w worker t c thread) (λ c. refl))
@@ -578,8 +581,7 @@ step_keeps w worker (event.Exit c) now calm =
 step_keeps w worker (event.Bury t) now calm =
     keeps_plainly w worker (event.Bury t) now _ (λ x. (refl, refl))
     (λ thread. put_passes w worker (event.Bury t) now calm t Gone (buried t w.members).1 (λ c. held_unfiled w worker t c thread) (λ c. refl))
-step_keeps w worker (event.Inherit t run) now calm =
-    keeps_plainly w worker (event.Inherit t run) now _ (λ x. (refl, refl)) (λ thread. thread_changed_passes w worker (event.Inherit t run) now calm t (Inherit run) refl)
+step_keeps w worker (event.Inherit t run) now calm = keeps_plainly w worker (event.Inherit t run) now _ (λ x. (refl, refl)) (λ thread. thread_changed_passes w worker (event.Inherit t run) now calm t (Inherit run) refl)
 
 -- what the step of an event makes of the calendars
 pub step_passes : (w : World) (worker : ℕ) (e : Event) (now : ℕ) → IsCalm w → has_thread w worker e ≡ true → StepPasses w worker e now (step w worker e now)

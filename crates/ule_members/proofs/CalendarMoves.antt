@@ -1,4 +1,4 @@
--- Lists of changes of records and moves, which leave the calendars that they are aside of; the parts of events that are such.
+-- Places in no calendar; lists of changes of records and moves, and the calendars that they leave; the parts of events that are such lists.
 use Rattle.std.proofs.Common.{◌≡◌, ◌≢◌, ℕ, ℤ, pos, Bool, true, false, List, Option, Some, None, if◌then◌else◌, refl, sym, ◌∙◌, ap, subst}
 use Rattle.std.specs.List.{find}
 use Rattle.std.specs.Prelude.{option_and_then}
@@ -88,7 +88,7 @@ pub data AreMoved (aside : ℕ → Type 0) (ms : List Member) : List Member → 
   moved : (ns : List Member) (u : ℕ) (place : Place) (order : ℤ) → ((c : ℕ) → aside c → filing_of c ns u ≡ None) →
       ((c : ℕ) → aside c → filed_at c place ≡ None) → AreMoved aside ms ns → AreMoved aside ms (moved_to u place order ns)
 
--- each is still found by its number
+-- each thread is still found by its number after changes of records and moves
 pub moved_finds : (aside : ℕ → Type 0) (ms ns : List Member) → FindsEach ms → AreMoved aside ms ns → FindsEach ns
 moved_finds aside ms _ finds unmoved = finds
 moved_finds aside ms _ finds (recorded ns u f kept rest) =

@@ -28,7 +28,7 @@ pub record EntryPasses (w : World) (e : Entry) : Type 0 where
   pub finds : FindsEach (after_entry w e).members
   pub passes : (c : ℕ) → CpuPassage (λ t. takes_up t e) (λ t. goes_next t e) c w (after_entry w e)
 
--- each entry that the world can make does
+-- each entry that the world can make passes
 pub entry_passes : (w : World) (e : Entry) → IsCalm w → IsEntryOf w e → EntryPasses w e
 entry_passes w e calm is =
     let made = step_passes w e.worker e.event e.now calm is.thread in record {
@@ -37,7 +37,7 @@ entry_passes w e calm is =
           (sym is.reply) (made.passes c);
     }
 
--- it leaves the world calm
+-- an entry leaves the world calm
 pub entry_calm : (w : World) (e : Entry) → IsCalm w → IsEntryOf w e → IsCalm (after_entry w e)
 entry_calm w e calm is =
     let made = entry_passes w e calm is in record {
@@ -46,7 +46,7 @@ entry_calm w e calm is =
           (filing_of c w.members) (filing_of c (after_entry w e).members) (calm.close c) (made.passes c);
     }
 
--- it chooses none from farther away than the bucket of a thread that stands in the calendar
+-- an entry chooses none from farther away than the bucket of a thread that stands in the calendar
 pub entry_picks : (c t b : ℕ) (w : World) → IsCalm w → filing_of c w.members t ≡ Some b → (e : Entry) → IsEntryOf w e → ChoosesNoFarther c b w e
 entry_picks c t b w calm stands e is =
     subst (λ (r : Reply). StepPicks c b w e.worker e.event e.now r) (sym is.reply) (step_picks c t b w calm stands e.worker e.event e.now)
