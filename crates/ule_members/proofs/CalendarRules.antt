@@ -1,8 +1,8 @@
 -- What the rules of the two indexes keep, of any indexes and any threads in the buckets of a calendar.
 use Rattle.std.proofs.Common.{◌≡◌, ◌≢◌, ℕ, ◌+◌, ◌%◌, ◌<◌, ◌≤◌, ◌==◌, Bool, true, false, not, cond, ◌&&◌, Some, ◌⊎◌, inl, inr, ⊎_elim, refl, sym, ◌∙◌, ap, subst, arith}
-use Rattle.std.proofs.lemmas.Bool.{both_ways, eqb-false, eqb-true}
-use Rattle.ule_model.specs.CalendarIndexes.{calendar_bucket, distance_of, idx_after_turn, reach_of, ridx_after_removal, ridx_after_turn}
-use Rattle.ule_model.proofs.IndexLaws.{goes_by_one, goes_nearer, goes_within, ordinary_is_ahead, turned_from}
+use Rattle.std.proofs.lemmas.Bool.{eqb-false, eqb-true}
+use Rattle.ule_model.specs.CalendarIndexes.{distance_of, idx_after_turn, ridx_after_removal, ridx_after_turn}
+use Rattle.ule_model.proofs.IndexLaws.{goes_by_one, goes_nearer, goes_within, turned_from}
 use Rattle.ule_members.proofs.CalendarPlaces.{Filing}
 
 -- ---- what an event makes of a calendar

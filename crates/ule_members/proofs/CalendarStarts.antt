@@ -17,9 +17,8 @@ use Rattle.ule_model.specs.Insertion.{place_of_insertion}
 use Rattle.ule_model.specs.Shows.{numbers_of}
 use Rattle.ule_model.specs.Start.{empty_world, laid, record_of, start_line, unborn_member, unborn_record, with_unborn, world_at_start}
 use Rattle.ule_model.specs.World.{Member, World, fresh_line, is_numbered, side_of, thread_of}
-use Rattle.ule_members.proofs.CalendarParts.{HasJoined, joined_bucket}
+use Rattle.ule_members.proofs.CalendarParts.{HasJoined, IsCalm, joined_bucket}
 use Rattle.ule_members.proofs.CalendarPlaces.{FindsEach, filed_at, filed_elsewhere, filing_of}
-use Rattle.ule_members.proofs.CalendarSteps.{IsCalm}
 use Rattle.ule_members.proofs.Membership.{Has}
 use Rattle.ule_members.proofs.Moves.{calendar_bucket_small}
 use Rattle.ule_members.proofs.Rest.{all_at, all_set}

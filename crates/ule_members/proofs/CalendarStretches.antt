@@ -1,29 +1,55 @@
 -- The calendar promise of any entries that a calm world can make: of each world, of each entry, and of each stretch of a
 -- thread that stays in its bucket.
-use Rattle.std.proofs.Common.{◌≡◌, ◌≢◌, ℕ, ◌+◌, ◌<◌, ◌≤◌, ◌==◌, Bool, true, false, List, [], ◌∷◌, ◌++◌, length, Option, Some, None, if◌then◌else◌, ⊎_elim, refl, sym, ◌∙◌, ap, subst, arith, get_or-set_same}
+use Rattle.std.proofs.Common.{◌≡◌, ◌≢◌, ℕ, ◌+◌, ◌<◌, ◌≤◌, ◌==◌, Bool, true, false, List, [], ◌∷◌, ◌++◌, length, Some, if◌then◌else◌, ⊎_elim, refl, sym, ◌∙◌, ap, subst, arith}
 use Rattle.std.specs.List.{AllByRecursion}
-use Rattle.std.proofs.lemmas.Bool.{and_parts, both_ways, eqb-true}
+use Rattle.std.proofs.lemmas.Bool.{and_parts, eqb-true}
 use Rattle.ule_prio.specs.declared.kind.Kind.TheVariants.{Batch}
-use Rattle.ule_score.specs.declared.record.CpuLine.{CpuLine}
 use Rattle.ule_types.specs.declared.event.Entry.{Entry}
-use Rattle.ule_types.specs.declared.event.Event.{Event}
-use Rattle.ule_types.specs.declared.event.Event.TheVariants as event
-use Rattle.ule_model.specs.CalendarIndexes.{distance_of, idx_after_turn}
+use Rattle.ule_types.specs.declared.event.Reply.{Reply}
+use Rattle.ule_model.specs.CalendarIndexes.{distance_of}
 use Rattle.ule_model.specs.CalendarPromise.{AllHaveCloseIndexes, ChoosesNoFarther, GoesByOne, HasCalendarPromise, IsInBucket, IsStretch, JoinsNext, KeepsCalendars, KeepsStretch, goes_next, insertion_advances, is_tick_of, is_turning, lead_of, numbers_on, removal_advances, takes_up, turning_ticks}
 use Rattle.ule_model.specs.Insertion.{members_in}
 use Rattle.ule_model.specs.Legal.{IsEntryOf, IsReplayed, after_entry, replayed}
-use Rattle.ule_model.specs.Step.{step}
 use Rattle.ule_model.specs.Throughout.{HoldsOfEach, HoldsThroughout}
-use Rattle.ule_model.specs.Tick.{clocked, is_due, load_of, ticked, ticked_with}
-use Rattle.ule_model.specs.World.{Member, Side, World, current_of, fresh_line, side_of}
-use Rattle.ule_members.proofs.CalendarChoices.{entry_picks}
-use Rattle.ule_members.proofs.CalendarPlaces.{filed_found, filed_from, filed_itself, filed_at, filing_of, in_bucket_from, waits_where_filed}
-use Rattle.ule_members.proofs.CalendarRules.{IsClose, Passage, insertion_by_one, lead_after, removal_by_one, stays_nearer, turning_by_one}
-use Rattle.ule_members.proofs.CalendarSteps.{IsCalm, entry_calm, entry_passes}
+use Rattle.ule_model.specs.World.{World}
+use Rattle.ule_members.proofs.CalendarEvents.{StepPicks, step_passes, step_picks, turning_goes_on}
+use Rattle.ule_members.proofs.CalendarParts.{CpuPassage, IsCalm, entry_by}
+use Rattle.ule_members.proofs.CalendarPlaces.{FindsEach, filed_found, filed_from, filed_itself, filed_at, filing_of, in_bucket_from, waits_where_filed}
+use Rattle.ule_members.proofs.CalendarRules.{IsClose, Passage, close_after, insertion_by_one, lead_after, removal_by_one, stays_nearer}
 use Rattle.ule_members.proofs.Membership.{has-filter, has_none, has_thread_of}
 use Rattle.ule_members.proofs.Steps.{step_leaves_rest}
 use Rattle.ule_members.proofs.Within.{all_back, all_front}
 use Rattle.ule_model.specs.Places.{waits_in}
+
+-- ---- what an entry makes
+
+-- what an entry that the world can make makes of the calendars
+pub record EntryPasses (w : World) (e : Entry) : Type 0 where
+  pub finds : FindsEach (after_entry w e).members
+  pub passes : (c : ℕ) → CpuPassage (λ t. takes_up t e) (λ t. goes_next t e) c w (after_entry w e)
+
+-- each entry that the world can make passes
+pub entry_passes : (w : World) (e : Entry) → IsCalm w → IsEntryOf w e → EntryPasses w e
+entry_passes w e calm is =
+    let made = step_passes w e.worker e.event e.now calm is.thread in record {
+      finds = made.finds;
+      passes = λ c. subst (λ (r : Reply). CpuPassage (λ t. takes_up t (entry_by e.worker e.event e.now r)) (λ t. goes_next t (entry_by e.worker e.event e.now r)) c w (after_entry w e))
+          (sym is.reply) (made.passes c);
+    }
+
+-- an entry leaves the world calm
+pub entry_calm : (w : World) (e : Entry) → IsCalm w → IsEntryOf w e → IsCalm (after_entry w e)
+entry_calm w e calm is =
+    let made = entry_passes w e calm is in record {
+      finds = made.finds;
+      close = λ c. close_after (λ t. takes_up t e) (λ t. goes_next t e) (numbers_on c w).idx (numbers_on c w).ridx (numbers_on c (after_entry w e)).idx (numbers_on c (after_entry w e)).ridx
+          (filing_of c w.members) (filing_of c (after_entry w e).members) (calm.close c) (made.passes c);
+    }
+
+-- an entry chooses none from farther away than the bucket of a thread that stands in the calendar
+pub entry_picks : (c t b : ℕ) (w : World) → IsCalm w → filing_of c w.members t ≡ Some b → (e : Entry) → IsEntryOf w e → ChoosesNoFarther c b w e
+entry_picks c t b w calm stands e is =
+    subst (λ (r : Reply). StepPicks c b w e.worker e.event e.now r) (sym is.reply) (step_picks c t b w calm stands e.worker e.event e.now)
 
 -- ---- each world
 
@@ -114,47 +140,10 @@ IsTickOfSome count e = (c : ℕ) → is_tick_of c e.event ≡ true → c < count
 pub entry_count : (w : World) (e : Entry) → length (after_entry w e).lines ≡ length w.lines
 entry_count w e = (step_leaves_rest w e.worker e.event e.now).count
 
--- a tick turns the insertion index
-ticked_turns : (c now : ℕ) (s : Side) → (ticked c now s).0.line.idx ≡ idx_after_turn s.line.idx s.line.ridx
-ticked_turns c now s = split (current_of c s.members)
-  where
-    split : (o : Option Member) → (ticked_with o (load_of c s.members) (is_due c s.line.balance) now (clocked c s)).0.line.idx ≡ idx_after_turn s.line.idx s.line.ridx
-    split None = refl
-    split (Some m) = refl
-
--- a tick of CPU c that finds the indexes equal brings the insertion index on
-module _ (w : World) (worker now c : ℕ) (calm : IsCalm w) (same : (numbers_on c w).idx ≡ (numbers_on c w).ridx) where
-  -- the tick itself
-  tick_goes_on : c < length w.lines → distance_of (numbers_on c w).idx (numbers_on c (step w worker (event.Tick c) now).0).idx ≡ 1
-  tick_goes_on below =
-      turning_by_one (numbers_on c w).idx (numbers_on c w).ridx (numbers_on c (step w worker (event.Tick c) now).0).idx (calm.close c).insertion same
-      (ap (λ (l : CpuLine). l.idx) (get_or-set_same w.lines c (ticked c now (side_of c w)).0.line fresh_line below) ∙ ticked_turns c now (side_of c w))
-
-  -- an event that is one
-  pub turning_goes_on : (e : Event) → is_tick_of c e ≡ true → c < length w.lines → distance_of (numbers_on c w).idx (numbers_on c (step w worker e now).0).idx ≡ 1
-  turning_goes_on (event.Tick d) is below =
-      subst (λ (x : ℕ). distance_of (numbers_on c w).idx (numbers_on c (step w worker (event.Tick x) now).0).idx ≡ 1) (eqb-true c d is) (tick_goes_on below)
-  turning_goes_on (event.Switch d why) is below = absurd (both_ways false refl is)
-  turning_goes_on (event.Drop d channel) is below = absurd (both_ways false refl is)
-  turning_goes_on (event.Bed t channel) is below = absurd (both_ways false refl is)
-  turning_goes_on (event.Wake t) is below = absurd (both_ways false refl is)
-  turning_goes_on (event.Look d) is below = absurd (both_ways false refl is)
-  turning_goes_on (event.Land t d) is below = absurd (both_ways false refl is)
-  turning_goes_on (event.Move a b why) is below = absurd (both_ways false refl is)
-  turning_goes_on (event.Lend t p) is below = absurd (both_ways false refl is)
-  turning_goes_on (event.Unlend t) is below = absurd (both_ways false refl is)
-  turning_goes_on (event.Renice t n) is below = absurd (both_ways false refl is)
-  turning_goes_on (event.Hatch t) is below = absurd (both_ways false refl is)
-  turning_goes_on (event.Fork d t) is below = absurd (both_ways false refl is)
-  turning_goes_on (event.Return t) is below = absurd (both_ways false refl is)
-  turning_goes_on (event.Exit d) is below = absurd (both_ways false refl is)
-  turning_goes_on (event.Bury t) is below = absurd (both_ways false refl is)
-  turning_goes_on (event.Inherit t run) is below = absurd (both_ways false refl is)
-
 -- a turning tick is an advance of the insertion index
-turn_advances : (c : ℕ) (w : World) (e : Entry) → IsCalm w → IsTickOfSome (length w.lines) e →
+turning_advances : (c : ℕ) (w : World) (e : Entry) → IsCalm w → IsTickOfSome (length w.lines) e →
     (if is_turning c w e then 1 else 0) ≤ distance_of (numbers_on c w).idx (numbers_on c (after_entry w e)).idx
-turn_advances c w e calm there = split (is_turning c w e) refl
+turning_advances c w e calm there = split (is_turning c w e) refl
   where
     split : (b : Bool) → is_turning c w e ≡ b → (if b then 1 else 0) ≤ distance_of (numbers_on c w).idx (numbers_on c (after_entry w e)).idx
     split false is = omega arith
@@ -188,7 +177,7 @@ sums_up c b t count w (e ∷ es) calm made is there stretch =
     sums_up c b t count (after_entry w e) es (entry_calm w e calm made.0) made.1 (entry_count w e ∙ is) there.1 stretch.2 in
     let near = entry_nearer w e calm made.0 c t b stretch.0 (stretch_begins c b t (after_entry w e) es stretch.2) stretch.1 in
     let lead = entry_lead w e calm made.0 c in
-    let turn = turn_advances c w e calm (subst (λ (n : ℕ). IsTickOfSome n e) (sym is) there.0) in
+    let turn = turning_advances c w e calm (subst (λ (n : ℕ). IsTickOfSome n e) (sym is) there.0) in
     let a = rest.nearer in let b = rest.lead in let d = rest.turns in
     record {
       nearer = omega arith;

@@ -25,7 +25,5 @@ pub mod CalendarRules
 pub mod CalendarMoves
 pub mod CalendarParts
 pub mod CalendarEvents
-pub mod CalendarSteps
-pub mod CalendarChoices
 pub mod CalendarStretches
 pub mod CalendarStarts
