@@ -1,4 +1,4 @@
--- What a tick, a switch, a drop, an exit and a landing make of a CPU's value and of the worker's hand is what they make of its
+-- What a tick, a switch, a drop and a landing make of a CPU's value and of the worker's hand is what they make of its
 -- side of a world.
 use Rattle.std.proofs.Common.{◌≡◌, ℕ, ◌+◌, ◌-◌, ◌%◌, ◌<◌, ◌==◌, Bool, true, false, not, ◌&&◌, pos, List, ◌++◌, length, slice_set, if◌then◌else◌, Option, Some, None, ⊎_elim, refl, sym, ◌∙◌, ap, subst, arith, set-set, option_and_then}
 use Rattle.std.specs.Prelude.{nat_le, option_and_then}
@@ -22,8 +22,7 @@ use Rattle.ule_model.specs.declared.insertion.Insertion.TheVariants.{Ordinary}
 use Rattle.ule_model.specs.Landing.{current_priority, current_record, is_taking_over, landed, landed_with, marked_if}
 use Rattle.ule_model.specs.Places.{is_on, runs_on, waits_on}
 use Rattle.ule_model.specs.Shows.{ShowsQueue}
-use Rattle.ule_model.specs.Birth.{exited, exited_reply, exited_with}
-use Rattle.ule_model.specs.Sleep.{dropped, dropped_with, taken}
+use Rattle.ule_model.specs.Sleep.{departed, departed_with, dropped, dropped_reply, taken}
 use Rattle.ule_model.specs.Start.{balance_count, stepped_word}
 use Rattle.ule_model.specs.Switch.{choosing_next, one_more, switched}
 use Rattle.ule_model.specs.Tick.{balance_after_tick, clocked, is_due, line_after_tick, load_of, marked_at_end, ticked, ticked_with, word_after_tick}
@@ -42,10 +41,10 @@ use Rattle.std.proofs.lemmas.List.{get_or-set_same, length-set}
 use Rattle.std.proofs.lemmas.Option.{none-some, same_Some}
 use Rattle.ule_score.specs.declared.record.Why.{Why}
 use Rattle.ule_types.specs.declared.event.Event.{Event}
-use Rattle.ule_types.specs.declared.event.Event.TheVariants.{Tick, Switch, Drop, Land, Exit}
+use Rattle.ule_types.specs.declared.event.Event.TheVariants.{Tick, Switch, Drop, Land}
 use Rattle.ule_model.specs.Frames.{thread_in_hand}
 use Rattle.ule_model.specs.LockValue.{queue}
-use Rattle.ule_model.specs.Step.{Stepped, kept, queue_dropped, queue_exited, queue_landed, step}
+use Rattle.ule_model.specs.Step.{Stepped, kept, queue_dropped, queue_landed, step}
 use Rattle.ule_model.specs.Words.{WordChange, block, change_of}
 use Rattle.ule_model.specs.WorldValue.{IsQueueOf, WorldValue, held_by}
 use Rattle.ule_laws.proofs.ChainSteps.{IsInHand}
@@ -231,13 +230,6 @@ reply_left reply (Some out) = reply out.thread out.into
 abbrev pub record_left : RecordChange → Settings → ℕ → Option Member → Option ThreadRecord
 record_left change settings now o = option_map (λ m. record_after settings now change m.thread) o
 
--- the side of CPU c whose current thread, if this says that there is one, left to a worker's hand through a change
-abbrev pub side_left : RecordChange → (ThreadRecord → Option ℕ → Reply) → Option Member → ℕ → ℕ → ℕ → Side → Side × Reply
-side_left change reply None c worker now s = (s, Nothing)
-side_left change reply (Some m) c worker now s =
-    let next = choosing_next c now (taken worker now change m.thread.id s) in
-    (next.0, reply (record_after s.settings now change m.thread) next.1)
-
 -- what an event gives by which the current thread leaves, on the value and on the side: what left is that thread, if
 -- there is one
 pub record AreLeft (change : RecordChange) (reply : ThreadRecord → Option ℕ → Reply) (now : ℕ) (v : CpuValue) (s : Side)
@@ -256,7 +248,7 @@ current_number m v s stands found = stands.current ∙ ap (option_map (λ (n : M
 -- thread m, which ran, leaves
 left_thread : (change : RecordChange) (reply : ThreadRecord → Option ℕ → Reply) (worker now : ℕ) (m : Member) (v : CpuValue) (s : Side) →
     IsSoundChange now change → StandsFor v s → IsWellMade s.members → current_of v.cpu s.members ≡ Some m →
-    AreLeft change reply now v s (value_taken_with (Some m.thread) change now m.thread.id v) (side_left change reply (Some m) v.cpu worker now s)
+    AreLeft change reply now v s (value_taken_with (Some m.thread) change now m.thread.id v) (departed_with change reply (Some m) v.cpu worker now s)
 left_thread change reply worker now m v s sound stands made runs = record {
   stands = next.stands;
   answer =
@@ -282,17 +274,17 @@ left_thread change reply worker now m v s sound stands made runs = record {
 -- the current thread, if there is one, leaves
 pub left_stands : (change : RecordChange) (reply : ThreadRecord → Option ℕ → Reply) (worker now : ℕ) (v : CpuValue) (s : Side) →
     IsSoundChange now change → StandsFor v s → IsWellMade s.members →
-    AreLeft change reply now v s (value_taken change now v) (side_left change reply (current_of v.cpu s.members) v.cpu worker now s)
+    AreLeft change reply now v s (value_taken change now v) (departed change reply v.cpu worker now s)
 left_stands change reply worker now v s sound stands made = split (current_of v.cpu s.members) refl
   where
-    split : (o : Option Member) → current_of v.cpu s.members ≡ o → AreLeft change reply now v s (value_taken change now v) (side_left change reply o v.cpu worker now s)
+    split : (o : Option Member) → current_of v.cpu s.members ≡ o → AreLeft change reply now v s (value_taken change now v) (departed_with change reply o v.cpu worker now s)
     split None none =
         subst (λ (o : Option ℕ). AreLeft change reply now v s (value_taken_from o change now v) (s, Nothing))
         (sym (stands.current ∙ ap (option_map (λ (n : Member). n.thread.id)) none))
         (record { stands = stands; answer = refl; left = ap (record_left change s.settings now) (sym none); well_made = made; cpu = refl; settings = refl })
     split (Some m) runs =
-        subst (λ (o : Option ℕ). AreLeft change reply now v s (value_taken_from o change now v) (side_left change reply (Some m) v.cpu worker now s)) (sym (current_number m v s stands runs))
-        (subst (λ (o : Option ThreadRecord). AreLeft change reply now v s (value_taken_with o change now m.thread.id v) (side_left change reply (Some m) v.cpu worker now s)) (sym (record_is m runs))
+        subst (λ (o : Option ℕ). AreLeft change reply now v s (value_taken_from o change now v) (departed_with change reply (Some m) v.cpu worker now s)) (sym (current_number m v s stands runs))
+        (subst (λ (o : Option ThreadRecord). AreLeft change reply now v s (value_taken_with o change now m.thread.id v) (departed_with change reply (Some m) v.cpu worker now s)) (sym (record_is m runs))
         (left_thread change reply worker now m v s sound stands made runs))
       where
         record_is : (m : Member) → current_of v.cpu s.members ≡ Some m → thread_in v m.thread.id ≡ Some m.thread
@@ -300,33 +292,11 @@ left_stands change reply worker now v s sound stands made = split (current_of v.
             ap (λ (o : Option ℕ). option_and_then (thread_in v) o) (sym (current_number m v s stands runs)) ∙
             current_in_is v s stands made ∙ ap (option_map (λ (n : Member). n.thread)) runs
 
--- what a drop replies where a thread left
-abbrev pub dropped_reply : ThreadRecord → Option ℕ → Reply
-dropped_reply r into = Dropped r.id into
-
--- a drop is such a leaving
-dropped_is : (o : Option Member) (c worker now : ℕ) (s : Side) → side_left sleeps dropped_reply o c worker now s ≡ dropped_with o c worker now s
-dropped_is None c worker now s = refl
-dropped_is (Some m) c worker now s = refl
-
--- an exit is such a leaving
-exited_is : (o : Option Member) (c worker now : ℕ) (s : Side) → side_left ran exited_reply o c worker now s ≡ exited_with o c worker now s
-exited_is None c worker now s = refl
-exited_is (Some m) c worker now s = refl
-
 -- the step of a drop
 pub dropped_stands : (worker now : ℕ) (v : CpuValue) (s : Side) → StandsFor v s → IsWellMade s.members →
     AreLeft sleeps dropped_reply now v s (value_taken sleeps now v) (dropped v.cpu worker now s)
 dropped_stands worker now v s stands made =
-    subst (AreLeft sleeps dropped_reply now v s (value_taken sleeps now v)) (dropped_is (current_of v.cpu s.members) v.cpu worker now s)
-    (left_stands sleeps dropped_reply worker now v s tt stands made)
-
--- the step of an exit
-pub exited_stands : (worker now : ℕ) (v : CpuValue) (s : Side) → StandsFor v s → IsWellMade s.members →
-    AreLeft ran exited_reply now v s (value_taken ran now v) (exited v.cpu worker now s)
-exited_stands worker now v s stands made =
-    subst (AreLeft ran exited_reply now v s (value_taken ran now v)) (exited_is (current_of v.cpu s.members) v.cpu worker now s)
-    (left_stands ran exited_reply worker now v s tt stands made)
+    left_stands sleeps dropped_reply worker now v s tt stands made
 
 -- ---- a landing
 
@@ -511,7 +481,7 @@ leaving_hand v w worker c e now change reply made m r into at leaving empty runs
         ap (λ (o : Option Member). if y == r.id then o else thread_in_hand worker y w.members) taken_is
 
 -- what left goes to the hand
-leave_made : (v : WorldValue) (w : World) (worker c : ℕ) (e : Event) (now : ℕ) (u : CpuValue) (change : RecordChange)
+pub leave_made : (v : WorldValue) (w : World) (worker c : ℕ) (e : Event) (now : ℕ) (u : CpuValue) (change : RecordChange)
     (reply : ThreadRecord → Option ℕ → Reply) (made : Side × Reply) → IsAtEvent v w worker e now →
     IsLeaving w worker c e now change reply made → IsQueueOf w c u → held_by v worker ≡ None →
     AreLeft change reply now u (side_of c w) (value_taken change now u) made →
@@ -579,23 +549,6 @@ drop_made v w worker c channel now u at is empty =
         (dropped_stands worker now u (side_of u.cpu w) (own_side w c u is) at.shows.made)
 
     stepped : (x : CpuValue × Option Taken) → stepped_left dropped_reply (held_by v worker) x.0 x.1 ≡ queue_dropped (held_by v worker) x
-    stepped (made, None) = refl
-    stepped (made, Some out) = refl
-
--- an exit
-pub exit_made : (v : WorldValue) (w : World) (worker c now : ℕ) (u : CpuValue) → IsAtEvent v w worker (Exit c) now → IsQueueOf w c u →
-    held_by v worker ≡ None → IsStepUnder v w worker (Exit c) now c (queue u)
-exit_made v w worker c now u at is empty =
-    subst (IsMadeFor (step w worker (Exit c) now).0 worker c (step w worker (Exit c) now).1) (stepped (value_taken ran now u))
-    (leave_made v w worker c (Exit c) now u ran exited_reply (exited c worker now (side_of c w)) at
-    (record { step_is = refl; none = refl; keeps = λ old. refl; words = λ r into. refl; record_is = λ r. refl }) is empty both)
-  where
-    both : AreLeft ran exited_reply now u (side_of c w) (value_taken ran now u) (exited c worker now (side_of c w))
-    both =
-        subst (λ (d : ℕ). AreLeft ran exited_reply now u (side_of d w) (value_taken ran now u) (exited d worker now (side_of d w))) is.cpu
-        (exited_stands worker now u (side_of u.cpu w) (own_side w c u is) at.shows.made)
-
-    stepped : (x : CpuValue × Option Taken) → stepped_left exited_reply (held_by v worker) x.0 x.1 ≡ queue_exited (held_by v worker) x
     stepped (made, None) = refl
     stepped (made, Some out) = refl
 

@@ -3,7 +3,7 @@
 use Rattle.std.proofs.Common.{◌≡◌, ◌≢◌, ℕ, ℤ, ◌+◌, ◌%◌, ◌<◌, ◌≤◌, Bool, true, false, [], ◌∷◌, length, Option, Some, None, IsSome, option_and_then, refl, sym, ◌∙◌, ap, subst, arith, mod-lt}
 use Rattle.std.specs.Option.{option_to_list}
 use Rattle.std.proofs.lemmas.Bool.{eqb-true, ltb-true, true≢false}
-use Rattle.ule_score.specs.Changes.{IsSoundChange, changed}
+use Rattle.ule_score.specs.Changes.{IsSoundChange, changed, ran}
 use Rattle.ule_score.specs.declared.place.Place.{Place}
 use Rattle.ule_score.specs.declared.place.Place.TheVariants.{Running, Queued, Asleep, Unborn, Gone, Hand}
 use Rattle.ule_score.specs.declared.record.Change.{Change}
@@ -15,18 +15,20 @@ use Rattle.ule_types.specs.declared.event.Event.TheVariants.{Tick, Switch, Drop,
 use Rattle.ule_types.specs.declared.event.Reply.{Reply}
 use Rattle.ule_types.specs.declared.event.Reply.TheVariants.{Nothing, NotAsleep}
 use Rattle.ule_model.specs.Conditions.{HasEmptyHand}
-use Rattle.ule_model.specs.CpuValue.{CpuValue}
+use Rattle.ule_model.specs.Birth.{exited, exited_reply}
+use Rattle.ule_model.specs.CpuValue.{CpuValue, StandsFor, Taken, value_taken}
 use Rattle.ule_model.specs.Events.{holder_of, is_no_others, is_unborn, is_unborn_thread, lock_of_thread, locking, locks_of}
 use Rattle.ule_model.specs.LockValue.{LockValue, chain, limbo, nothing, queue}
-use Rattle.ule_model.specs.Step.{kept, lock_step, step}
+use Rattle.ule_model.specs.Step.{kept, lock_step, queue_exited, step}
 use Rattle.ule_model.specs.Places.{hand_of, lock_of}
 use Rattle.ule_model.specs.PriorityChange.{changed_at, thread_changed, thread_changed_with}
 use Rattle.ule_model.specs.Sleep.{woken_at, woken_thread, woken_with}
-use Rattle.ule_model.specs.World.{Member, World, thread_of}
+use Rattle.ule_model.specs.WellMade.{IsWellMade}
+use Rattle.ule_model.specs.World.{Member, Side, World, current_of, side_of, thread_of}
 use Rattle.ule_model.specs.WorldValue.{IsHandOf, IsQueueOf, Shows, StandsUnder, WorldValue, held_by, lock_for, lock_with}
 use Rattle.ule_laws.proofs.ChainSteps.{holder_holds, bed_made, return_made, bury_made, hatch_made, wake_made, stay_made}
 use Rattle.ule_laws.proofs.ChangeSteps.{change_made, fork_made, lock_changed}
-use Rattle.ule_laws.proofs.CpuEvents.{tick_made, switch_made, drop_made, exit_made, land_made}
+use Rattle.ule_laws.proofs.CpuEvents.{AreLeft, drop_made, land_made, leave_made, left_stands, own_side, stepped_left, switch_made, tick_made}
 use Rattle.ule_laws.proofs.SeekLaws.{lock_found}
 use Rattle.ule_laws.proofs.WorldLaws.{HasValue, IsMadeFor}
 use Rattle.ule_laws.proofs.StepFrom.{IsAtEvent, IsStepOf, IsStepUnder, chain_at, empty_hand, hand_stays, limbo_at, queue_at, step_from}
@@ -166,6 +168,31 @@ wake_at v w worker t now s at shows empty (Queued c k b) place = wake_stays v w 
 wake_at v w worker t now s at shows empty Unborn place = wake_stays v w worker t now s at shows Unborn place (λ channel e. cc)
 wake_at v w worker t now s at shows empty Gone place = wake_stays v w worker t now s at shows Gone place (λ channel e. cc)
 wake_at v w worker t now s at shows empty (Hand h) place = wake_stays v w worker t now s at shows (Hand h) place (λ channel e. cc)
+
+-- ---- an exit
+
+-- an exit on the value is the exit on the side
+exited_stands : (worker now : ℕ) (v : CpuValue) (s : Side) → StandsFor v s → IsWellMade s.members →
+    AreLeft ran exited_reply now v s (value_taken ran now v) (exited v.cpu worker now s)
+exited_stands worker now v s stands made =
+    left_stands ran exited_reply worker now v s tt stands made
+
+-- an exit on the value under its lock and the worker's hand
+exit_made : (v : WorldValue) (w : World) (worker c now : ℕ) (u : CpuValue) → IsAtEvent v w worker (Exit c) now → IsQueueOf w c u →
+    held_by v worker ≡ None → IsStepUnder v w worker (Exit c) now c (queue u)
+exit_made v w worker c now u at is empty =
+    subst (IsMadeFor (step w worker (Exit c) now).0 worker c (step w worker (Exit c) now).1) (stepped (value_taken ran now u))
+    (leave_made v w worker c (Exit c) now u ran exited_reply (exited c worker now (side_of c w)) at
+    (record { step_is = refl; none = refl; keeps = λ old. refl; words = λ r into. refl; record_is = λ r. refl }) is empty both)
+  where
+    both : AreLeft ran exited_reply now u (side_of c w) (value_taken ran now u) (exited c worker now (side_of c w))
+    both =
+        subst (λ (d : ℕ). AreLeft ran exited_reply now u (side_of d w) (value_taken ran now u) (exited d worker now (side_of d w))) is.cpu
+        (exited_stands worker now u (side_of u.cpu w) (own_side w c u is) at.shows.made)
+
+    stepped : (x : CpuValue × Option Taken) → stepped_left exited_reply (held_by v worker) x.0 x.1 ≡ queue_exited (held_by v worker) x
+    stepped (made, None) = refl
+    stepped (made, Some out) = refl
 
 -- ---- the step
 

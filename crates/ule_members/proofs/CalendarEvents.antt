@@ -37,7 +37,7 @@ use Rattle.ule_model.specs.Step.{step}
 use Rattle.ule_members.proofs.CalendarMoves.{AllCpus, AreMoved, Others, choosing_moved, current_unfiled, held_unfiled, moved, moved_aside, moved_fewer, moved_finds, noted_moved, queued_moved, recorded, unborn_unfiled, unmoved}
 use Rattle.ule_members.proofs.CalendarParts.{SidePasses, PicksFrom, picks_here, nobody_joins, entry_by, IsCalm, StepPasses, side_passes, aside_passes, nothing_passes, put_passes, chosen_no_farther, IsNextIf, Joins, SidePassage, choosing_chose, joined_chose, joined_passes, lifted_rule, queued_joins, unaltered, without_itself, without_one, without_other, without_within}
 use Rattle.ule_members.proofs.CalendarPlaces.{Filing, FindsEach, IsFiled, filed_found, filing_of, filing_recorded, none_where_filed, some_filed, filed_at, filed_elsewhere, filing_found, filed_from}
-use Rattle.ule_members.proofs.CalendarRules.{IndexRule, IsClose, TellsEmpty, indexes_within, rule_from, turns, turn_advances}
+use Rattle.ule_members.proofs.CalendarRules.{IndexRule, IsClose, TellsEmpty, indexes_within, rule_from, turns, turning_by_one}
 use Rattle.ule_members.proofs.Membership.{has_thread_of}
 use Rattle.ule_members.proofs.Reach.{is_number_itself}
 use Rattle.ule_members.proofs.Threads.{thread_of-changed_same}
@@ -556,7 +556,8 @@ step_keeps w worker (event.Bed t channel) now calm =
     keeps_plainly w worker (event.Bed t channel) now _ (λ x. (refl, refl))
     (λ thread. put_passes w worker (event.Bed t channel) now calm t (Asleep channel) (bedded t channel w.members).1 (λ c. held_unfiled w worker t c thread) (λ c. refl))
 step_keeps w worker (event.Wake t) now calm = keeps_plainly w worker (event.Wake t) now _ (λ x. (refl, refl)) (λ thread. woken_passes w worker (event.Wake t) now calm t)
-step_keeps w worker (event.Look c) now calm = keeps_plainly w worker (event.Look c) now _ (λ x. (refl, refl)) (λ thread. nothing_passes w worker (event.Look c) now calm (step w worker (event.Look c) now).1)
+step_keeps w worker (event.Look c) now calm =
+    keeps_plainly w worker (event.Look c) now _ (λ x. (refl, refl)) (λ thread. nothing_passes w worker (event.Look c) now calm (step w worker (event.Look c) now).1)
 step_keeps w worker (event.Land t c) now calm =
     keeps_plainly w worker (event.Land t c) now _ (λ x. (refl, refl))
     (λ thread. side_passes w worker (event.Land t c) now calm c (landed t c worker now (side_of c w))
@@ -596,5 +597,5 @@ step_picks c t b w calm stands worker e now = (step_keeps w worker e now calm).p
 pub turning_goes_on : (w : World) (worker now c : ℕ) → IsCalm w → (numbers_on c w).idx ≡ (numbers_on c w).ridx → (e : Event) → is_tick_of c e ≡ true →
     c < length w.lines → distance_of (numbers_on c w).idx (numbers_on c (step w worker e now).0).idx ≡ 1
 turning_goes_on w worker now c calm same e is below =
-    turn_advances (numbers_on c w).idx (numbers_on c w).ridx (numbers_on c (step w worker e now).0).idx (calm.close c).insertion same
+    turning_by_one (numbers_on c w).idx (numbers_on c w).ridx (numbers_on c (step w worker e now).0).idx (calm.close c).insertion same
     ((step_keeps w worker e now calm).turned c is below)

@@ -177,8 +177,8 @@ pub lead_after : (i r j q : ℕ) → i < 64 → r < 64 → j < 64 → q < 64 →
 lead_after i r j q a b c d one two three four = omega arith
 
 -- a turn that finds the indexes equal brings the insertion index on by one
-pub turn_advances : (i r j : ℕ) → i < 64 → i ≡ r → j ≡ idx_after_turn i r → distance_of i j ≡ 1
-turn_advances i r j below same to = split (i == r) refl to
+pub turning_by_one : (i r j : ℕ) → i < 64 → i ≡ r → j ≡ idx_after_turn i r → distance_of i j ≡ 1
+turning_by_one i r j below same to = split (i == r) refl to
   where
     split : (e : Bool) → (i == r) ≡ e → j ≡ cond e ((i + 1) % 64) i → distance_of i j ≡ 1
     split true is to = omega arith

@@ -1,15 +1,14 @@
 -- How an unborn thread is taken into a worker's hand, and how the thread in a hand goes back there or is
 -- buried; and how a thread leaves its processor for good. The first two are this scheduler's own; the last two
 -- are after sched_throw and thread_exit.
-use Rattle.std.specs.Prelude.{ℕ, pos, List, Option, Some, None}
-use Rattle.ule_score.specs.Changes.{ran, record_after}
+use Rattle.std.specs.Prelude.{ℕ, pos, List, Option}
+use Rattle.ule_score.specs.Changes.{ran}
 use Rattle.ule_score.specs.declared.place.Place.TheVariants.{Unborn, Gone, Hand}
 use Rattle.ule_score.specs.declared.record.ThreadRecord.{ThreadRecord}
 use Rattle.ule_types.specs.declared.event.Reply.{Reply}
-use Rattle.ule_types.specs.declared.event.Reply.TheVariants.{Nothing, Hatched, Returned, Exited, Buried}
-use Rattle.ule_model.specs.Sleep.{taken}
-use Rattle.ule_model.specs.Switch.{choosing_next}
-use Rattle.ule_model.specs.World.{Member, Side, current_of, moved_to}
+use Rattle.ule_types.specs.declared.event.Reply.TheVariants.{Hatched, Returned, Exited, Buried}
+use Rattle.ule_model.specs.Sleep.{departed, departed_with}
+use Rattle.ule_model.specs.World.{Member, Side, moved_to}
 
 -- the step of a hatch: the unborn thread goes to the worker's hand
 abbrev pub hatched : ℕ → ℕ → List Member → List Member × Reply
@@ -29,13 +28,10 @@ buried t members = (moved_to t Gone (pos 0) members, Buried)
 abbrev pub exited_reply : ThreadRecord → Option ℕ → Reply
 exited_reply r into = Exited r.id into r.parent r.hist.run
 
--- the step of an exit that found this current thread: it goes to the worker's hand, and the next is chosen
+-- the step of an exit that found this current thread
 abbrev pub exited_with : Option Member → ℕ → ℕ → ℕ → Side → Side × Reply
-exited_with None c worker now s = (s, Nothing)
-exited_with (Some m) c worker now s =
-    let next = choosing_next c now (taken worker now ran m.thread.id s) in
-    (next.0, exited_reply (record_after s.settings now ran m.thread) next.1)
+exited_with o c worker now s = departed_with ran exited_reply o c worker now s
 
 -- the step of an exit of CPU c's current thread
 abbrev pub exited : ℕ → ℕ → ℕ → Side → Side × Reply
-exited c worker now s = exited_with (current_of c s.members) c worker now s
+exited c worker now s = departed ran exited_reply c worker now s

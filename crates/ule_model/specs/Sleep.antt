@@ -1,7 +1,7 @@
 -- How a thread falls asleep and is woken, after sched_sleep, sleepq_add and sched_wakeup. Between
 -- the two critical sections of either it is in the worker's hand.
 use Rattle.std.specs.Prelude.{ℕ, pos, List, Option, Some, None}
-use Rattle.ule_score.specs.Changes.{RecordChange, after_sleep, sleeps, woken as woken_change}
+use Rattle.ule_score.specs.Changes.{RecordChange, after_sleep, record_after, sleeps, woken as woken_change}
 use Rattle.ule_score.specs.declared.place.Place.{Place}
 use Rattle.ule_score.specs.declared.place.Place.TheVariants.{Running, Queued, Asleep, Unborn, Gone, Hand}
 use Rattle.ule_score.specs.declared.record.Settings.{Settings}
@@ -22,16 +22,29 @@ abbrev pub taken : ℕ → ℕ → RecordChange → ℕ → Side → Side
 taken worker now change t s =
     record (counted (unmarked s)) { members = put_in_hand s.settings now worker change t s.members }
 
--- the step of a drop that found this current thread: it goes to the worker's hand, and the next is chosen
+-- the step by which this current thread of CPU c leaves it, its record changed so: it goes to the worker's hand, and the
+-- next is chosen; this replies, by the record that left and the thread that runs now
+abbrev pub departed_with : RecordChange → (ThreadRecord → Option ℕ → Reply) → Option Member → ℕ → ℕ → ℕ → Side → Side × Reply
+departed_with change reply None c worker now s = (s, Nothing)
+departed_with change reply (Some m) c worker now s =
+    let next = choosing_next c now (taken worker now change m.thread.id s) in
+    (next.0, reply (record_after s.settings now change m.thread) next.1)
+
+-- the step by which the current thread of CPU c, if there is one, leaves it
+abbrev pub departed : RecordChange → (ThreadRecord → Option ℕ → Reply) → ℕ → ℕ → ℕ → Side → Side × Reply
+departed change reply c worker now s = departed_with change reply (current_of c s.members) c worker now s
+
+-- what a drop tells of the thread that left with this record: its number, and who runs now
+abbrev pub dropped_reply : ThreadRecord → Option ℕ → Reply
+dropped_reply r into = Dropped r.id into
+
+-- the step of a drop that found this current thread
 abbrev pub dropped_with : Option Member → ℕ → ℕ → ℕ → Side → Side × Reply
-dropped_with None c worker now s = (s, Nothing)
-dropped_with (Some m) c worker now s =
-    let next = choosing_next c now (taken worker now sleeps m.thread.id s) in
-    (next.0, Dropped m.thread.id next.1)
+dropped_with o c worker now s = departed_with sleeps dropped_reply o c worker now s
 
 -- the step of a drop of CPU c's current thread
 abbrev pub dropped : ℕ → ℕ → ℕ → Side → Side × Reply
-dropped c worker now s = dropped_with (current_of c s.members) c worker now s
+dropped c worker now s = departed sleeps dropped_reply c worker now s
 
 -- ---- falling asleep
 

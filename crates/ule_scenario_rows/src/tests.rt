@@ -329,14 +329,7 @@ fn refuses_what_can_not_be_declared(rt: HostRuntime) -> Result<(), Fail> {
 
 #[test]
 fn refuses_commands_that_are_not_built(rt: HostRuntime) -> Result<(), Fail> {
-    let commands: [&[u8]; 6] = [
-        b"renice 7 -20\n",
-        b"lend 7 0\n",
-        b"unlend 7\n",
-        b"fork 9\n",
-        b"exit\n",
-        b"tick\nexit\n",
-    ];
+    let commands: [&[u8]; 4] = [b"idle\n", b"balance\n", b"look 0\n", b"tick\nidle\n"];
     for command in commands {
         let mut below = Vec::new(rt.alloc());
         below.extend_from_slice(b"script 0\n")?;
@@ -344,6 +337,26 @@ fn refuses_commands_that_are_not_built(rt: HostRuntime) -> Result<(), Fail> {
         let text = with_lines(rt.alloc(), b"", below.as_slice())?;
         assert!(rt; is_refused(rt.alloc(), text.as_slice()), "{command:?}");
     }
+    Ok(())
+}
+
+#[test]
+fn reads_changes_births_and_exits(rt: HostRuntime) -> Result<(), Fail> {
+    let below = b"script 0\nrenice 7 -20\nlend 7 0\nunlend 7\nfork 9\nexit\n";
+    let text = with_lines(rt.alloc(), b"", below)?;
+    let setup = read(rt.alloc(), text.as_slice())?;
+    assert_eq!(rt; setup.scripts.len(0), 5);
+    assert_eq!(rt;
+        *setup.scripts.at(0, 0),
+        Command::Renice(ThreadId(7), Nice(-20))
+    );
+    assert_eq!(rt;
+        *setup.scripts.at(0, 1),
+        Command::Lend(ThreadId(7), Priority(0))
+    );
+    assert_eq!(rt; *setup.scripts.at(0, 2), Command::Unlend(ThreadId(7)));
+    assert_eq!(rt; *setup.scripts.at(0, 3), Command::Fork(ThreadId(9)));
+    assert_eq!(rt; *setup.scripts.at(0, 4), Command::Exit);
     Ok(())
 }
 
@@ -390,18 +403,22 @@ fn wants_one_cpu_for_unborn_threads(rt: HostRuntime) -> Result<(), Fail> {
     let texts: [&[u8]; 3] = [
         b"ule-scenario 1\njitter 1\ncpus 2\nunborn 9\nscript 0\nscript 1\nend\n",
         b"ule-scenario 1\njitter 1\ncpus 2\nscript 0\nexit\nscript 1\nend\n",
-        b"ule-scenario 1\njitter 1\ncpus 2\nthread 9 rt 50 0 bound\nscript 0\nrenice 9 1\nscript 1\nend\n",
+        b"ule-scenario 1\njitter 1\ncpus 2\nthread 9 rt 50 0 bound\nscript 0\nfork 9\nscript 1\nend\n",
     ];
     for text in texts {
         assert!(rt; is_refused(rt.alloc(), text), "{text:?}");
     }
     let text =
-        b"ule-scenario 1\njitter 1\ncpus 2\nthread 9 rt 50 1 bound\nthread 3 idle 230 0 bound\nscript 0\nscript 1\nwake 9\nend\n";
+        b"ule-scenario 1\njitter 1\ncpus 2\nthread 9 rt 50 1 bound\nthread 3 idle 230 0 bound\nscript 0\nscript 1\nwake 9\nrenice 9 1\nend\n";
     let setup = read(rt.alloc(), text)?;
     assert_eq!(rt; setup.threads.len(), 2);
     assert_eq!(rt; setup.threads.at(0).form, Form::Rt(Priority(50)));
     assert_eq!(rt; setup.threads.at(1).form, Form::Idle(Priority(230)));
-    assert_eq!(rt; setup.scripts.len(1), 1);
+    assert_eq!(rt; setup.scripts.len(1), 2);
     assert_eq!(rt; *setup.scripts.at(1, 0), Command::Wake(ThreadId(9)));
+    assert_eq!(rt;
+        *setup.scripts.at(1, 1),
+        Command::Renice(ThreadId(9), Nice(1))
+    );
     Ok(())
 }

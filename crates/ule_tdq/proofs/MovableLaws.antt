@@ -11,8 +11,8 @@ use Rattle.ule_score.specs.declared.record.ThreadRecord.{ThreadRecord}
 use Rattle.ule_tdq.specs.CpuThreads.{HasUnbound}
 
 -- what a record adds to the count
-abbrev pub unbound_count : Option ThreadRecord → ℕ
-unbound_count o = if is_unbound o then 1 else 0
+abbrev pub unbound_at : Option ThreadRecord → ℕ
+unbound_at o = if is_unbound o then 1 else 0
 
 -- a set has one thread or not, and every other as before
 abbrev pub IsSetAt : List ℕ → List ℕ → ℕ → Bool → Type 0
@@ -22,23 +22,23 @@ IsSetAt old new t movable = (u : ℕ) → has new u ≡ (if u == t then movable 
 pub none_unbound : (slots : List (Option ThreadRecord)) → ((t : ℕ) → slice_index_or slots t None ≡ None) → count_by is_unbound slots ≡ 0
 none_unbound [] none = refl
 none_unbound (o ∷ rest) none =
-    let first : unbound_count o ≡ 0 = ap unbound_count (none 0) in
+    let first : unbound_at o ≡ 0 = ap unbound_at (none 0) in
     let more : count_by is_unbound rest ≡ 0 = none_unbound rest (λ t. none (suc t)) in
-    let all : count_by is_unbound (o ∷ rest) ≡ unbound_count o + count_by is_unbound rest = sum_by-cons unbound_count o rest in
+    let all : count_by is_unbound (o ∷ rest) ≡ unbound_at o + count_by is_unbound rest = sum_by-cons unbound_at o rest in
     omega arith
 
--- no more threads are unbound_count than there are slots
+-- no more threads are counted than there are slots
 pub unbound_few : (slots : List (Option ThreadRecord)) → length slots ≡ 256 → count_by is_unbound slots ≤ 256
 unbound_few slots long = let most = count_by-le-length is_unbound slots in omega arith
 
--- a thread in a slot is unbound_count
-pub counted_within : (slots : List (Option ThreadRecord)) (t : ℕ) → t < length slots → unbound_count (slice_index_or slots t None) ≤ count_by is_unbound slots
-counted_within slots t within = get_or-le-sum_by unbound_count slots t None within
+-- a thread in a slot is counted
+pub unbound_at_within : (slots : List (Option ThreadRecord)) (t : ℕ) → t < length slots → unbound_at (slice_index_or slots t None) ≤ count_by is_unbound slots
+unbound_at_within slots t within = get_or-le-sum_by unbound_at slots t None within
 
 -- the count once another record is kept in a slot
 pub recounted : (slots : List (Option ThreadRecord)) (t : ℕ) (kept : Option ThreadRecord) → t < length slots →
-    count_by is_unbound (slice_set slots t kept) + unbound_count (slice_index_or slots t None) ≡ count_by is_unbound slots + unbound_count kept
-recounted slots t kept within = sum_by-set unbound_count slots t kept None within
+    count_by is_unbound (slice_set slots t kept) + unbound_at (slice_index_or slots t None) ≡ count_by is_unbound slots + unbound_at kept
+recounted slots t kept within = sum_by-set unbound_at slots t kept None within
 
 -- what a table without the current thread's record has
 but_at : (current : Option ℕ) (slots : List (Option ThreadRecord)) (u : ℕ) →

@@ -6,6 +6,7 @@ use Rattle.std.proofs.lemmas.Bool.{or_cases}
 use Rattle.std.proofs.lemmas.Option.{same_Some}
 use Rattle.ule_prio.specs.Kind.{kind_at}
 use Rattle.ule_prio.specs.declared.kind.Kind.{Kind}
+use Rattle.ule_score.specs.Changes.{IsSoundChange}
 use Rattle.ule_score.specs.declared.place.Place.{Place}
 use Rattle.ule_score.specs.declared.place.Place.TheVariants.{Queued}
 use Rattle.ule_score.specs.declared.record.Change.{Change}
@@ -17,7 +18,6 @@ use Rattle.ule_types.specs.declared.event.Reply.{Reply}
 use Rattle.ule_types.specs.declared.event.Reply.TheVariants.{Landed}
 use Rattle.ule_types.specs.declared.look.Summary.{Summary}
 use Rattle.ule_types.specs.declared.outcome.ThreadLine.{ThreadLine}
-use Rattle.ule_model.specs.Birth.{exited, exited_reply}
 use Rattle.ule_model.specs.CpuChange.{forked_reply, kind_queued, value_changed, value_forked, value_removed, value_removed_from}
 use Rattle.ule_model.specs.CpuNumbers.{summary_of, value_summary}
 use Rattle.ule_model.specs.CpuStart.{StartsAs}
@@ -28,13 +28,13 @@ use Rattle.ule_model.specs.Landing.{landed}
 use Rattle.ule_model.specs.Places.{is_on, runs_on, waits_on}
 use Rattle.ule_model.specs.PriorityChange.{carried_off, forked_on, priority_changed}
 use Rattle.ule_model.specs.Start.{laid_on}
-use Rattle.ule_model.specs.Sleep.{dropped}
+use Rattle.ule_model.specs.Sleep.{departed}
 use Rattle.ule_model.specs.Switch.{switched}
 use Rattle.ule_model.specs.Tick.{ticked}
 use Rattle.ule_model.specs.WellMade.{IsWellMade}
 use Rattle.ule_model.specs.World.{Member, Side, thread_of}
 use Rattle.ule_laws.proofs.CpuChanges.{AreForked, forked_stands, priority_changed_stands, removed_stands}
-use Rattle.ule_laws.proofs.CpuEvents.{AreLanded, dropped_reply, dropped_stands, exited_stands, landed_stands, reply_left, ticked_stands}
+use Rattle.ule_laws.proofs.CpuEvents.{AreLanded, landed_stands, left_stands, reply_left, ticked_stands}
 use Rattle.ule_laws.proofs.CpuLaws.{ActsAlike, laid_stands, switched_stands}
 use Rattle.ule_laws.proofs.CpuNumbers.{summary_stands}
 use Rattle.ule_laws.proofs.CpuPlaces.{kind_running, kind_waiting, line_stands, place_stands}
@@ -107,37 +107,30 @@ change_answers t change remote old new answer there new_is answer_is = record {
   };
 }
 
--- the current thread leaves, to sleep or for good, and the next is chosen
+-- a change of a record that leaves its CPU brings no numbers of its own
+leaving_sound : (sleeping : Bool) (now : ℕ) → IsSoundChange now (leaving sleeping)
+leaving_sound true now = tt
+leaving_sound false now = tt
+
+-- the current thread leaves, to sleep or not, and the next is chosen
 pub leaving_answers : (sleeping : Bool) (now : ℕ) (old new : CpuValue) (result : Option (ThreadRecord × Option ℕ)) →
     new ≡ (value_taken (leaving sleeping) now old).0 →
     option_map (λ r. record { thread = r.0; into = r.1 }) result ≡ (value_taken (leaving sleeping) now old).1 →
     AnswersLeaving old new sleeping now result
-leaving_answers true now old new result new_is result_is = record {
-  each = λ worker. record {
-    each = λ s made stands. let left = dropped_stands worker now old s stands made in record {
-      stands = subst (λ (x : CpuValue). StandsFor x (dropped old.cpu worker now s).0) (sym new_is) left.stands;
-      replied = replied result ∙ ap (reply_left dropped_reply) result_is ∙ sym left.answer;
+leaving_answers sleeping now old new result new_is result_is = record {
+  each = λ worker reply. record {
+    each = λ s made stands. let left = left_stands (leaving sleeping) reply worker now old s (leaving_sound sleeping now) stands made in record {
+      stands = subst (λ (x : CpuValue). StandsFor x (departed (leaving sleeping) reply old.cpu worker now s).0) (sym new_is) left.stands;
+      replied = replied reply result ∙ ap (reply_left reply) result_is ∙ sym left.answer;
       well_made = left.well_made;
     };
   };
 }
   where
-    replied : (o : Option (ThreadRecord × Option ℕ)) → departed_reply true o ≡ reply_left dropped_reply (option_map (λ r. record { thread = r.0; into = r.1 }) o)
-    replied None = refl
-    replied (Some out) = refl
-leaving_answers false now old new result new_is result_is = record {
-  each = λ worker. record {
-    each = λ s made stands. let left = exited_stands worker now old s stands made in record {
-      stands = subst (λ (x : CpuValue). StandsFor x (exited old.cpu worker now s).0) (sym new_is) left.stands;
-      replied = replied result ∙ ap (reply_left exited_reply) result_is ∙ sym left.answer;
-      well_made = left.well_made;
-    };
-  };
-}
-  where
-    replied : (o : Option (ThreadRecord × Option ℕ)) → departed_reply false o ≡ reply_left exited_reply (option_map (λ r. record { thread = r.0; into = r.1 }) o)
-    replied None = refl
-    replied (Some out) = refl
+    replied : (reply : ThreadRecord → Option ℕ → Reply) (o : Option (ThreadRecord × Option ℕ)) →
+        departed_reply reply o ≡ reply_left reply (option_map (λ r. record { thread = r.0; into = r.1 }) o)
+    replied reply None = refl
+    replied reply (Some out) = refl
 
 -- a landing
 pub landing_answers : (r : ThreadRecord) (remote : Bool) (old new : CpuValue) (answer : Reply) → new ≡ value_added r remote old →

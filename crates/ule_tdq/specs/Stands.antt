@@ -2,7 +2,6 @@
 -- call's event makes of that side.
 use Rattle.std.specs.Prelude.{◌≡◌, ℕ, ℤ, Bool, true, false, not, ◌==◌, [], Option, Some, None}
 use Rattle.std.specs.Option.{option_map}
-use Rattle.ule_model.specs.Birth.{exited, exited_reply}
 use Rattle.ule_model.specs.CpuChange.{forked_reply}
 use Rattle.ule_model.specs.CpuStart.{line_at_start, word_at_start}
 use Rattle.ule_model.specs.CpuValue.{CpuValue, StandsFor, thread_on}
@@ -10,7 +9,7 @@ use Rattle.ule_model.specs.Finals.{final_line}
 use Rattle.ule_model.specs.Landing.{landed}
 use Rattle.ule_model.specs.Places.{is_on}
 use Rattle.ule_model.specs.PriorityChange.{carried_off, forked_on, priority_changed}
-use Rattle.ule_model.specs.Sleep.{dropped}
+use Rattle.ule_model.specs.Sleep.{departed}
 use Rattle.ule_model.specs.Start.{laid_on}
 use Rattle.ule_model.specs.WellMade.{IsWellMade}
 use Rattle.ule_model.specs.World.{Member, Side, current_of, thread_of}
@@ -21,8 +20,9 @@ use Rattle.ule_score.specs.declared.record.CpuLine.{CpuLine}
 use Rattle.ule_score.specs.declared.record.Settings.{Settings}
 use Rattle.ule_score.specs.declared.record.ThreadRecord.{ThreadRecord}
 use Rattle.ule_types.specs.declared.event.Reply.{Reply}
-use Rattle.ule_types.specs.declared.event.Reply.TheVariants.{Dropped, Nothing}
+use Rattle.ule_types.specs.declared.event.Reply.TheVariants.{Nothing}
 use Rattle.ule_types.specs.declared.outcome.ThreadLine.{ThreadLine}
+use Rattle.ule_tdq.specs.Records.{leaving}
 
 -- a value and an answer are what an event gave of a side: the value stands for the side after it, the answer is its
 -- reply, and its threads are well made
@@ -38,20 +38,16 @@ pub record AnswersEvent (old new : CpuValue) (event : Side → Side × Reply) (a
 
 -- ---- a thread that leaves its processor
 
--- what a side becomes whose current thread leaves CPU c for a worker's hand, to sleep or for good
-abbrev pub departed : Bool → ℕ → ℕ → ℕ → Side → Side × Reply
-departed true c worker now s = dropped c worker now s
-departed false c worker now s = exited c worker now s
+-- what an event replies by what left, and by the thread that runs now
+abbrev pub departed_reply : (ThreadRecord → Option ℕ → Reply) → Option (ThreadRecord × Option ℕ) → Reply
+departed_reply reply None = Nothing
+departed_reply reply (Some out) = reply out.0 out.1
 
--- the reply to that, by what left and which thread runs now
-abbrev pub departed_reply : Bool → Option (ThreadRecord × Option ℕ) → Reply
-departed_reply sleeping None = Nothing
-departed_reply true (Some out) = Dropped out.0.id out.1
-departed_reply false (Some out) = exited_reply out.0 out.1
-
--- a call answers an event by which the current thread leaves
+-- a call answers every event by which the current thread leaves for a worker's hand, to sleep or not, whatever the
+-- event replies
 pub record AnswersLeaving (old new : CpuValue) (sleeping : Bool) (now : ℕ) (left : Option (ThreadRecord × Option ℕ)) : Type 0 where
-  pub each : (worker : ℕ) → AnswersEvent old new (departed sleeping old.cpu worker now) (departed_reply sleeping left)
+  pub each : (worker : ℕ) (reply : ThreadRecord → Option ℕ → Reply) →
+      AnswersEvent old new (departed (leaving sleeping) reply old.cpu worker now) (departed_reply reply left)
 
 -- ---- a thread that comes from elsewhere
 

@@ -9,7 +9,7 @@ use ule_io::Memory;
 use ule_prio::{Class, Cpu, Kind, LockId, Nice, Priority, ThreadId};
 use ule_score::{Change, Changed, Place, Settings, ThreadRecord, Why};
 use ule_tdq::{Arrival, Clocked, SwitchOut, Tdq};
-use ule_types::ThreadLine;
+use ule_types::Summary;
 
 /// A CPU without threads, as it starts by the customary settings.
 fn started(alloc: Global, cpu: Cpu) -> Result<Tdq, Memory>
@@ -395,5 +395,48 @@ fn a_child_begins_with_little_of_its_slice_left(rt: HostRuntime) -> Result<(), F
     assert_eq!(rt; forks(&mut d, 8), (Some(ThreadId(7)), second));
     assert_eq!(rt; run_of(&d, 7), Some(16_124));
     assert!(rt; runs(&d, 7));
+    Ok(())
+}
+
+/// A timeshare thread at the start that is bound to CPU 3.
+fn bound(id: ThreadId) -> ThreadRecord
+    ensures bounds { KeepsBounds result }
+    ensures time { result.usage.ltick ≡ 20000 }
+{
+    ThreadRecord {
+        bound: Some(Cpu(3)),
+        ..fresh(id)
+    }
+}
+
+/// Whether a look at a CPU sees these numbers.
+fn shows(d: &Tdq, load: u32, movable: u32, lowpri: u8) -> bool {
+    let seen = Summary {
+        load,
+        movable,
+        lowpri,
+    };
+    d.summary() == seen
+}
+
+/// Whether a thread is queued on a CPU and not bound.
+fn is_movable(d: &Tdq, t: u8) -> bool {
+    d.movable().has(ThreadId(t))
+}
+
+#[test]
+fn a_look_counts_movable_threads_and_the_current_priority(rt: HostRuntime) -> Result<(), Fail> {
+    let mut d = started(rt.alloc(), Cpu(3))?;
+    assert!(rt; shows(&d, 0, 0, 255));
+    assert!(rt; laid(&mut d, 7));
+    assert!(rt; arrival(&mut d, bound(ThreadId(5))).is_some());
+    assert!(rt; shows(&d, 2, 1, 172));
+    assert!(rt; !is_movable(&d, 5));
+    assert!(rt; arrival(&mut d, urgent(ThreadId(9))).is_some());
+    assert!(rt; shows(&d, 3, 2, 60));
+    assert!(rt; comes_to(&mut d, Why::Yield, ran(None, 9)));
+    assert!(rt; shows(&d, 3, 1, 60));
+    assert!(rt; is_movable(&d, 7));
+    assert!(rt; !is_movable(&d, 9));
     Ok(())
 }

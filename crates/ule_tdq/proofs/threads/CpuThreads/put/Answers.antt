@@ -4,7 +4,7 @@ use Rattle.ule_model.specs.CpuNumbers.{is_unbound, records_but}
 use Rattle.ule_runq.specs.Set.{has}
 use Rattle.ule_score.specs.declared.record.ThreadRecord.{ThreadRecord}
 use Rattle.ule_tdq.specs.CpuThreads.{HasUnbound}
-use Rattle.ule_tdq.proofs.MovableLaws.{unbound_count, counted_within, movable_kept, recounted}
+use Rattle.ule_tdq.proofs.MovableLaws.{unbound_at, unbound_at_within, movable_kept, recounted}
 use Rattle.ule_tdq.proofs.threads.CpuThreads.put.Goals as goal
 
 pub invariant_of-self : goal.invariant_of-self
@@ -20,9 +20,9 @@ invariant_of-self c =
       unbound =
           (let whole = ap (λ (xs : List (Option ThreadRecord)). count_by is_unbound xs) c.put.ensures in
           let more = recounted c.self.inside.records c.args.t c.args.kept within in
-          let was : c.unbound_in.result ≡ unbound_count c.get.result = c.unbound_in.ensures in
-          let had = ap unbound_count c.get.ensures in
-          let part = counted_within c.self.inside.records c.args.t within in
+          let was : c.unbound_in.result ≡ unbound_at c.get.result = c.unbound_in.ensures in
+          let had = ap unbound_at c.get.ensures in
+          let part = unbound_at_within c.self.inside.records c.args.t within in
           let kept = c.unbound_in-2.ensures in
           let count = old.unbound in
           omega arith);
