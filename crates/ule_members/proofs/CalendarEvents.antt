@@ -556,7 +556,8 @@ step_keeps w worker (event.Bed t channel) now calm =
     keeps_plainly w worker (event.Bed t channel) now _ (λ x. (refl, refl))
     (λ thread. put_passes w worker (event.Bed t channel) now calm t (Asleep channel) (bedded t channel w.members).1 (λ c. held_unfiled w worker t c thread) (λ c. refl))
 step_keeps w worker (event.Wake t) now calm = keeps_plainly w worker (event.Wake t) now _ (λ x. (refl, refl)) (λ thread. woken_passes w worker (event.Wake t) now calm t)
-step_keeps w worker (event.Look c) now calm = keeps_plainly w worker (event.Look c) now _ (λ x. (refl, refl)) (λ thread. nothing_passes w worker (event.Look c) now calm (step w worker (event.Look c) now).1)
+step_keeps w worker (event.Look c) now calm =
+    keeps_plainly w worker (event.Look c) now _ (λ x. (refl, refl)) (λ thread. nothing_passes w worker (event.Look c) now calm (step w worker (event.Look c) now).1)
 step_keeps w worker (event.Land t c) now calm =
     keeps_plainly w worker (event.Land t c) now _ (λ x. (refl, refl))
     (λ thread. side_passes w worker (event.Land t c) now calm c (landed t c worker now (side_of c w))

@@ -141,9 +141,9 @@ pub entry_count : (w : World) (e : Entry) → length (after_entry w e).lines ≡
 entry_count w e = (step_leaves_rest w e.worker e.event e.now).count
 
 -- a turning tick is an advance of the insertion index
-turning_advances : (c : ℕ) (w : World) (e : Entry) → IsCalm w → IsTickOfSome (length w.lines) e →
+turn_advances : (c : ℕ) (w : World) (e : Entry) → IsCalm w → IsTickOfSome (length w.lines) e →
     (if is_turning c w e then 1 else 0) ≤ distance_of (numbers_on c w).idx (numbers_on c (after_entry w e)).idx
-turning_advances c w e calm there = split (is_turning c w e) refl
+turn_advances c w e calm there = split (is_turning c w e) refl
   where
     split : (b : Bool) → is_turning c w e ≡ b → (if b then 1 else 0) ≤ distance_of (numbers_on c w).idx (numbers_on c (after_entry w e)).idx
     split false is = omega arith
@@ -177,7 +177,7 @@ sums_up c b t count w (e ∷ es) calm made is there stretch =
     sums_up c b t count (after_entry w e) es (entry_calm w e calm made.0) made.1 (entry_count w e ∙ is) there.1 stretch.2 in
     let near = entry_nearer w e calm made.0 c t b stretch.0 (stretch_begins c b t (after_entry w e) es stretch.2) stretch.1 in
     let lead = entry_lead w e calm made.0 c in
-    let turn = turning_advances c w e calm (subst (λ (n : ℕ). IsTickOfSome n e) (sym is) there.0) in
+    let turn = turn_advances c w e calm (subst (λ (n : ℕ). IsTickOfSome n e) (sym is) there.0) in
     let a = rest.nearer in let b = rest.lead in let d = rest.turns in
     record {
       nearer = omega arith;
