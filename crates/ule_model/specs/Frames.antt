@@ -1,5 +1,5 @@
 -- What a step may touch, and what it leaves: said once for all events.
-use Rattle.std.specs.Prelude.{◌≡◌, ◌≢◌, ℕ, Bool, true, false, ◌==◌, ◌&&◌, List, [], ◌∷◌, find, length, slice_index_or, Option, Some, None, if◌then◌else◌}
+use Rattle.std.specs.Prelude.{◌≡◌, ℕ, true, false, ◌&&◌, List, [], ◌∷◌, find, length, slice_index_or, Option, Some, None, if◌then◌else◌}
 use Rattle.std.specs.Option.{option_map}
 use Rattle.ule_score.specs.Changes.{HasNumbers, IsBy, IsSoundChange, RecordChange, changed, forked, forks, placed, ran, record_after, runs, sleeps, ticked, woken}
 use Rattle.ule_score.specs.declared.record.ThreadRecord.{ThreadRecord}

@@ -3,7 +3,7 @@ use Rattle.std.specs.Prelude.{ℕ, Bool, not, ◌==◌, ◌||◌, List, Option, 
 use Rattle.std.specs.Option.{option_map}
 use Rattle.ule_prio.specs.Kind.{kind_at}
 use Rattle.ule_prio.specs.Preemption.{takes_over}
-use Rattle.ule_score.specs.Changes.{RecordChange, placed}
+use Rattle.ule_score.specs.Changes.{placed}
 use Rattle.ule_score.specs.declared.record.CpuLine.{CpuLine}
 use Rattle.ule_score.specs.declared.record.ThreadRecord.{ThreadRecord}
 use Rattle.ule_types.specs.declared.event.Reply.{Reply}

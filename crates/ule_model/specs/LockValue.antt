@@ -1,6 +1,6 @@
 -- What one lock guards, as a value: a CPU, a sleep chain, limbo, or nothing where the CPU of its number
 -- isn't there; and the look-ups in it.
-use Rattle.std.specs.Prelude.{ℕ, ◌+◌, is_some, Bool, Option, None, option_and_then}
+use Rattle.std.specs.Prelude.{ℕ, is_some, Bool, Option, None, option_and_then}
 use Rattle.std.specs.Option.{option_map}
 use Rattle.ule_sleep.specs.Chain.{ChainValue, standing_in}
 use Rattle.ule_sleep.specs.Limbo.{LimboValue}

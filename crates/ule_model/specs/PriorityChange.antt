@@ -1,7 +1,6 @@
 -- A change that can move a priority, after sched_thread_priority, wherever the thread stands; the removal of a
 -- queued thread, after sched_rem, and a fork, after sched_fork, on the side of a CPU.
 use Rattle.std.specs.Prelude.{ℕ, ℤ, Bool, true, false, nat_lt, Option, Some, None, if◌then◌else◌}
-use Rattle.ule_prio.specs.declared.kind.Kind.{Kind}
 use Rattle.ule_score.specs.Changes.{after_change, forked, forks, record_after}
 use Rattle.ule_score.specs.declared.place.Place.{Place}
 use Rattle.ule_score.specs.declared.place.Place.TheVariants.{Running, Queued, Asleep, Unborn, Gone, Hand}

@@ -1,7 +1,6 @@
 -- The program of a worker as a machine: where it stands in a command says its next item, and the
 -- reply to that says where it stands then.
 use Rattle.std.specs.Prelude.{ℕ, ◌+◌, ◌%◌, ◌^◌, List, [], ◌∷◌, Option, Some, None}
-use Rattle.ule_score.specs.declared.record.Why.{Why}
 use Rattle.ule_score.specs.declared.record.Why.TheVariants as why
 use Rattle.ule_types.specs.declared.command.Command.{Command}
 use Rattle.ule_types.specs.declared.command.Command.TheVariants as command

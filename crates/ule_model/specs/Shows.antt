@@ -2,7 +2,6 @@
 use Rattle.std.specs.Prelude.{◌≡◌, ℕ, ◌<◌, int_lt, List, [], ◌∷◌, map, slice_index_or, length, if◌then◌else◌}
 use Rattle.ule_prio.specs.declared.kind.Kind.{Kind}
 use Rattle.ule_model.specs.Insertion.{members_in}
-use Rattle.ule_model.specs.Places.{waits_in}
 use Rattle.ule_model.specs.World.{Member}
 
 -- threads in order with one more

@@ -1,6 +1,6 @@
 -- The step of the sequential scheduler: what each event does to the world, and what it does to the value under its
 -- lock and the worker's hand; and what it answers.
-use Rattle.std.specs.Prelude.{ℕ, false, List, ◌≡◌, ◌+◌, ◌%◌, ◌<◌, ◌≤◌, not, ◌==◌, Option, Some, None}
+use Rattle.std.specs.Prelude.{ℕ, false, not, ◌==◌, Option, Some, None}
 use Rattle.ule_types.specs.declared.event.Event.{Event}
 use Rattle.ule_types.specs.declared.event.Event.TheVariants.{Tick, Switch, Drop, Bed, Wake, Look, Land, Move, Lend, Unlend, Renice, Hatch, Fork, Return, Exit, Bury, Inherit}
 use Rattle.ule_types.specs.declared.event.Reply.{Reply}

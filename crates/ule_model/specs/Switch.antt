@@ -1,9 +1,9 @@
 -- The switch of a CPU, after sched_switch and choosethread; and how a thread leaves its place on a CPU.
-use Rattle.std.specs.Prelude.{ℕ, ◌+◌, ◌-◌, ◌^◌, min, Bool, false, not, ◌==◌, pos, List, length, Option, Some, None, if◌then◌else◌}
+use Rattle.std.specs.Prelude.{ℕ, Bool, false, not, ◌==◌, pos, List, length, Option, Some, None, if◌then◌else◌}
 pub use Rattle.ule_io.specs.Counter.{one_more}
 use Rattle.ule_prio.specs.declared.kind.Kind.{Kind}
 use Rattle.ule_prio.specs.declared.kind.Kind.TheVariants.{Real, Batch, Idle}
-use Rattle.ule_score.specs.Changes.{RecordChange, ran, runs}
+use Rattle.ule_score.specs.Changes.{ran, runs}
 use Rattle.ule_score.specs.declared.place.Place.{Place}
 use Rattle.ule_score.specs.declared.place.Place.TheVariants.{Running, Queued, Asleep, Unborn, Gone, Hand}
 use Rattle.ule_score.specs.declared.record.CpuLine.{CpuLine}

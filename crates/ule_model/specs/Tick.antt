@@ -1,7 +1,7 @@
 -- A stathz tick on a CPU, after sched_clock.
 use Rattle.std.specs.Prelude.{ℕ, ◌-◌, Bool, false, nat_le, ◌==◌, ◌&&◌, ◌||◌, List, length, count_by, Option, Some, None, if◌then◌else◌}
 use Rattle.ule_prio.specs.declared.kind.Kind.TheVariants.{Batch}
-use Rattle.ule_score.specs.Changes.{RecordChange, after_tick, ticked as tick_of}
+use Rattle.ule_score.specs.Changes.{after_tick, ticked as tick_of}
 use Rattle.ule_score.specs.declared.record.CpuLine.{CpuLine}
 use Rattle.ule_types.specs.declared.event.Reply.{Reply}
 use Rattle.ule_types.specs.declared.event.Reply.TheVariants.{Ticked}
