@@ -70,7 +70,8 @@ fn reads_a_setup(rt: HostRuntime) -> Result<(), Fail> {
 
 #[test]
 fn refuses_what_is_no_scenario(rt: HostRuntime) {
-    let texts: [&[u8]; 16] = [
+    // The last three have what is built for one CPU alone.
+    let texts: [&[u8]; 19] = [
         b"",
         b"\n",
         b"ule-scenario 1\njitter 1\ncpus 1\nscript 0\nend",
@@ -87,6 +88,9 @@ fn refuses_what_is_no_scenario(rt: HostRuntime) {
         b"ule-scenario 1\njitter 1\ncpus 1\nthread 7 ts 0 0\nthread 7 ts 1 0\nscript 0\nend\n",
         b"ule-scenario 1\njitter 1\ncpus 1\nscript 0\ntick 1\nend\n",
         b"ule-scenario 1\njitter 1\ncpus 1\nscript 0\nyield\r\nend\n",
+        b"ule-scenario 1\njitter 1\ncpus 2\nunborn 9\nscript 0\nscript 1\nend\n",
+        b"ule-scenario 1\njitter 1\ncpus 2\nscript 0\nexit\nscript 1\nend\n",
+        b"ule-scenario 1\njitter 1\ncpus 2\nthread 9 rt 50 0 bound\nscript 0\nfork 9\nscript 1\nend\n",
     ];
     for text in texts {
         assert!(rt; is_refused(rt.alloc(), text), "{text:?}");
@@ -116,15 +120,6 @@ fn reads_the_scripts_of_two_cpus(rt: HostRuntime) -> Result<(), Fail> {
     assert_eq!(rt; *setup.scripts.at(1, 1), Command::Wake(ThreadId(10)));
     assert_eq!(rt; *setup.scripts.at(1, 2), Command::Yield);
     assert_eq!(rt; setup.scripts.len(2), 0);
-    Ok(())
-}
-
-#[test]
-fn reads_a_bound_thread_on_one_cpu(rt: HostRuntime) -> Result<(), Fail> {
-    let text = b"ule-scenario 1\njitter 1\ncpus 1\nthread 7 ts 0 0 bound\nscript 0\nend\n";
-    let setup = read(rt.alloc(), text)?;
-    assert_eq!(rt; setup.threads.len(), 1);
-    assert!(rt; setup.threads.at(0).bound);
     Ok(())
 }
 
@@ -237,27 +232,67 @@ fn reads_the_settings_that_are_given(rt: HostRuntime) -> Result<(), Fail> {
     Ok(())
 }
 
+/// Lines above the jitter and below the number of CPUs that make a scenario no scenario: settings out
+/// of range or place, threads that can't be declared, commands that name others than what is there,
+/// and commands that aren't built yet.
+const REFUSED: [(&[u8], &[u8]); 47] = [
+    (b"set interact 0\n", b"script 0\n"),
+    (b"set interact 101\n", b"script 0\n"),
+    (b"set interact 030\n", b"script 0\n"),
+    (b"set slice 5\n", b"script 0\n"),
+    (b"set slice 1001\n", b"script 0\n"),
+    (b"set preempt 256\n", b"script 0\n"),
+    (b"set steal 0\n", b"script 0\n"),
+    (b"set steal 65\n", b"script 0\n"),
+    (b"set slice 12\nset interact 30\n", b"script 0\n"),
+    (b"set slice 12\nset slice 12\n", b"script 0\n"),
+    (b"set speed 12\n", b"script 0\n"),
+    (b"set slice\n", b"script 0\n"),
+    (b"set slice 12 12\n", b"script 0\n"),
+    (b"jitter 0\nset slice 12\n", b"script 0\n"),
+    (b"", b"thread 0 ithd 48 0\nscript 0\n"),
+    (b"", b"thread 0 rt 47 0\nscript 0\n"),
+    (b"", b"thread 0 rt 80 0\nscript 0\n"),
+    (b"", b"thread 0 fifo 47 0\nscript 0\n"),
+    (b"", b"thread 0 fifo 80 0\nscript 0\n"),
+    (b"", b"thread 0 idle 223 0\nscript 0\n"),
+    (b"", b"thread 0 idle 256 0\nscript 0\n"),
+    (b"", b"thread 0 rt -5 0\nscript 0\n"),
+    (b"", b"thread 0 batch 5 0\nscript 0\n"),
+    (b"", b"thread 0 ts 0 0 0\nscript 0\n"),
+    (b"", b"thread 9 ts 0 0\nscript 0\n"),
+    (b"", b"unborn 7\nscript 0\n"),
+    (b"", b"unborn 9\nscript 0\n"),
+    (b"", b"unborn 256\nscript 0\n"),
+    (b"", b"unborn 8 bound\nscript 0\n"),
+    (b"", b"unborn\nscript 0\n"),
+    (b"", b"script 0\nrenice 7 21\n"),
+    (b"", b"script 0\nrenice 7 -21\n"),
+    (b"", b"script 0\nrenice 7 -0\n"),
+    (b"", b"script 0\nrenice 8 0\n"),
+    (b"", b"script 0\nrenice 7\n"),
+    (b"", b"script 0\nlend 7 256\n"),
+    (b"", b"script 0\nlend 8 100\n"),
+    (b"", b"script 0\nlend 7\n"),
+    (b"", b"script 0\nunlend 8\n"),
+    (b"", b"script 0\nfork 7\n"),
+    (b"", b"script 0\nfork 8\n"),
+    (b"", b"script 0\nfork 9\nfork 9\n"),
+    (b"", b"script 0\nexit 0\n"),
+    (b"", b"script 0\nidle\n"),
+    (b"", b"script 0\nbalance\n"),
+    (b"", b"script 0\nlook 0\n"),
+    (b"", b"script 0\ntick\nidle\n"),
+];
+
 #[test]
-fn refuses_settings_out_of_range_or_place(rt: HostRuntime) -> Result<(), Fail> {
-    let lines: [&[u8]; 14] = [
-        b"set interact 0\n",
-        b"set interact 101\n",
-        b"set interact 030\n",
-        b"set slice 5\n",
-        b"set slice 1001\n",
-        b"set preempt 256\n",
-        b"set steal 0\n",
-        b"set steal 65\n",
-        b"set slice 12\nset interact 30\n",
-        b"set slice 12\nset slice 12\n",
-        b"set speed 12\n",
-        b"set slice\n",
-        b"set slice 12 12\n",
-        b"jitter 0\nset slice 12\n",
-    ];
-    for above in lines {
-        let text = with_lines(rt.alloc(), above, b"script 0\n")?;
-        assert!(rt; is_refused(rt.alloc(), text.as_slice()), "{above:?}");
+fn refuses_lines_that_may_not_stand(rt: HostRuntime) -> Result<(), Fail> {
+    for (above, below) in REFUSED {
+        let text = with_lines(rt.alloc(), above, below)?;
+        assert!(rt;
+            is_refused(rt.alloc(), text.as_slice()),
+            "{above:?} {below:?}"
+        );
     }
     Ok(())
 }
@@ -298,54 +333,13 @@ fn reads_all_classes_and_unborn_threads(rt: HostRuntime) -> Result<(), Fail> {
 }
 
 #[test]
-fn refuses_what_can_not_be_declared(rt: HostRuntime) -> Result<(), Fail> {
-    let lines: [&[u8]; 16] = [
-        b"thread 0 ithd 48 0\n",
-        b"thread 0 rt 47 0\n",
-        b"thread 0 rt 80 0\n",
-        b"thread 0 fifo 47 0\n",
-        b"thread 0 fifo 80 0\n",
-        b"thread 0 idle 223 0\n",
-        b"thread 0 idle 256 0\n",
-        b"thread 0 rt -5 0\n",
-        b"thread 0 batch 5 0\n",
-        b"thread 0 ts 0 0 0\n",
-        b"thread 9 ts 0 0\n",
-        b"unborn 7\n",
-        b"unborn 9\n",
-        b"unborn 256\n",
-        b"unborn 8 bound\n",
-        b"unborn\n",
-    ];
-    for line in lines {
-        let mut below = Vec::new(rt.alloc());
-        below.extend_from_slice(line)?;
-        below.extend_from_slice(b"script 0\n")?;
-        let text = with_lines(rt.alloc(), b"", below.as_slice())?;
-        assert!(rt; is_refused(rt.alloc(), text.as_slice()), "{line:?}");
-    }
-    Ok(())
-}
-
-#[test]
-fn refuses_commands_that_are_not_built(rt: HostRuntime) -> Result<(), Fail> {
-    let commands: [&[u8]; 4] = [b"idle\n", b"balance\n", b"look 0\n", b"tick\nidle\n"];
-    for command in commands {
-        let mut below = Vec::new(rt.alloc());
-        below.extend_from_slice(b"script 0\n")?;
-        below.extend_from_slice(command)?;
-        let text = with_lines(rt.alloc(), b"", below.as_slice())?;
-        assert!(rt; is_refused(rt.alloc(), text.as_slice()), "{command:?}");
-    }
-    Ok(())
-}
-
-#[test]
 fn reads_changes_births_and_exits(rt: HostRuntime) -> Result<(), Fail> {
-    let below = b"script 0\nrenice 7 -20\nlend 7 0\nunlend 7\nfork 9\nexit\n";
+    let below =
+        b"thread 8 ts 0 0 bound\nscript 0\nrenice 7 -20\nlend 7 0\nunlend 7\nwake 9\nfork 9\nexit\n";
     let text = with_lines(rt.alloc(), b"", below)?;
     let setup = read(rt.alloc(), text.as_slice())?;
-    assert_eq!(rt; setup.scripts.len(0), 5);
+    assert!(rt; setup.threads.len() == 2 && setup.threads.at(1).bound);
+    assert_eq!(rt; setup.scripts.len(0), 6);
     assert_eq!(rt;
         *setup.scripts.at(0, 0),
         Command::Renice(ThreadId(7), Nice(-20))
@@ -355,59 +349,14 @@ fn reads_changes_births_and_exits(rt: HostRuntime) -> Result<(), Fail> {
         Command::Lend(ThreadId(7), Priority(0))
     );
     assert_eq!(rt; *setup.scripts.at(0, 2), Command::Unlend(ThreadId(7)));
-    assert_eq!(rt; *setup.scripts.at(0, 3), Command::Fork(ThreadId(9)));
-    assert_eq!(rt; *setup.scripts.at(0, 4), Command::Exit);
+    assert_eq!(rt; *setup.scripts.at(0, 3), Command::Wake(ThreadId(9)));
+    assert_eq!(rt; *setup.scripts.at(0, 4), Command::Fork(ThreadId(9)));
+    assert_eq!(rt; *setup.scripts.at(0, 5), Command::Exit);
     Ok(())
 }
 
 #[test]
-fn reads_a_wake_of_an_unborn_thread(rt: HostRuntime) -> Result<(), Fail> {
-    let text = with_lines(rt.alloc(), b"", b"script 0\nwake 9\nwake 7\n")?;
-    let setup = read(rt.alloc(), text.as_slice())?;
-    assert_eq!(rt; setup.scripts.len(0), 2);
-    assert_eq!(rt; *setup.scripts.at(0, 0), Command::Wake(ThreadId(9)));
-    assert_eq!(rt; *setup.scripts.at(0, 1), Command::Wake(ThreadId(7)));
-    Ok(())
-}
-
-#[test]
-fn refuses_commands_that_name_others(rt: HostRuntime) -> Result<(), Fail> {
-    let commands: [&[u8]; 14] = [
-        b"renice 7 21\n",
-        b"renice 7 -21\n",
-        b"renice 7 -0\n",
-        b"renice 8 0\n",
-        b"renice 7\n",
-        b"lend 7 256\n",
-        b"lend 8 100\n",
-        b"lend 7\n",
-        b"unlend 8\n",
-        b"fork 7\n",
-        b"fork 8\n",
-        b"fork 9\nfork 9\n",
-        b"exit 0\n",
-        b"look 0\n",
-    ];
-    for command in commands {
-        let mut below = Vec::new(rt.alloc());
-        below.extend_from_slice(b"script 0\n")?;
-        below.extend_from_slice(command)?;
-        let text = with_lines(rt.alloc(), b"", below.as_slice())?;
-        assert!(rt; is_refused(rt.alloc(), text.as_slice()), "{command:?}");
-    }
-    Ok(())
-}
-
-#[test]
-fn wants_one_cpu_for_unborn_threads(rt: HostRuntime) -> Result<(), Fail> {
-    let texts: [&[u8]; 3] = [
-        b"ule-scenario 1\njitter 1\ncpus 2\nunborn 9\nscript 0\nscript 1\nend\n",
-        b"ule-scenario 1\njitter 1\ncpus 2\nscript 0\nexit\nscript 1\nend\n",
-        b"ule-scenario 1\njitter 1\ncpus 2\nthread 9 rt 50 0 bound\nscript 0\nfork 9\nscript 1\nend\n",
-    ];
-    for text in texts {
-        assert!(rt; is_refused(rt.alloc(), text), "{text:?}");
-    }
+fn reads_classes_and_changes_on_two_cpus(rt: HostRuntime) -> Result<(), Fail> {
     let text =
         b"ule-scenario 1\njitter 1\ncpus 2\nthread 9 rt 50 1 bound\nthread 3 idle 230 0 bound\nscript 0\nscript 1\nwake 9\nrenice 9 1\nend\n";
     let setup = read(rt.alloc(), text)?;
