@@ -1,7 +1,7 @@
 -- The calendar promise for each single call.
-use Rattle.std.proofs.Common.{◌≡◌, ◌≢◌, ◌==◌, ℕ, ◌+◌, ◌%◌, ◌<◌, ◌≤◌, Bool, true, false, not, cond, ◌&&◌, Option, Some, IfSome, List, length, arith, refl, sym, subst, ap, ◌∙◌, ⊎_elim}
-use Rattle.std.proofs.lemmas.Bool.{cases_lt, eqb-false, eqb-true}
-use Rattle.ule_model.specs.CalendarIndexes.{calendar_bucket, distance_of, reach_of}
+use Rattle.std.proofs.Common.{◌≡◌, ◌≢◌, ◌==◌, ℕ, ◌+◌, ◌%◌, ◌<◌, ◌≤◌, Bool, true, false, cond, ◌&&◌, Option, Some, IfSome, List, length, arith, refl, sym, subst, ap, ◌∙◌, ⊎_elim}
+use Rattle.std.proofs.lemmas.Bool.{cases_lt}
+use Rattle.ule_model.specs.CalendarIndexes.{distance_of}
 use Rattle.ule_model.proofs.IndexLaws.{goes_by_one, goes_nearer, turned_from}
 use Rattle.ule_runq.specs.Runq.{IsFirstFrom, IsRunq, bucket_in, is_empty_at, list_at}
 use Rattle.ule_runq.proofs.RunqLaws.{bucket_in-at}

@@ -1,6 +1,6 @@
 -- What a call of a CPU makes of every side of a world that the CPU's value stands for: what the definition of the
 -- call's event makes of that side.
-use Rattle.std.specs.Prelude.{◌≡◌, ℕ, ℤ, Bool, true, false, not, ◌==◌, [], Option, Some, None}
+use Rattle.std.specs.Prelude.{◌≡◌, ℕ, ℤ, Bool, false, not, ◌==◌, [], Option, Some, None}
 use Rattle.std.specs.Option.{option_map}
 use Rattle.ule_model.specs.CpuChange.{forked_reply}
 use Rattle.ule_model.specs.CpuStart.{line_at_start, word_at_start}
