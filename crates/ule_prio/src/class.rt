@@ -32,27 +32,3 @@ pub fn allows(c: Class, p: Priority) -> bool
         Class::Idle => PRI_MIN_IDLE <= p.0,
     }
 }
-
-#[cfg(test)]
-mod tests {
-    use super::*;
-
-    #[test]
-    fn base_priorities(rt: HostRuntime) {
-        let cases = [
-            (Class::Ithd, 47, true),
-            (Class::Ithd, 48, false),
-            (Class::Rt, 47, false),
-            (Class::Rt, 79, true),
-            (Class::Fifo, 48, true),
-            (Class::Fifo, 80, false),
-            (Class::Ts, 120, false),
-            (Class::Idle, 223, false),
-            (Class::Idle, 224, true),
-        ];
-        for (class, priority, want) in cases {
-            let got = allows(class, Priority(priority));
-            assert_eq!(rt; got, want, "of {class:?} at {priority}");
-        }
-    }
-}

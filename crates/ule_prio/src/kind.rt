@@ -25,21 +25,3 @@ pub fn kind_of(p: Priority) -> Kind
         Kind::Idle
     }
 }
-
-#[cfg(test)]
-mod tests {
-    use super::*;
-
-    #[test]
-    fn kinds_at_their_borders(rt: HostRuntime) {
-        let cases = [
-            (151, Kind::Real),
-            (152, Kind::Batch),
-            (223, Kind::Batch),
-            (224, Kind::Idle),
-        ];
-        for (priority, want) in cases {
-            assert_eq!(rt; kind_of(Priority(priority)), want, "at {priority}");
-        }
-    }
-}

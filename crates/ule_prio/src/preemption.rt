@@ -25,28 +25,3 @@ pub fn preempts(p: Priority, q: Priority, remote: bool, threshold: u8) -> bool
     }
     remote && p.0 <= PRI_MAX_INTERACT && q.0 > PRI_MAX_INTERACT
 }
-
-#[cfg(test)]
-mod tests {
-    use super::*;
-
-    #[test]
-    fn preemptions(rt: HostRuntime) {
-        let cases = [
-            // An interrupt thread against a batch thread, whose threshold may be 0.
-            (20, 172, false, 80, true),
-            (20, 172, false, 0, false),
-            // An interactive thread against a batch thread, from this CPU and from another.
-            (120, 172, false, 80, false),
-            (120, 172, true, 80, true),
-            (120, 151, true, 80, false),
-            // Any thread against an idle CPU, and against its like.
-            (223, 255, false, 0, true),
-            (40, 40, true, 80, false),
-        ];
-        for (p, q, remote, threshold, want) in cases {
-            let got = preempts(Priority(p), Priority(q), remote, threshold);
-            assert_eq!(rt; got, want, "of {p} against {q}");
-        }
-    }
-}
