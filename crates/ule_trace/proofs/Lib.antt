@@ -1,2 +1,6 @@
 pub mod Progress
 pub mod Rest
+pub mod EventRows
+pub mod ReplyRows
+pub mod PlaceRows
+pub mod FinalRows

@@ -12,7 +12,5 @@ mod finals;
 mod held;
 mod place;
 mod reply;
-#[cfg(test)]
-mod tests;
 mod trace;
 mod word;
