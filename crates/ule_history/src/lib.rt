@@ -52,7 +52,7 @@ pub const SCHED_SLP_RUN_FORK: u64 = (HZ / 2) << SCHED_TICK_SHIFT;
 /// What counts is how the two compare, so both are scaled down together where they grow large. A
 /// history that starts at 0 and changes by the calls of this crate keeps a sum of at most
 /// 5,120,001.
-#[derive(Clone, Copy, Debug, PartialEq, Eq)]
+#[derive(Clone, Copy)]
 pub struct History {
     /// The time for which the thread ran, in hz ticks shifted by 10 bits.
     pub run: u64,
@@ -65,7 +65,7 @@ pub struct History {
 ///
 /// The window goes from `ftick` to `ltick`, so `ftick` is at most `ltick`, and `ticks` is at most
 /// 1024 times `ltick`.
-#[derive(Clone, Copy, Debug, PartialEq, Eq)]
+#[derive(Clone, Copy)]
 pub struct CpuUse {
     /// The time for which the thread ran in the window, in hz ticks shifted by 10 bits.
     pub ticks: u64,

@@ -1,7 +1,7 @@
 use ule_prio::LockId;
 
 /// The locks that an event is performed under, in rising order.
-#[derive(Clone, Copy, Debug, PartialEq, Eq)]
+#[derive(Clone, Copy)]
 pub enum HeldLocks {
     /// One lock.
     One(LockId),
@@ -10,7 +10,7 @@ pub enum HeldLocks {
 }
 
 /// An entry of the history: an event that took effect.
-#[derive(Clone, Copy, Debug)]
+#[derive(Clone, Copy)]
 pub struct Entry<E, R> {
     /// The worker that performed it.
     pub worker: u8,

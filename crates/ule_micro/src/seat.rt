@@ -3,7 +3,7 @@ use crate::word::WordChange;
 use ule_prio::{LockId, ThreadId};
 
 /// How far a worker is on the way to the commit of an event.
-#[derive(Clone, Copy, Debug)]
+#[derive(Clone, Copy)]
 pub enum Progress {
     /// Nothing of the event is done: a seeker reads next, any other takes its first lock.
     Open,
@@ -22,7 +22,7 @@ pub enum Progress {
 }
 
 /// Where a worker stands in its program.
-#[derive(Clone, Copy, Debug)]
+#[derive(Clone, Copy)]
 pub enum Phase<E, R> {
     /// The program is at its end.
     Finished,

@@ -1,5 +1,5 @@
 /// One item of a worker's program.
-#[derive(Clone, Copy, Debug, PartialEq, Eq)]
+#[derive(Clone, Copy)]
 pub enum Todo<E> {
     /// An event, which makes an entry in the history.
     Event(E),

@@ -1,7 +1,7 @@
 use ule_prio::{LockId, ThreadId};
 
 /// A thread's lock word, after `td_lock`.
-#[derive(Clone, Copy, Debug, PartialEq, Eq)]
+#[derive(Clone, Copy)]
 pub enum Word {
     /// The lock of the place where the thread stands.
     Lock(LockId),
@@ -10,7 +10,7 @@ pub enum Word {
 }
 
 /// What becomes of a thread's word after an event that moves the thread from one lock to another.
-#[derive(Clone, Copy, Debug, PartialEq, Eq)]
+#[derive(Clone, Copy)]
 pub enum WordChange {
     /// The word is to be blocked, after `thread_lock_block`.
     Block(ThreadId),

@@ -17,7 +17,7 @@ pub const QUEUE: LockId = LockId(0);
 pub const CHAIN: LockId = LockId(16);
 
 /// What stands under a lock.
-#[derive(Clone, Copy, Debug, PartialEq, Eq)]
+#[derive(Clone, Copy)]
 pub enum Spot {
     /// No thread.
     Empty,
@@ -28,7 +28,7 @@ pub enum Spot {
 }
 
 /// An event.
-#[derive(Clone, Copy, Debug, PartialEq, Eq)]
+#[derive(Clone, Copy)]
 pub enum Act {
     /// The thread leaves the queue for the hand.
     Doze,
@@ -41,7 +41,7 @@ pub enum Act {
 }
 
 /// What an event answered.
-#[derive(Clone, Copy, Debug, PartialEq, Eq)]
+#[derive(Clone, Copy)]
 pub enum Answer {
     /// The thread is in the hand now.
     Left,
@@ -52,7 +52,7 @@ pub enum Answer {
 }
 
 /// A command.
-#[derive(Clone, Copy, Debug, PartialEq, Eq)]
+#[derive(Clone, Copy)]
 pub enum Wish {
     /// Puts the thread to sleep.
     Sleep,
@@ -63,7 +63,7 @@ pub enum Wish {
 }
 
 /// The point at which a worker's command waits.
-#[derive(Clone, Copy, Debug, PartialEq, Eq)]
+#[derive(Clone, Copy)]
 pub enum Stage {
     /// It has no further item.
     Rested,
@@ -76,7 +76,7 @@ pub enum Stage {
 }
 
 /// A worker's own part.
-#[derive(Clone, Copy, Debug, PartialEq, Eq)]
+#[derive(Clone, Copy)]
 pub struct Napper {
     /// The worker.
     pub number: u8,

@@ -14,7 +14,7 @@ use ule_prio::{LockId, ThreadId};
 const AGAIN: u32 = 512;
 
 /// An event.
-#[derive(Clone, Copy, Debug, PartialEq, Eq)]
+#[derive(Clone, Copy)]
 pub enum Move {
     /// Moves the thread from the queue where it stands to the other.
     Shift,
@@ -23,7 +23,7 @@ pub enum Move {
 }
 
 /// What an event answered.
-#[derive(Clone, Copy, Debug, PartialEq, Eq)]
+#[derive(Clone, Copy)]
 pub enum Place {
     /// The thread went to the first queue.
     First,
@@ -34,7 +34,7 @@ pub enum Place {
 }
 
 /// The point at which a worker's command waits.
-#[derive(Clone, Copy, Debug, PartialEq, Eq)]
+#[derive(Clone, Copy)]
 pub enum Point {
     /// It has no further item.
     Over,
@@ -43,7 +43,7 @@ pub enum Point {
 }
 
 /// A worker's own part. Its hand is always empty.
-#[derive(Clone, Copy, Debug, PartialEq, Eq)]
+#[derive(Clone, Copy)]
 pub struct Mover {
     /// The worker.
     pub number: u8,

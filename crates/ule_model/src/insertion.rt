@@ -1,5 +1,5 @@
 /// Why a thread is queued, which says where in its queue it goes.
-#[derive(Clone, Copy, Debug, PartialEq, Eq)]
+#[derive(Clone, Copy)]
 pub enum Insertion {
     /// It became ready, or gave way of its own accord.
     Ordinary,

@@ -4,7 +4,7 @@ use ule_prio::ThreadId;
 use ule_types::{Specs, ThreadSpec, Unborn};
 
 /// A thread that a line declares.
-#[derive(Clone, Copy, Debug, PartialEq, Eq)]
+#[derive(Clone, Copy)]
 pub(crate) enum Declaration {
     /// It is queued at the start.
     Queued(ThreadSpec),

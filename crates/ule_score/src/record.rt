@@ -3,7 +3,7 @@ use ule_prio::{Class, Cpu, Nice, Priority, ThreadId};
 
 /// What the scheduler knows of one thread, after `struct thread` and `struct td_sched`. Times are
 /// in hz ticks since the boot; `KeepsBounds` of the specs says which bounds every record keeps.
-#[derive(Clone, Copy, Debug, PartialEq, Eq)]
+#[derive(Clone, Copy)]
 pub struct ThreadRecord {
     pub id: ThreadId,
     /// The thread that forked it, if one did.
@@ -34,7 +34,7 @@ pub struct ThreadRecord {
 }
 
 /// The sysctls of the scheduler.
-#[derive(Clone, Copy, Debug, PartialEq, Eq)]
+#[derive(Clone, Copy)]
 pub struct Settings {
     /// `interact`: the score below which a thread is interactive, 1..=100.
     pub interact: u8,
@@ -47,7 +47,7 @@ pub struct Settings {
 }
 
 /// The numbers of one CPU, after `struct tdq`.
-#[derive(Clone, Copy, Debug, PartialEq, Eq)]
+#[derive(Clone, Copy)]
 pub struct CpuLine {
     /// The insertion index of the calendar, 0..=63, after `tdq_idx`.
     pub idx: u8,
@@ -66,7 +66,7 @@ pub struct CpuLine {
 }
 
 /// Why a CPU switches threads.
-#[derive(Clone, Copy, Debug, PartialEq, Eq)]
+#[derive(Clone, Copy)]
 pub enum Why {
     /// The current thread gives way of its own accord.
     Yield,
@@ -75,7 +75,7 @@ pub enum Why {
 }
 
 /// A change of a record that can move its priority.
-#[derive(Clone, Copy, Debug, PartialEq, Eq)]
+#[derive(Clone, Copy)]
 pub enum Change {
     /// A priority is lent to it, after `sched_lend_prio`.
     Lend(Priority),
@@ -88,7 +88,7 @@ pub enum Change {
 }
 
 /// What a change came to.
-#[derive(Clone, Copy, Debug, PartialEq, Eq)]
+#[derive(Clone, Copy)]
 pub struct Changed {
     /// The priority after the change.
     pub priority: Priority,

@@ -7,7 +7,7 @@ use ule_types::{Command, Event, Item, Looks, Reply, Setup, Stage};
 
 /// Where a worker stands inside a command, with all that its next item depends on but the reply to
 /// the event before.
-#[derive(Debug, Drop)]
+#[derive(Drop)]
 pub struct Program {
     worker: Cpu,
     cpus: u8,

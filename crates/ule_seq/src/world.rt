@@ -12,7 +12,7 @@ use ule_score::{Settings, ThreadRecord};
 use ule_types::{Event, Reply};
 
 /// Whether a worker can perform an event now.
-#[derive(Clone, Copy, Debug, PartialEq, Eq)]
+#[derive(Clone, Copy)]
 pub enum Ready {
     /// It can, as far as the thread that the event seeks goes.
     Yes,

@@ -44,7 +44,7 @@ use ule_score::{
 use ule_types::{Summary, ThreadLine};
 
 /// What a switch came to.
-#[derive(Clone, Copy, Debug, PartialEq, Eq)]
+#[derive(Clone, Copy)]
 pub enum SwitchOut {
     /// No switch was asked for.
     Unmarked,
@@ -61,7 +61,7 @@ pub enum SwitchOut {
 }
 
 /// What a tick came to: the current thread, whether a balance is due, whether its slice ended.
-#[derive(Clone, Copy, Debug, PartialEq, Eq)]
+#[derive(Clone, Copy)]
 pub struct Clocked {
     pub cur: Option<ThreadId>,
     pub due: bool,
@@ -70,7 +70,7 @@ pub struct Clocked {
 
 /// What a thread's coming to a CPU came to: the queue and the bucket, 0..=63, in which it is
 /// queued, and whether the preemption test said yes, also where the mark was set already.
-#[derive(Clone, Copy, Debug, PartialEq, Eq)]
+#[derive(Clone, Copy)]
 pub struct Arrival {
     pub kind: Kind,
     pub bucket: u8,

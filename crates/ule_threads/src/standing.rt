@@ -8,7 +8,7 @@ use ule_prio::ThreadId;
 use ule_score::{Place, ThreadRecord};
 
 /// A thread with its place.
-#[derive(Clone, Copy, Debug, PartialEq, Eq)]
+#[derive(Clone, Copy)]
 pub struct Standing {
     pub thread: ThreadRecord,
     /// Where it stands.

@@ -4,7 +4,7 @@ ghost use Rattle.ule_types.specs.Commands.{greatest_of, greatest_of_tick};
 use ule_prio::{Cpu, Nice, Priority, ThreadId};
 
 /// A command of a script. Worker w performs it for CPU w.
-#[derive(Clone, Copy, Debug, PartialEq, Eq)]
+#[derive(Clone, Copy)]
 pub enum Command {
     /// One stathz tick.
     Tick,

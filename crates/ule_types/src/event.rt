@@ -2,7 +2,7 @@ use ule_prio::{Cpu, Kind, Nice, Priority, ThreadId};
 use ule_score::{Place, Why};
 
 /// Why a thread is moved from one CPU to another.
-#[derive(Clone, Copy, Debug, PartialEq, Eq)]
+#[derive(Clone, Copy)]
 pub enum MoveWhy {
     /// The other CPU has nothing to run, after `tdq_idled`.
     Steal,
@@ -11,7 +11,7 @@ pub enum MoveWhy {
 }
 
 /// One critical section of the scheduler.
-#[derive(Clone, Copy, Debug, PartialEq, Eq)]
+#[derive(Clone, Copy)]
 pub enum Event {
     /// A stathz tick on this CPU, after `sched_clock`.
     Tick(Cpu),
@@ -50,7 +50,7 @@ pub enum Event {
 }
 
 /// What an event answered.
-#[derive(Clone, Copy, Debug, PartialEq, Eq)]
+#[derive(Clone, Copy)]
 pub enum Reply {
     /// The current thread; whether a balance is due; whether a slice ended.
     Ticked(Option<ThreadId>, bool, bool),
@@ -91,7 +91,7 @@ pub enum Reply {
 }
 
 /// One entry of a history.
-#[derive(Clone, Copy, Debug, PartialEq, Eq)]
+#[derive(Clone, Copy)]
 pub struct Entry {
     /// The worker that performed the event, 0..=15.
     pub worker: u8,
@@ -102,7 +102,7 @@ pub struct Entry {
 }
 
 /// One step of a worker's program.
-#[derive(Clone, Copy, Debug, PartialEq, Eq)]
+#[derive(Clone, Copy)]
 pub enum Item {
     /// This event.
     Event(Event),

@@ -3,7 +3,7 @@ ghost use Rattle.std.specs.Prelude.{◌≡◌, []};
 use std::marker::Model;
 
 /// What a look at a CPU sees, after the fields of `struct tdq` that `cpu_search` reads.
-#[derive(Clone, Copy, Debug, PartialEq, Eq)]
+#[derive(Clone, Copy)]
 pub struct Summary {
     /// How many threads run or are queued on the CPU, 0..=256.
     pub load: u32,
@@ -15,7 +15,7 @@ pub struct Summary {
 }
 
 /// What the looks of one command saw, in order: at most one for each CPU.
-#[derive(Debug, Drop)]
+#[derive(Drop)]
 pub struct Looks {
     n: u8,
     seen: [Summary; 16],

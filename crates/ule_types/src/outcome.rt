@@ -10,7 +10,7 @@ use ule_prio::{Class, Cpu, LockId, Nice, Priority, ThreadId};
 use ule_score::{CpuLine, Place};
 
 /// What a trace tells of one thread at the end of a history.
-#[derive(Clone, Copy, Debug, PartialEq, Eq)]
+#[derive(Clone, Copy)]
 pub struct ThreadLine {
     pub id: ThreadId,
     pub place: Place,
@@ -225,93 +225,5 @@ impl Outcome {
         ensures { result ≡ self.now.now }
     {
         self.end_time
-    }
-}
-
-#[cfg(test)]
-mod tests {
-    use super::*;
-    use crate::event::{Event, Reply};
-    use std::test::Fail;
-
-    fn entry_at(now: u64) -> Entry {
-        Entry {
-            worker: 0,
-            event: Event::Tick(Cpu(0)),
-            now,
-            reply: Reply::Ticked(None, false, false),
-        }
-    }
-
-    fn line_of(id: u8, run: u64) -> ThreadLine {
-        ThreadLine {
-            id: ThreadId(id),
-            place: Place::Unborn,
-            pos: 0,
-            class: Class::Ts,
-            nice: Nice(0),
-            base: Priority(172),
-            lent: None,
-            priority: Priority(172),
-            run,
-            slept: 0,
-            ticks: 0,
-            ltick: 0,
-            ftick: 0,
-            slice_count: 0,
-            slept_at: 0,
-            last: Cpu(0),
-            last_run: 0,
-            bound: None,
-            parent: None,
-            word: Some(LockId(24)),
-        }
-    }
-
-    fn cpu_line(idx: u8) -> CpuLine {
-        CpuLine {
-            idx,
-            ridx: 0,
-            resched: false,
-            slice_end: false,
-            switches: 0,
-            old_switches: 0,
-            balance: 0,
-        }
-    }
-
-    #[test]
-    fn entries_keep_their_order(rt: HostRuntime) -> Result<(), Fail> {
-        let mut o = Outcome::with_room(rt.alloc(), 2)?;
-        assert!(rt; o.is_empty());
-        o.note(entry_at(20000));
-        o.note(entry_at(20001));
-        assert_eq!(rt; o.len(), 2);
-        assert_eq!(rt; *o.entry(1), entry_at(20000));
-        assert_eq!(rt; *o.entry(2), entry_at(20001));
-        o.set_now(20001);
-        assert_eq!(rt; o.end_time(), 20001);
-        Ok(())
-    }
-
-    #[test]
-    fn thread_lines_rise(rt: HostRuntime) -> Result<(), Fail> {
-        let mut o = Outcome::with_room(rt.alloc(), 0)?;
-        for (id, run) in [(7, 1), (2, 2), (255, 3), (7, 4), (0, 5)] {
-            o.set_thread(line_of(id, run));
-        }
-        let lines = [line_of(0, 5), line_of(2, 2), line_of(7, 4), line_of(255, 3)];
-        assert_eq!(rt; o.threads(), lines.as_slice());
-        Ok(())
-    }
-
-    #[test]
-    fn cpu_lines_are_set_and_appended(rt: HostRuntime) -> Result<(), Fail> {
-        let mut o = Outcome::with_room(rt.alloc(), 0)?;
-        o.set_cpu(Cpu(0), cpu_line(1));
-        o.set_cpu(Cpu(1), cpu_line(2));
-        o.set_cpu(Cpu(0), cpu_line(3));
-        assert_eq!(rt; o.cpus(), [cpu_line(3), cpu_line(2)].as_slice());
-        Ok(())
     }
 }

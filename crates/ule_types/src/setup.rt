@@ -7,7 +7,7 @@ use ule_prio::{Cpu, Nice, Priority, ThreadId};
 use ule_score::Settings;
 
 /// One group of CPUs.
-#[derive(Clone, Copy, Debug, PartialEq, Eq)]
+#[derive(Clone, Copy)]
 pub struct GroupLine {
     /// The group's number, 0..=14.
     pub id: u8,
@@ -18,7 +18,7 @@ pub struct GroupLine {
 }
 
 /// The class of a declared thread, with its nice value or its base priority.
-#[derive(Clone, Copy, Debug, PartialEq, Eq)]
+#[derive(Clone, Copy)]
 pub enum Form {
     Ts(Nice),
     Ithd(Priority),
@@ -28,7 +28,7 @@ pub enum Form {
 }
 
 /// A thread that is queued at the start.
-#[derive(Clone, Copy, Debug, PartialEq, Eq)]
+#[derive(Clone, Copy)]
 pub struct ThreadSpec {
     pub id: ThreadId,
     pub form: Form,

@@ -3,7 +3,7 @@ use ule_score::Why;
 
 /// Where a worker stands in a command: at the event or the advance of time that comes next, or at
 /// the one that waits for its reply.
-#[derive(Clone, Copy, Debug, PartialEq, Eq)]
+#[derive(Clone, Copy)]
 pub enum Stage {
     /// The command has no further item.
     Ended,
