@@ -1,3 +1,4 @@
 pub mod HistoryUpdateLemmas
 pub mod ForkDecayLemmas
 pub mod CpuUseUpdateLemmas
+pub mod Rows

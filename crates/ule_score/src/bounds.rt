@@ -36,22 +36,3 @@ pub fn record_keeps_bounds()
     ensures loans { KeepsBoundsAtLoans }
     ensures times { KeepsBoundsAtTimes }
 {}
-
-#[cfg(test)]
-mod tests {
-    use super::*;
-
-    #[test]
-    fn better_priorities(rt: HostRuntime) {
-        let cases = [
-            (172, None, 172),
-            (172, Some(40), 40),
-            (40, Some(172), 40),
-            (255, Some(255), 255),
-        ];
-        for (base, lent, want) in cases {
-            let got = effective_priority(Priority(base), lent.map(|p| Priority(p)));
-            assert_eq!(rt; got, Priority(want), "of {base} and {lent:?}");
-        }
-    }
-}

@@ -56,24 +56,3 @@ pub fn score_is_bounded()
     ensures score { ScoreIsBounded }
     ensures share { ShareIsBounded }
 {}
-
-#[cfg(test)]
-mod tests {
-    use super::*;
-
-    #[test]
-    fn scores(rt: HostRuntime) {
-        let cases = [
-            (7, 7, 60, 50),
-            (0, 0, 60, 0),
-            (0, 0, 30, 50),
-            (150_000, 500_000, 30, 15),
-            (500_000, 150_000, 60, 85),
-            (500_000, 150_000, 30, 50),
-        ];
-        for (run, slept, threshold, want) in cases {
-            let got = score(History { run, slept }, threshold);
-            assert_eq!(rt; got, want, "at {run} and {slept} under {threshold}");
-        }
-    }
-}

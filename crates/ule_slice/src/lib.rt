@@ -57,16 +57,3 @@ pub fn slice(load: u32, full: u16) -> u16
 pub fn slice_is_bounded()
     ensures { SliceIsBounded }
 {}
-
-#[cfg(test)]
-mod tests {
-    use super::*;
-
-    #[test]
-    fn slices(rt: HostRuntime) {
-        for (load, want) in [(0, 12), (1, 12), (3, 6), (6, 2), (7, 2)] {
-            assert_eq!(rt; slice(load, 12), want, "at a load of {load}");
-        }
-        assert_eq!(rt; min_slice(12), 2);
-    }
-}

@@ -5,6 +5,4 @@ pub use standing::{Standing, Standings};
 pub use threads::Threads;
 
 pub mod standing;
-#[cfg(test)]
-mod tests;
 pub mod threads;
