@@ -1,4 +1,4 @@
-//! Tests of the reader of scenarios: what it reads of a text, and which texts it refuses.
+//! Tests of the reader of scenarios: what it reads of a text that no run of the program shows.
 #![tactic(auto)]
 
 #[cfg(test)]

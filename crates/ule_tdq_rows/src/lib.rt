@@ -1,5 +1,5 @@
-//! The tests of one CPU's calls, at values from outside. They stand beside the crate, so that its
-//! functions aren't proved again with them.
+//! The tests of one CPU's calls, of what no run of the program shows. They stand beside the crate, so
+//! that its functions aren't proved again with them.
 #![tactic(auto)]
 
 #[cfg(test)]

@@ -1,5 +1,4 @@
-//! The tests of `ule_top`: the bytes of small scenarios and of their traces, what a fault in mid-stream
-//! leaves, and that no status but that of want of memory comes with plenty of it.
+//! The tests of `ule_top`: what the streams in memory tell and no run of the program shows.
 #![tactic(auto)]
 
 #[cfg(test)]
