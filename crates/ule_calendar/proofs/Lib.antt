@@ -1,2 +1,3 @@
 pub mod CalendarLaws
 pub mod PromiseLaws
+pub mod Rows
