@@ -8,6 +8,7 @@ pub mod HeadLines
 pub mod Numbers
 pub mod Parts
 pub mod Pieces
+pub mod ReadingRows
 pub mod Rules
 pub mod Runs
 pub mod Script

@@ -4,3 +4,4 @@ pub mod QueuedLaws
 pub mod PromiseLaws
 pub mod MovableLaws
 pub mod StandsLaws
+pub mod LookRows
