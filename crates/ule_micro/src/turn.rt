@@ -2,7 +2,7 @@ use crate::word::Word;
 use ule_prio::{LockId, ThreadId};
 
 /// What one turn of a worker did.
-#[derive(Clone, Copy)]
+#[derive(Clone, Copy, Debug)]
 pub enum Turn {
     /// The worker made a step.
     Moved(StepDone),
@@ -23,7 +23,7 @@ pub enum Turn {
 }
 
 /// A step of a worker.
-#[derive(Clone, Copy)]
+#[derive(Clone, Copy, Debug)]
 pub enum StepDone {
     /// It read this word of the thread.
     Read(ThreadId, Word),

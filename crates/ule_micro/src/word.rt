@@ -1,7 +1,7 @@
 use ule_prio::{LockId, ThreadId};
 
 /// A thread's lock word, after `td_lock`.
-#[derive(Clone, Copy)]
+#[derive(Clone, Copy, Debug)]
 pub enum Word {
     /// The lock of the place where the thread stands.
     Lock(LockId),

@@ -17,7 +17,7 @@ pub const QUEUE: LockId = LockId(0);
 pub const CHAIN: LockId = LockId(16);
 
 /// What stands under a lock.
-#[derive(Clone, Copy)]
+#[derive(Clone, Copy, Debug)]
 pub enum Spot {
     /// No thread.
     Empty,

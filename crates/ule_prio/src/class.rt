@@ -6,7 +6,7 @@ use crate::ranges::{PRI_MAX_ITHD, PRI_MAX_REALTIME, PRI_MIN_IDLE, PRI_MIN_REALTI
 
 /// The scheduling class of a thread, after `priority.h`'s `PRI_ITHD`, `PRI_REALTIME`, `PRI_FIFO`,
 /// `PRI_TIMESHARE` and `PRI_IDLE`.
-#[derive(Clone, Copy, PartialEq, Eq)]
+#[derive(Clone, Copy, Debug, PartialEq, Eq)]
 pub enum Class {
     /// An interrupt thread.
     Ithd,

@@ -3,7 +3,7 @@ ghost use Rattle.std.specs.Prelude.{◌≡◌, ℕ, ◌<◌, ◌≤◌, ℤ, pos
 use std::marker::Model;
 
 /// A priority, 0..=255. A lower number is better. `ranges` names the parts of the scale.
-#[derive(Clone, Copy, PartialEq, Eq, PartialOrd, Ord)]
+#[derive(Clone, Copy, Debug, PartialEq, Eq, PartialOrd, Ord)]
 pub struct Priority(pub u8);
 
 impl Model for Priority {
@@ -17,7 +17,7 @@ impl Model for Priority {
 }
 
 /// A nice value, -20..=20, as of `nice(1)`. A lower number is a greater share of the processor.
-#[derive(Clone, Copy, PartialEq, Eq, PartialOrd, Ord)]
+#[derive(Clone, Copy, Debug, PartialEq, Eq)]
 pub struct Nice(pub i8);
 
 impl Model for Nice {
@@ -31,7 +31,7 @@ impl Model for Nice {
 }
 
 /// The number of a thread, 0..=255.
-#[derive(Clone, Copy, PartialEq, Eq, PartialOrd, Ord)]
+#[derive(Clone, Copy, Debug, PartialEq, Eq)]
 pub struct ThreadId(pub u8);
 
 impl Model for ThreadId {
@@ -45,7 +45,7 @@ impl Model for ThreadId {
 }
 
 /// The number of a CPU, 0..=15. Worker w acts for CPU w.
-#[derive(Clone, Copy, PartialEq, Eq, PartialOrd, Ord)]
+#[derive(Clone, Copy, Debug, PartialEq, Eq)]
 pub struct Cpu(pub u8);
 
 impl Model for Cpu {
@@ -60,7 +60,7 @@ impl Model for Cpu {
 
 /// The number of a lock, 0..=24: the queue of CPU c is lock c, sleep chain k is lock 16 + k, and
 /// the lock of unborn and gone threads, limbo, is 24.
-#[derive(Clone, Copy, PartialEq, Eq, PartialOrd, Ord)]
+#[derive(Clone, Copy, Debug, PartialEq, Eq)]
 pub struct LockId(pub u8);
 
 impl Model for LockId {

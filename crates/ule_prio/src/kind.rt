@@ -6,7 +6,7 @@ use crate::ranges::{PRI_MIN_BATCH, PRI_MIN_IDLE};
 
 /// The three queues of a CPU, after `tdq_runq_add`: one for interrupt, realtime, kernel and
 /// interactive priorities, the calendar for batch priorities, and one for idle priorities.
-#[derive(Clone, Copy, PartialEq, Eq)]
+#[derive(Clone, Copy, Debug, PartialEq, Eq)]
 pub enum Kind {
     Real,
     Batch,
