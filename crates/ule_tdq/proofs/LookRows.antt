@@ -1,7 +1,7 @@
 -- Worked values of what a look at a CPU sees, and of a fork, by computing. `started` is what the call `start` gives, by its
 -- clause `start`; each value after it is what a call makes of the one before, by the clauses `value`, `reply`, `child` and
 -- `parent` of those calls.
-use Rattle.std.proofs.Common.{◌≡◌, ℕ, zero, suc, pos, true, false, List, [], ◌∷◌, length, replicate, slice_index_or, Option, Some, None, refl, arith}
+use Rattle.std.proofs.Common.{◌≡◌, ℕ, pos, true, false, [], replicate, Some, None, refl}
 use Rattle.ule_history.specs.CpuUseUpdate.{ran_ticks, slid_use, updated_use}
 use Rattle.ule_history.specs.ForkDecay.{child_history}
 use Rattle.ule_prio.specs.declared.class.Class.TheVariants.{Rt, Ts}
@@ -12,6 +12,7 @@ use Rattle.ule_score.specs.declared.record.Settings.{Settings}
 use Rattle.ule_score.specs.declared.record.ThreadRecord.{ThreadRecord}
 use Rattle.ule_score.specs.declared.record.Why.TheVariants.{Yield}
 use Rattle.ule_slice.specs.Slice.{min_slice_of, slice_of}
+use Rattle.ule_threads.proofs.Absent.{absent_throughout}
 use Rattle.ule_types.specs.declared.event.Reply.TheVariants.{Switched}
 use Rattle.ule_model.specs.CpuChange.{ForkedFrom, value_forked}
 use Rattle.ule_model.specs.CpuNumbers.{is_movable, value_summary}
@@ -39,7 +40,7 @@ fresh id = record {
   bound = None;
 }
 
--- such a thread that is bound to CPU 3
+-- a timeshare thread of nice 0 at the start, bound to CPU 3
 abbrev bound : ℕ → ThreadRecord
 bound id = record (fresh id) { bound = Some 3 }
 
@@ -68,15 +69,7 @@ started = record {
   balance_word = word_at_start 3 16;
 }
 
--- a list whose items are all absent is made of so many absent items
-absent_throughout : (n : ℕ) (records : List (Option ThreadRecord)) → length records ≡ n →
-    ((t : ℕ) → slice_index_or records t None ≡ None) → records ≡ replicate n None
-absent_throughout zero [] len none = refl
-absent_throughout (suc n) [] len none = absurd (omega arith)
-absent_throughout zero (r ∷ records) len none = absurd (omega arith)
-absent_throughout (suc n) (r ∷ records) len none = rw (none 0, absent_throughout n records (omega arith) (λ t. none (suc t))) refl
-
--- a CPU that starts so has that value
+-- a CPU that starts without threads has the value `started`
 starts_so : (v : CpuValue) → StartsAs v 3 customary 16 → v ≡ started
 starts_so v starts =
     rw (starts.cpu, starts.settings, absent_throughout 256 v.threads starts.slots starts.threads, starts.current, starts.load, starts.real, starts.batch, starts.idle, starts.line, starts.balance_word) refl
@@ -87,15 +80,15 @@ starts_so v starts =
 laid_7 : CpuValue
 laid_7 = value_laid (fresh 7) started
 
--- after that, a bound thread comes to it
+-- the CPU after bound thread 5 came to it beside thread 7
 came_5 : CpuValue
 came_5 = value_added (bound 5) false laid_7
 
--- after that, a thread of a real priority comes to it
+-- the CPU after thread 9, of a real priority, came to it beside threads 5 and 7
 came_9 : CpuValue
 came_9 = value_added (urgent 9) false came_5
 
--- after that, it switches
+-- the CPU after a switch that chose thread 9, while threads 5 and 7 wait
 switched_to_9 : CpuValue
 switched_to_9 = (value_switched Yield 20000 came_9).0
 
@@ -120,7 +113,7 @@ urgent_seen : value_summary came_9 ≡ record { load = 3; movable = 2; lowpri = 
 unfolding laid_7 came_5 came_9 line_from
 urgent_seen = refl
 
--- the switch chooses that thread
+-- a switch chooses thread 9, which has a real priority, before two batch threads
 urgent_chosen : (value_switched Yield 20000 came_9).1 ≡ Switched None (Some 9) false
 unfolding laid_7 came_5 came_9 line_from
 urgent_chosen = refl
@@ -138,7 +131,7 @@ current_seen = (refl, refl, refl)
 switched_to_7 : CpuValue
 switched_to_7 = (value_switched Yield 20000 laid_7).0
 
--- the switch chooses that thread
+-- a switch chooses thread 7, which waits alone
 only_chosen : (value_switched Yield 20000 laid_7).1 ≡ Switched None (Some 7) false
 unfolding laid_7 line_from
 only_chosen = refl

@@ -1,8 +1,9 @@
 -- Worked values of a table of records by thread number, by computing.
-use Rattle.std.proofs.Common.{◌≡◌, ℕ, zero, suc, pos, List, [], ◌∷◌, length, replicate, slice_index_or, slice_set, Option, Some, None, refl, arith}
+use Rattle.std.proofs.Common.{◌≡◌, ℕ, pos, List, length, replicate, slice_index_or, slice_set, Option, Some, None, refl}
 use Rattle.std.specs.Option.{option_map}
 use Rattle.ule_prio.specs.declared.class.Class.TheVariants.{Ts}
 use Rattle.ule_score.specs.declared.record.ThreadRecord.{ThreadRecord}
+use Rattle.ule_threads.proofs.Absent.{absent_throughout}
 
 -- ---- the values
 
@@ -57,14 +58,6 @@ one_stays : (sleeps_since one_record 0 ≡ Some 20002) × (sleeps_since one_reco
 one_stays = (refl, refl)
 
 -- ---- the table with no records
-
--- a list whose items are all absent is made of so many absent items
-absent_throughout : (n : ℕ) (records : List (Option ThreadRecord)) → length records ≡ n →
-    ((t : ℕ) → slice_index_or records t None ≡ None) → records ≡ replicate n None
-absent_throughout zero [] len none = refl
-absent_throughout (suc n) [] len none = absurd (omega arith)
-absent_throughout zero (r ∷ records) len none = absurd (omega arith)
-absent_throughout (suc n) (r ∷ records) len none = rw (none 0, absent_throughout n records (omega arith) (λ t. none (suc t))) refl
 
 -- a list of 256 items with none at any number, which is what an empty table is, is the table with no records
 empty_is_no_records : (records : List (Option ThreadRecord)) → length records ≡ 256 →

@@ -1,5 +1,6 @@
 -- A turn lost to a thread in another worker's hand: the play and its trace, by computing.
 use Rattle.std.proofs.Common.{◌≡◌, List, [], ◌∷◌, Some, None, true, false, pos, refl, lit≤}
+use Rattle.std.specs.Fmt.{digits}
 use Rattle.ule_history.specs.CpuUseUpdate.{updated_use, slid_use, ran_ticks}
 use Rattle.ule_model.specs.Ends.{outcome_of}
 use Rattle.ule_model.specs.Legal.{replayed}
@@ -16,7 +17,6 @@ use Rattle.ule_types.specs.Outcome.{OutcomeValue}
 use Rattle.ule_types.specs.declared.event.Entry.{Entry}
 use Rattle.ule_types.specs.declared.event.Event.TheVariants.{Switch, Drop, Bed, Wake, Land}
 use Rattle.ule_types.specs.declared.event.Reply.TheVariants.{Switched, Dropped, Bedded, Woken, Landed}
-use Rattle.ule_top.proofs.Numerals.{digits_0, digits_1, digits_2, digits_3, digits_4, digits_5, digits_17, digits_64, digits_172, digits_1024, digits_20000, digits_20001}
 use Rattle.ule_top.proofs.Tracing.{traced_after}
 use Rattle.ule_top.specs.Example.{LostTurnIsTraced, lost_turn, lost_turn_trace}
 
@@ -89,9 +89,8 @@ noted_ended = refl
 
 -- the text of what they come to
 ended_traced : trace_text ended ≡ lost_turn_trace
-unfolding noted ended
-ended_traced =
-    rw (digits_0, digits_1, digits_2, digits_3, digits_4, digits_5, digits_17, digits_64, digits_172, digits_1024, digits_20000, digits_20001) refl
+unfolding digits noted ended
+ended_traced = refl
 
 -- the trace of a thread that sleeps and is woken, with a turn lost between
 pub lost_turn_traced : LostTurnIsTraced

@@ -1,5 +1,6 @@
 -- One thread and one yield: the play and its trace, by computing.
 use Rattle.std.proofs.Common.{◌≡◌, List, [], ◌∷◌, Some, None, false, refl, lit≤}
+use Rattle.std.specs.Fmt.{digits}
 use Rattle.ule_history.specs.CpuUseUpdate.{updated_use, slid_use, ran_ticks}
 use Rattle.ule_model.specs.Ends.{outcome_of}
 use Rattle.ule_model.specs.Legal.{replayed}
@@ -12,7 +13,6 @@ use Rattle.ule_trace.specs.Trace.{trace_text}
 use Rattle.ule_types.specs.declared.event.Entry.{Entry}
 use Rattle.ule_types.specs.declared.event.Event.TheVariants.{Switch}
 use Rattle.ule_types.specs.declared.event.Reply.TheVariants.{Switched}
-use Rattle.ule_top.proofs.Numerals.{digits_0, digits_1, digits_64, digits_172, digits_20000}
 use Rattle.ule_top.proofs.Tracing.{traced_after}
 use Rattle.ule_top.specs.Example.{OneYieldIsTraced, one_yield, one_yield_trace}
 
@@ -41,8 +41,8 @@ last_play_noted = refl
 
 -- the text of the outcome of those entries, step by step from the start
 noted_traced : trace_text (outcome_of one_yield one_yield.scripts noted) ≡ one_yield_trace
-unfolding noted replayed timeshare_priority priority_at score_of batch_priority use_steps updated_use slid_use ran_ticks
-noted_traced = rw (digits_0, digits_1, digits_64, digits_172, digits_20000) refl
+unfolding digits noted replayed timeshare_priority priority_at score_of batch_priority use_steps updated_use slid_use ran_ticks
+noted_traced = refl
 
 -- the trace of one thread and one yield
 pub one_yield_traced : OneYieldIsTraced
