@@ -1,4 +1,5 @@
-//! Listed plays of the small schedulers, of which each turn is printed.
+//! Listed plays of the small schedulers, of which each turn is printed. The wanted turns stand in the
+//! stored output.
 ghost use Rattle.std.specs.Prelude.{◌<◌, length, All};
 
 use std::alloc::Global;
@@ -9,13 +10,13 @@ use ule_micro_rows::nap::{CHAIN, Nap, QUEUE};
 use ule_micro_rows::shift::Shifts;
 use ule_prio::{LockId, ThreadId};
 
-/// The thread goes to the sleep chain and back.
+/// The workers of the turns in which the thread goes to the sleep chain and back.
 const NAP_WORKERS: [u8; 33] = [
     1, 0, 1, 0, 0, 0, 0, 1, 1, 1, 1, 0, 0, 0, 1, 0, 1, 1, 0, 1, 0, 0, 1, 1, 1, 1, 1, 1, 1, 1, 1, 1,
     1,
 ];
 
-/// The thread is moved under two locks.
+/// The workers of the turns in which the thread is moved under two locks.
 const SHIFT_WORKERS: [u8; 26] = [
     0, 1, 1, 0, 0, 0, 0, 0, 1, 0, 1, 1, 1, 1, 1, 0, 0, 1, 1, 1, 1, 1, 0, 0, 0, 0,
 ];
