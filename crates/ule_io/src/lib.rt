@@ -16,11 +16,11 @@ use std::alloc::AllocError;
 pub use writing::{WriteFault, write_all};
 
 /// A read, a write or a flush failed. The count of faults of the stream says that it did.
-#[derive(Clone, Copy)]
+#[derive(Clone, Copy, Debug, PartialEq, Eq)]
 pub struct Failed;
 
 /// Memory ran out.
-#[derive(Clone, Copy)]
+#[derive(Clone, Copy, Debug, PartialEq, Eq)]
 pub struct Memory;
 
 impl From<AllocError> for Memory {
