@@ -1,4 +1,3 @@
-use std::alloc::{AllocError, Global};
 use std::test::Fail;
 use ule_io::{MemSink, MemSource};
 use ule_top::top;
@@ -10,20 +9,6 @@ const TWO_YIELDS: &[u8] = b"ule-scenario 1\njitter 1\ncpus 1\nscript 0\nyield\ny
 const NOTHING_RAN: &[u8] =
     b"ule-trace 1\n1 w0 20000 switch 0 yield -> nothing\n2 w0 20000 switch 0 yield -> nothing\nc 0 0 0 0 0 0 0 64\nnow 20000\ndone 2\n";
 
-/// The status that `top` gives for these words.
-fn status(
-    alloc: Global,
-    words: &[&str],
-    src: &mut MemSource,
-    out: &mut MemSink,
-) -> Result<u8, AllocError> {
-    let mut owned = Vec::new(alloc);
-    for word in words {
-        owned.push(String::from_str(alloc, word)?)?;
-    }
-    Ok(top(alloc, &owned, src, out))
-}
-
 #[test]
 fn a_text_is_flushed_where_no_write_fails(rt: HostRuntime) -> Result<(), Fail> {
     // The trace has 122 bytes: with 50 a write the third write is the last, and then comes the flush.
@@ -33,10 +18,11 @@ fn a_text_is_flushed_where_no_write_fails(rt: HostRuntime) -> Result<(), Fail> {
         (TWO_YIELDS, 50, &[], 0, NOTHING_RAN),
         (b"", 50, &[], 3, b"refused 0 0 0\n"),
     ];
+    let words = [String::from_str(rt.alloc(), "run")?];
     for (input, most, fails, want, text) in cases {
         let mut src = MemSource::start(rt.alloc(), input, 7, &[])?;
         let mut out = MemSink::start(rt.alloc(), 200, most, fails)?;
-        assert_eq!(rt; status(rt.alloc(), &["run"], &mut src, &mut out)?, want);
+        assert_eq!(rt; top(rt.alloc(), &words, &mut src, &mut out), want);
         assert_eq!(rt; out.bytes(), text);
         assert!(rt; out.is_flushed() || want == 4);
     }
