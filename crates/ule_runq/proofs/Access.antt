@@ -1,5 +1,6 @@
 -- What the code reads and writes: x is what stands at place i of the buckets.
-use Rattle.std.proofs.Common.{◌≡◌, ◌==◌, ℕ, ◌+◌, ◌%◌, ◌<◌, ◌≤◌, false, Some, None, All, List, [], ◌∷◌, ◌++◌, length, slice_get, slice_set, get_or, nat_lt, sym, ◌∙◌, ap, arith}
+use Rattle.std.proofs.Common.{◌≡◌, ◌==◌, ℕ, ◌+◌, ◌-◌, ◌%◌, ◌<◌, ◌≤◌, false, Some, None, All, List, [], ◌∷◌, ◌++◌, length, slice_get, slice_set, get_or, nat_lt, min, filter, not, sym, ◌∙◌, ap, arith, get_or-set_other}
+use Rattle.std.proofs.Math.Nat.{min-le_left, min-le_right}
 use Rattle.std.proofs.lemmas.Bool.{ltb-true}
 use Rattle.std.proofs.lemmas.List.{get_or_read}
 use Rattle.std.proofs.lemmas.List.Elements.{All-from_get_or}
@@ -7,9 +8,9 @@ use Rattle.std.proofs.lemmas.List.Folds.{list_any_none}
 use Rattle.std.proofs.lemmas.Option.{cond_some}
 use Rattle.std.specs.List.{list_any, position, position_or_len, remove}
 use Rattle.ule_runq.proofs.Counts.{nil_from_head, position-at, position-has, position_None, position-none}
-use Rattle.ule_runq.proofs.RunqLaws.{IsRunq-with_tail, IsRunq-with_head, length-list_at-le, length-list_at-lt, first_from-step, first_from-none, place_in_Some, removed_at_place}
+use Rattle.ule_runq.proofs.RunqLaws.{list_at-without, IsRunq-with_tail, IsRunq-with_head, length-list_at-le, length-list_at-lt, first_from-step, first_from-none, place_in_Some, removed_at_place}
 use Rattle.ule_runq.specs.declared.runq.TheConstants.{RQ_NQS}
-use Rattle.ule_runq.specs.Runq.{list_at, without, times, first_from, distance, bucket_in, place_in, IsRunq}
+use Rattle.ule_runq.specs.Runq.{AreEmptyBelow, list_at, without, times, first_from, distance, bucket_in, place_in, IsRunq}
 
 pub room_in_read : (q : List (List ℕ)) (b i t : ℕ) (x : List ℕ) → IsRunq q → b < RQ_NQS → t < 256 → times q t ≡ 0 → i ≡ b → x ≡ get_or q i x → length x < 256
 room_in_read q b i t x sound bucket small absent same read =
@@ -98,3 +99,20 @@ removed_inside q t b k i m x found same spot read =
     let here : x ≡ list_at q b = get_or_read q i x (omega arith) read [] ∙ ap (list_at q) same in
     let long = at.1 in
     rw (here, spot) long
+
+-- ---- the bound below which no bucket has a thread
+
+-- a bucket that gets another list, and the bound with it where it lies ahead, leaves those below the bound empty
+pub bound_written : (q : List (List ℕ)) (n b i m : ℕ) (y : List ℕ) → n ≤ RQ_NQS → AreEmptyBelow q n → i ≡ b → m ≡ min n b → (m ≤ RQ_NQS) × AreEmptyBelow (slice_set q i y) m
+bound_written q n b i m y most empty same low =
+    let left = min-le_left n b in
+    let right = min-le_right n b in
+    (omega arith, λ k below. get_or-set_other q i k y [] (λ is. omega (arith, is)) ∙ empty k (omega arith))
+
+-- a queue without a thread keeps its empty buckets
+pub empty_below_without : (q : List (List ℕ)) (t n : ℕ) → AreEmptyBelow q n → AreEmptyBelow (without t q) n
+empty_below_without q t n empty b below = list_at-without t q b ∙ ap (filter (λ u. not (u == t))) (empty b below)
+
+-- where the bound lies ahead of bucket b, the round from b begins with empty buckets
+pub empty_round : (q : List (List ℕ)) (n b : ℕ) → n ≤ RQ_NQS → AreEmptyBelow q n → (j : ℕ) → j < n - b → list_at q ((b + j) % RQ_NQS) ≡ []
+empty_round q n b most empty j below = empty ((b + j) % RQ_NQS) (omega arith)

@@ -1,5 +1,5 @@
-ghost use Rattle.std.specs.Prelude.{◌≡◌, ℕ, ◌<◌, ◌↔◌, false, IsTrue, [], replicate, All, IfOk, IsNone, IfSome, OnSome};
-ghost use Rattle.ule_runq.specs.Runq.{IsRunq, is_empty_at, with_tail, with_head, without, times, first_from, IsFirstFrom, is_eligible, first_allowed, bucket_in, place_in};
+ghost use Rattle.std.specs.Prelude.{◌≡◌, ℕ, ◌<◌, ◌≤◌, ◌↔◌, false, IsTrue, [], replicate, All, IfOk, IsNone, IfSome, OnSome};
+ghost use Rattle.ule_runq.specs.Runq.{AreEmptyBelow, IsRunq, is_empty_at, with_tail, with_head, without, times, first_from, IsFirstFrom, is_eligible, first_allowed, bucket_in, place_in};
 ghost use Rattle.ule_runq.specs.Set.{has};
 
 use crate::bucket::Bucket;
@@ -17,17 +17,21 @@ pub const RQ_NQS: u8 = 64;
 #[derive(Drop)]
 pub struct Runq {
     buckets: Vec<Bucket>,
+    /// A bucket below which none has a thread, so that no search begins below it; `RQ_NQS` where no
+    /// bucket has one.
+    lowest: u8,
 }
 
 impl Model for Runq {
-    ghost use Rattle.std.specs.Prelude.{List, ℕ};
-    ghost use Rattle.ule_runq.specs.Runq.{IsRunq};
+    ghost use Rattle.std.specs.Prelude.{List, ℕ, ◌≤◌};
+    ghost use Rattle.ule_runq.specs.Runq.{AreEmptyBelow, IsRunq};
+    ghost use Rattle.ule_runq.specs.declared.runq.TheConstants.{RQ_NQS};
 
     ghost Value = { List (List ℕ) };
 
     ghost view = { λ q. q.buckets.items };
 
-    ghost invariant = { λ q. IsRunq q.buckets.items };
+    ghost invariant = { λ q. IsRunq q.buckets.items × (q.lowest ≤ RQ_NQS) × AreEmptyBelow q.buckets.items q.lowest };
 }
 
 impl Runq {
@@ -41,7 +45,10 @@ impl Runq {
                 return Err(Memory);
             }
         }
-        Ok(Runq { buckets })
+        Ok(Runq {
+            buckets,
+            lowest: RQ_NQS,
+        })
     }
 
     /// Puts `t` behind the threads of bucket `b`, after `runq_add`.
@@ -55,6 +62,7 @@ impl Runq {
         let _number = t.0; // so that it is known to be below 256
         let bucket = &mut self.buckets[usize::from(b)];
         bucket.push_tail(t);
+        self.lowest = self.lowest.min(b);
     }
 
     /// Puts `t` before the threads of bucket `b`, after `runq_add` of a preempted thread.
@@ -68,6 +76,7 @@ impl Runq {
         let _number = t.0; // so that it is known to be below 256
         let bucket = &mut self.buckets[usize::from(b)];
         bucket.push_head(t);
+        self.lowest = self.lowest.min(b);
     }
 
     /// Takes `t` out and says from which bucket, after `runq_remove`.
@@ -80,7 +89,21 @@ impl Runq {
         let (b, position) = self.find(t).unwrap();
         let bucket = &mut self.buckets[usize::from(b)];
         bucket.remove(usize::from(position));
+        self.lowest = self.lowest_used();
         b
+    }
+
+    // The lowest bucket that has a thread, and `RQ_NQS` where none has one.
+    fn lowest_used(&self) -> u8
+        ensures within { result ≤ RQ_NQS }
+        ensures below { AreEmptyBelow self.now result }
+    {
+        for b in self.lowest..RQ_NQS {
+            if !self.buckets[usize::from(b)].is_empty() {
+                return b;
+            }
+        }
+        RQ_NQS
     }
 
     /// The first thread from bucket `b` on, and round to it, with its bucket, after
@@ -93,7 +116,7 @@ impl Runq {
         ensures nearest { IfSome result (λ p. IsFirstFrom self.now b p.0 p.1) }
         ensures whole { IsRunq self.now }
     {
-        for step in 0..RQ_NQS {
+        for step in self.lowest.saturating_sub(b)..RQ_NQS {
             let bucket = (b + step) % RQ_NQS;
             if let Some(t) = self.buckets[usize::from(bucket)].first() {
                 return Some((bucket, t));
@@ -118,7 +141,7 @@ impl Runq {
         ensures allowed { IfSome result (λ t. IsTrue (is_eligible (has allowed.now) skip t)) }
         ensures whole { IsRunq self.now }
     {
-        for step in 0..RQ_NQS {
+        for step in self.lowest.saturating_sub(b)..RQ_NQS {
             let at = (b + step) % RQ_NQS;
             if let Some(t) = self.buckets[usize::from(at)].first_allowed(allowed, &skip) {
                 return Some(t);
@@ -144,7 +167,7 @@ impl Runq {
         ensures within { IfSome result (λ at. (at.0 < RQ_NQS) × (at.1 < 256)) }
         ensures whole { IsRunq self.now }
     {
-        for b in 0..RQ_NQS {
+        for b in self.lowest..RQ_NQS {
             if let Some(position) = self.buckets[usize::from(b)].position(t) {
                 return Some((b, position as u16));
             }
