@@ -195,6 +195,16 @@ pub pushed : {X T U : Type 0} (r : Result T U) (e : Bool) (items more less : Lis
 pushed (Ok x) e items more less is none same = same
 pushed (Err x) e items more less is none same = absurd (true≢false (sym is ∙ none))
 
+-- one more of a list that says this at each place
+pub one_more : {X : Type 0} (say : ℕ → Option X) (n : ℕ) (xs xs' : List X) (x : X) → (length xs ≡ n) × ((k : ℕ) → k < n → slice_get xs k ≡ say k) → say n ≡ Some x → xs' ≡ xs ++ x ∷ []
+    → (length xs' ≡ n + 1) × ((k : ℕ) → k < n + 1 → slice_get xs' k ≡ say k)
+one_more say n xs xs' x old new is = let c = old.0 in (
+  (let a : length xs' ≡ length (xs ++ x ∷ []) = ap length is in let b = length-append xs (x ∷ []) in omega arith),
+  λ k h. ap (λ l. slice_get l k) is ∙ dite (ℕ_discrete k n)
+      (λ z. snoc_last xs x k (z ∙ sym c) ∙ (sym new ∙ ap say (sym z)))
+      (λ far. snoc_get xs x k (omega arith) ∙ old.1 k (omega arith)),
+)
+
 module _ {H O G E R C : Type 0} (m : Means H O G E R C) where
   -- one more worker
   pub more_seats : (n : ℕ) (seats seats' : List (Seat O E R)) (p : Seat O E R) → AreFirstSeats m n seats → IsFirstSeat m n p → seats' ≡ seats ++ p ∷ []

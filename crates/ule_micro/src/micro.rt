@@ -133,7 +133,7 @@ impl<P: Parts> Micro<P> {
 
     /// The next step of a worker, by where it stands.
     fn turn(&mut self, worker: u8) -> Turn
-        requires { worker < length self.old.state.seats }
+        requires there { worker < length self.old.state.seats }
         ensures { IsTurned (P.means self.old.parts) self.old worker result self.new }
     {
         let phase = self.seats[worker as usize].phase;
@@ -147,7 +147,7 @@ impl<P: Parts> Micro<P> {
 
     /// Raises the time.
     fn raise(&mut self, worker: u8, k: u32) -> Turn
-        requires { WorkerStandsAt self.old.state worker (phase.Advance k) }
+        requires at { WorkerStandsAt self.old.state worker (phase.Advance k) }
         ensures { IsTurned (P.means self.old.parts) self.old worker result self.new }
     {
         self.time += k as u64;
@@ -160,7 +160,7 @@ impl<P: Parts> Micro<P> {
 
     /// The next step of an event on the way to its commit.
     fn approach(&mut self, worker: u8, e: P::Event, way: Progress) -> Turn
-        requires { WorkerStandsAt self.old.state worker (phase.Event e way) }
+        requires at { WorkerStandsAt self.old.state worker (phase.Event e way) }
         ensures { IsTurned (P.means self.old.parts) self.old worker result self.new }
     {
         match way {
@@ -179,7 +179,7 @@ impl<P: Parts> Micro<P> {
 
     /// The first step of an event: a seeker reads, any other takes its first lock.
     fn open_event(&mut self, worker: u8, e: P::Event) -> Turn
-        requires { WorkerStandsAt self.old.state worker (phase.Event e progress.Open) }
+        requires at { WorkerStandsAt self.old.state worker (phase.Event e progress.Open) }
         ensures { IsTurned (P.means self.old.parts) self.old worker result self.new }
     {
         let Some(held) = self.parts.fixed(&e) else {
@@ -236,7 +236,7 @@ impl<P: Parts> Micro<P> {
 
     /// A seeker's second read of the thread's word, with the lock that the first read named.
     fn second_read(&mut self, worker: u8, e: P::Event, t: ThreadId, l: LockId) -> Turn
-        requires { WorkerStandsAt self.old.state worker (phase.Event e (progress.Taken t l)) }
+        requires at { WorkerStandsAt self.old.state worker (phase.Event e (progress.Taken t l)) }
         ensures { IsTurned (P.means self.old.parts) self.old worker result self.new }
     {
         let word = self.words[t.0 as usize];
@@ -248,7 +248,7 @@ impl<P: Parts> Micro<P> {
 
     /// Takes a lock, if it is free.
     fn take(&mut self, worker: u8, l: LockId, there: Phase<P::Event, P::Reply>) -> Turn
-        requires { TakesNext (P.means self.old.parts) self.old.state worker l there }
+        requires next { TakesNext (P.means self.old.parts) self.old.state worker l there }
         ensures { IsTurned (P.means self.old.parts) self.old worker result self.new }
     {
         let word = self.locks[l.0 as usize];
@@ -265,7 +265,7 @@ impl<P: Parts> Micro<P> {
 
     /// Gives a lock back.
     fn release(&mut self, worker: u8, l: LockId, there: Phase<P::Event, P::Reply>) -> Turn
-        requires { ReleasesNext (P.means self.old.parts) self.old.state worker l there }
+        requires next { ReleasesNext (P.means self.old.parts) self.old.state worker l there }
         ensures { IsTurned (P.means self.old.parts) self.old worker result self.new }
     {
         self.locks[l.0 as usize] = None;
@@ -276,7 +276,7 @@ impl<P: Parts> Micro<P> {
 
     /// Reads now, under all locks of the event.
     fn read_now(&mut self, worker: u8, e: P::Event, held: HeldLocks) -> Turn
-        requires { WorkerStandsAt self.old.state worker (phase.Event e (progress.Locked held)) }
+        requires at { WorkerStandsAt self.old.state worker (phase.Event e (progress.Locked held)) }
         ensures { IsTurned (P.means self.old.parts) self.old worker result self.new }
     {
         let now = self.time;
@@ -287,7 +287,7 @@ impl<P: Parts> Micro<P> {
 
     /// Lets the event take effect, at the time that was read.
     fn commit(&mut self, worker: u8, e: P::Event, held: HeldLocks, now: u64) -> Turn
-        requires { WorkerStandsAt self.old.state worker (phase.Event e (progress.Timed held now)) }
+        requires at { WorkerStandsAt self.old.state worker (phase.Event e (progress.Timed held now)) }
         ensures { IsTurned (P.means self.old.parts) self.old worker result self.new }
     {
         let seat = &mut self.seats[worker as usize];
@@ -305,7 +305,7 @@ impl<P: Parts> Micro<P> {
 
     /// The next step behind a commit: the pending change, or else the lock that was taken last.
     fn leave(&mut self, worker: u8, reply: P::Reply, now: u64, held: HeldLocks) -> Turn
-        requires { WorkerStandsAt self.old.state worker (phase.Leaving reply now held) }
+        requires at { WorkerStandsAt self.old.state worker (phase.Leaving reply now held) }
         ensures { IsTurned (P.means self.old.parts) self.old worker result self.new }
     {
         let pending = self.seats[worker as usize].pending;
@@ -322,7 +322,7 @@ impl<P: Parts> Micro<P> {
 
     /// Stores the pending change in its thread's word.
     fn store(&mut self, worker: u8, change: WordChange) -> Turn
-        requires { (p : Seat P.Own P.Event P.Reply) × (slice_get self.old.state.seats worker ≡ Some p) × (p.pending ≡ Some change) }
+        requires pends { (p : Seat P.Own P.Event P.Reply) × (slice_get self.old.state.seats worker ≡ Some p) × (p.pending ≡ Some change) }
         ensures { IsTurned (P.means self.old.parts) self.old worker result self.new }
     {
         let seat = &mut self.seats[worker as usize];
