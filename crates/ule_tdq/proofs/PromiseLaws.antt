@@ -310,6 +310,13 @@ followed_goes_on o better remote r v k = drained_goes_on v (value_followed o bet
 pub goes_on_by_value : (old new value : CpuValue) → IsCalendar (dial_of old) → new ≡ value → (HasIndexes (dial_of old) → CalendarGoesOn old value) → CalendarGoesOn old new
 goes_on_by_value old new value k is on = subst (λ (n : CpuValue). CalendarGoesOn old n) (sym is) (on (calendar_indexes (dial_of old) k))
 
+-- a CPU goes on by what follows from a record of it that was changed
+pub changed_goes_on : (o : Option Kind) (better remote : Bool) (r : ThreadRecord) (old recorded new : CpuValue) → IsCalendar (dial_of old) →
+    recorded ≡ value_recorded r old → new ≡ (value_followed o better remote r recorded).0 → CalendarGoesOn old new
+changed_goes_on o better remote r old recorded new k recorded_is new_is =
+    goes_on_by_value old new (value_followed o better remote r (value_recorded r old)).0 k
+    (new_is ∙ ap (λ (v : CpuValue). (value_followed o better remote r v).0) recorded_is) (followed_goes_on o better remote r old)
+
 -- a CPU whose calendar after a call is that of a value goes on
 pub goes_on_by_dial : (old new value : CpuValue) → IsCalendar (dial_of old) → dial_of new ≡ dial_of value →
     (HasIndexes (dial_of old) → CalendarGoesOn old value) → CalendarGoesOn old new

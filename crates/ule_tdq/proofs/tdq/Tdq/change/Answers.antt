@@ -1,20 +1,13 @@
-use Rattle.std.proofs.Common.{◌∙◌, Option, ap, arith}
-use Rattle.ule_model.specs.CpuChange.{value_followed, value_recorded}
-use Rattle.ule_model.specs.CpuValue.{CpuValue}
-use Rattle.ule_prio.specs.declared.kind.Kind.{Kind}
-use Rattle.ule_score.specs.declared.record.ThreadRecord.{ThreadRecord}
-use Rattle.ule_tdq.proofs.PromiseLaws.{followed_goes_on, goes_on_by_value}
+use Rattle.std.proofs.Common.{arith}
 use Rattle.std.proofs.lemmas.Grind.{common_steps}
+use Rattle.ule_tdq.proofs.PromiseLaws.{changed_goes_on}
 use Rattle.ule_tdq.proofs.StandsLaws.{change_answers}
 use Rattle.ule_tdq.proofs.tdq.Tdq.change.Goals as goal
 
 pub returns-clause-calendar : goal.returns-clause-calendar
 returns-clause-calendar c =
-    let kind : Option Kind = c.kind_of_queued-kind.result in
-    let new : ThreadRecord = c.after_change-new.result in
-    let followed = λ (v : CpuValue). (value_followed kind c.lt.result c.args.remote new v).0 in
-    goes_on_by_value c.args.self.now c.follow.new.self (followed (value_recorded new c.args.self.now)) c.calendar_is_kept.ensures
-    (c.follow.ensures.value ∙ ap followed c.keep.ensures.value) (followed_goes_on kind c.lt.result c.args.remote new c.args.self.now)
+    changed_goes_on c.kind_of_queued-kind.result _ c.args.remote c.after_change-new.result c.args.self.now c.keep.new.self c.follow.new.self
+    c.calendar_is_kept.ensures c.keep.ensures.value c.follow.ensures.value
 
 pub returns-clause-value : goal.returns-clause-value
 returns-clause-value c = grind (arith, common_steps)
