@@ -1,5 +1,5 @@
 -- The calendar promise for each call on a CPU.
-use Rattle.std.proofs.Common.{◌≡◌, ◌≢◌, ◌==◌, ℕ, ◌+◌, ◌%◌, ◌<◌, ◌≤◌, Bool, true, false, not, cond, ◌&&◌, if◌then◌else◌, Option, Some, None, IfSome, List, [], ◌∷◌, length, slice_set, arith, refl, sym, subst, ap, ◌∙◌}
+use Rattle.std.proofs.Common.{◌≡◌, ◌≢◌, ◌==◌, rules, ℕ, ◌+◌, ◌%◌, ◌<◌, ◌≤◌, Bool, true, false, not, cond, ◌&&◌, if◌then◌else◌, Option, Some, None, IfSome, List, [], ◌∷◌, length, slice_set, arith, refl, sym, subst, ap, ◌∙◌}
 use Rattle.std.proofs.lemmas.Bool.{ne_eqb}
 use Rattle.ule_prio.specs.Kind.{kind_at}
 use Rattle.ule_prio.specs.declared.kind.Kind.{Kind}
@@ -25,7 +25,7 @@ use Rattle.ule_score.specs.declared.record.Why.{Why}
 use Rattle.ule_tdq.specs.Cpu.{KeepsCpu}
 use Rattle.ule_tdq.specs.Queues.{QueuesValue, times_in}
 use Rattle.ule_tdq.proofs.CpuLaws.{once_if-le}
-use Rattle.ule_tdq.specs.Promise.{CalendarGoesOn, dial_of}
+use Rattle.ule_tdq.specs.Promise.{CalendarGoesOn, LeavesNextBucket, dial_of, when_choosing}
 use Rattle.ule_types.specs.declared.event.Reply.TheVariants.{Unmarked}
 
 -- ---- calendars
@@ -310,6 +310,27 @@ followed_goes_on o better remote r v k = drained_goes_on v (value_followed o bet
 pub goes_on_by_value : (old new value : CpuValue) → IsCalendar (dial_of old) → new ≡ value → (HasIndexes (dial_of old) → CalendarGoesOn old value) → CalendarGoesOn old new
 goes_on_by_value old new value k is on = subst (λ (n : CpuValue). CalendarGoesOn old n) (sym is) (on (calendar_indexes (dial_of old) k))
 
+-- a CPU goes on by what follows from a record of it that was changed
+pub changed_goes_on : (o : Option Kind) (better remote : Bool) (r : ThreadRecord) (old recorded new : CpuValue) → IsCalendar (dial_of old) →
+    recorded ≡ value_recorded r old → new ≡ (value_followed o better remote r recorded).0 → CalendarGoesOn old new
+changed_goes_on o better remote r old recorded new k recorded_is new_is =
+    goes_on_by_value old new (value_followed o better remote r (value_recorded r old)).0 k
+    (new_is ∙ ap (λ (v : CpuValue). (value_followed o better remote r v).0) recorded_is) (followed_goes_on o better remote r old)
+
+-- a CPU whose calendar after a call is that of a value goes on
+pub goes_on_by_dial : (old new value : CpuValue) → IsCalendar (dial_of old) → dial_of new ≡ dial_of value →
+    (HasIndexes (dial_of old) → CalendarGoesOn old value) → CalendarGoesOn old new
+goes_on_by_dial old new value k is on =
+    let goes = on (calendar_indexes (dial_of old) k) in record {
+      indexes = subst (λ (d : Dial). DialGoesOn (dial_of old) d) (sym is) goes.indexes;
+      threads = λ t b was at.
+          subst (λ (d : Dial). ComesNearer (dial_of old) d b) (sym is) (goes.threads t b was (ap (λ (d : Dial). bucket_in d.lists t) (sym is) ∙ at));
+    }
+
+-- a CPU whose calendar a call leaves as it was goes on
+pub goes_on_as_it_was : (old new : CpuValue) → IsCalendar (dial_of old) → dial_of new ≡ dial_of old → CalendarGoesOn old new
+goes_on_as_it_was old new k is = goes_on_by_dial old new old k is (λ has. drained_goes_on old old has (drained_same (dial_of old)))
+
 -- ---- the choice
 
 -- of a thread that stands in no bucket nothing is asked
@@ -325,3 +346,9 @@ chosen_nearest v q Real t kept real idle batch there nearest = nowhere_nearest (
     (let place = kept.places t in let most = once_if-le (thread_in v t) in let here : times v.real t ≡ 1 = ap (λ (x : List (List ℕ)). times x t) real ∙ there in omega arith))
 chosen_nearest v q Idle t kept real idle batch there nearest = nowhere_nearest (dial_of v) t (bucket_in-none v.batch t
     (let place = kept.places t in let most = once_if-le (thread_in v t) in let here : times v.idle t ≡ 1 = ap (λ (x : List (List ℕ)). times x t) idle ∙ there in omega arith))
+
+-- ---- the bucket at the removal index
+
+-- a switch that is no preemption leaves it as it was
+pub switched_ahead : (why : Why) (now : ℕ) (v : CpuValue) → is_preemption why v.line.slice_end ≡ false → LeavesNextBucket v (when_choosing why now v)
+switched_ahead why now v = search rules

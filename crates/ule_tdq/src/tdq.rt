@@ -158,7 +158,6 @@ impl Tdq {
     /// is one, is queued again, at the head of its bucket where it was preempted, and the thread
     /// whose turn comes first runs. It is `Nothing` where there was no current thread and none was
     /// queued.
-    #[tactic(auto, using(crate::proofs::StandsLaws::switch_answers))]
     pub fn switch(&mut self, why: Why, now: u64) -> SwitchOut
         requires begun { 20000 ≤ now }
         requires bounded { now < 2 ^ 36 }
@@ -192,7 +191,6 @@ impl Tdq {
     }
 
     /// Queues a thread of the start, by ordinary insertion and without a preemption test.
-    #[tactic(auto, using(crate::proofs::StandsLaws::laid_answers))]
     pub fn lay(&mut self, r: ThreadRecord)
         requires absent { thread_in self.old r.id ≡ None }
         requires bounds { KeepsBounds r }
@@ -247,7 +245,6 @@ impl Tdq {
     /// The answer has the record of the thread that left, and the number of the one that runs now,
     /// if one was queued. `sleeping` says that the first goes to sleep, and notes when. It is `None`
     /// exactly where there is no current thread; then nothing changes.
-    #[tactic(auto, using(crate::proofs::StandsLaws::leaving_answers))]
     pub fn take_current(
         &mut self,
         now: u64,
@@ -276,7 +273,6 @@ impl Tdq {
 
     /// A thread comes to this CPU: queued by ordinary insertion, with a preemption test, after
     /// `sched_add`. `remote` says that the worker of another CPU brought it.
-    #[tactic(auto, using(crate::proofs::StandsLaws::landing_answers))]
     pub fn add(&mut self, r: ThreadRecord, remote: bool) -> Arrival
         requires absent { thread_in self.old r.id ≡ None }
         requires bounds { KeepsBounds r }
@@ -366,7 +362,6 @@ impl Tdq {
     /// The child's record becomes one of its parent's child, but for its number; the parent is
     /// charged the run time of a tick. The answer is the parent, and `None` exactly where there is
     /// no current thread; then nothing changes.
-    #[tactic(auto, using(crate::proofs::StandsLaws::fork_answers))]
     pub fn fork_from(&mut self, child: &mut ThreadRecord, now: u64) -> Option<ThreadId>
         requires begun { 20000 ≤ now }
         requires bounded { now < 2 ^ 36 }
@@ -426,7 +421,6 @@ impl Tdq {
     }
 
     /// What a trace tells of a thread, if it is here.
-    #[tactic(auto, using(crate::proofs::StandsLaws::line_tells))]
     pub fn thread_line(&self, t: ThreadId) -> Option<ThreadLine>
         ensures line { result ≡ value_line self.now t }
         ensures stands { Tells self.now result (line_on self.now.cpu t) }

@@ -1,22 +1,23 @@
-use Rattle.std.proofs.Common.{◌≡◌, Option, rules, arith}
-use Rattle.ule_model.specs.CpuChange.{value_followed, value_recorded}
-use Rattle.ule_model.specs.CpuValue.{CpuValue}
-use Rattle.ule_prio.specs.declared.kind.Kind.{Kind}
-use Rattle.ule_score.specs.declared.record.ThreadRecord.{ThreadRecord}
-use Rattle.ule_tdq.proofs.PromiseLaws.{followed_goes_on, goes_on_by_value}
+use Rattle.std.proofs.Common.{arith}
 use Rattle.std.proofs.lemmas.Grind.{common_steps}
+use Rattle.ule_tdq.proofs.PromiseLaws.{changed_goes_on}
 use Rattle.ule_tdq.proofs.StandsLaws.{change_answers}
 use Rattle.ule_tdq.proofs.tdq.Tdq.change.Goals as goal
 
 pub returns-clause-calendar : goal.returns-clause-calendar
 returns-clause-calendar c =
-    let kind : Option Kind = c.kind_of_queued-kind.result in
-    let new : ThreadRecord = c.after_change-new.result in
-    let followed : CpuValue = (value_followed kind c.lt.result c.args.remote new (value_recorded new c.args.self.now)).0 in
-    let value : c.follow.new.self ≡ followed = search rules in
-    goes_on_by_value c.args.self.now c.follow.new.self followed c.calendar_is_kept.ensures value
-    (followed_goes_on kind c.lt.result c.args.remote new c.args.self.now)
+    changed_goes_on c.kind_of_queued-kind.result _ c.args.remote c.after_change-new.result c.args.self.now c.keep.new.self c.follow.new.self
+    c.calendar_is_kept.ensures c.keep.ensures.value c.follow.ensures.value
+
+pub returns-clause-value : goal.returns-clause-value
+returns-clause-value c = grind (arith, common_steps)
+
+pub returns-clause-reply : goal.returns-clause-reply
+returns-clause-reply c = grind (arith, common_steps)
 
 pub returns-clause-stands : goal.returns-clause-stands
 returns-clause-stands c =
-    change_answers c.args.t c.args.c c.args.remote c.args.self.now _ _ c.requires.present (grind (arith, common_steps)) (grind (arith, common_steps))
+    change_answers c.args.t c.args.c c.args.remote c.args.self.now _ _ c.requires.present (returns-clause-value c) (returns-clause-reply c)
+
+pub returns-clause-kept : goal.returns-clause-kept
+returns-clause-kept c = c.follow.ensures.kept

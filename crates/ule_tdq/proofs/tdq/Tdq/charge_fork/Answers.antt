@@ -1,4 +1,5 @@
-use Rattle.std.proofs.Common.{ap, refl, sym, ◌∙◌}
+use Rattle.std.proofs.Common.{ap, arith, refl, sym, ◌∙◌}
+use Rattle.std.proofs.lemmas.Grind.{common_steps}
 use Rattle.ule_tdq.specs.Cpu.{times_on}
 use Rattle.ule_tdq.specs.CpuThreads.{CpuThreadsValue}
 use Rattle.ule_tdq.specs.TdqFields.{value_of}
@@ -17,3 +18,9 @@ invariant_of-self c =
       load = refl;
       places = λ u. ap (λ (x : CpuThreadsValue). times_on (record (value_of c.self.inside) { current = x.current }) u) c.put.ensures;
     })
+
+pub returns-clause-kept : goal.returns-clause-kept
+returns-clause-kept c = invariant_of-self c
+
+pub returns-clause-no_earlier : goal.returns-clause-no_earlier
+returns-clause-no_earlier c = grind (arith, common_steps)

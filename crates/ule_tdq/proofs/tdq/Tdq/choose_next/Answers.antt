@@ -30,22 +30,7 @@ invariant_of-self c =
     })
 
 pub returns-clause-kept : goal.returns-clause-kept
-returns-clause-kept c =
-    let idle : c.self.inside.threads.current ≡ None = ap (λ (v : CpuValue). v.current) c.self.view_is ∙ c.requires.idle in
-    KeepsCpu-anew (value_of c.self.inside) _ c.in_ok-kind.t c.unwrap.result c.before_running-runs.result c.self.invariant
-    (record {
-      there = sym c.get.ensures ∙ c.unwrap.ensures;
-      number = ap (λ (r : ThreadRecord). r.id) c.before_running-runs.ensures.record;
-      bounds = c.before_running-runs.ensures.kept;
-      settings = refl;
-      threads = ap (λ (x : CpuThreadsValue). x.records) (c.run.ensures ∙ ap (λ (x : CpuThreadsValue). record x { current = Some c.in_ok-kind.t }) c.put.ensures);
-      load = refl;
-      places = λ u.
-          let none : times_current c.self.inside.threads.current u ≡ 0 = ap (λ (o : Option ℕ). times_current o u) idle in
-          let moved = c.remove.ensures.times u in
-          let runs : times_current c.run.new.self.current u ≡ once_for c.in_ok-kind.t u = ap (λ (x : CpuThreadsValue). times_current x.current u) c.run.ensures in
-          omega arith;
-    })
+returns-clause-kept c = invariant_of-self c
 
 pub returns-clause-no_earlier : goal.returns-clause-no_earlier
 returns-clause-no_earlier c =

@@ -11,10 +11,7 @@ invariant_of-result c =
     (ap (λ (q : QueuesValue). q.real) empty) (ap (λ (q : QueuesValue). q.batch.lists) empty) (ap (λ (q : QueuesValue). q.idle) empty)
 
 pub returns-clause-kept : goal.returns-clause-kept
-returns-clause-kept c =
-    let empty = c.in_ok-queues.ensures in
-    KeepsCpu_start _ c.requires c.in_ok-threads.ensures.slots c.in_ok-threads.ensures.none c.in_ok-threads.ensures.current refl
-    (ap (λ (q : QueuesValue). q.real) empty) (ap (λ (q : QueuesValue). q.batch.lists) empty) (ap (λ (q : QueuesValue). q.idle) empty)
+returns-clause-kept c = invariant_of-result c
 
 pub returns-clause-stands : goal.returns-clause-stands
 returns-clause-stands c = start_answers _ _ _ _ (search rules)
