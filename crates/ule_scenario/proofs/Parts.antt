@@ -1,5 +1,5 @@
 -- Parts of equal lines, and of equal lists of lines.
-use Rattle.std.proofs.Common.{◌≡◌, List, [], ◌∷◌, ap, ◌∙◌}
+use Rattle.std.proofs.Common.{◌≡◌, ◌≢◌, List, [], ◌∷◌, ap, ◌∙◌}
 use Rattle.ule_scenario.specs.Cut.{Word, Line}
 
 pub first_line : {a b : Line} {ls ms : List Line} → a ∷ ls ≡ b ∷ ms → a ≡ b
@@ -11,6 +11,14 @@ other_lines e = cc
 -- of two lines each, and those that follow
 pub two_lines : {a b a' b' : Line} {ls ms : List Line} → a ∷ b ∷ ls ≡ a' ∷ b' ∷ ms → (a ≡ a') × (b ≡ b') × (ls ≡ ms)
 two_lines e = (cc, cc, cc)
+
+-- a first line that is known
+pub line_is : {a b : Line} {ls ms : List Line} → ls ≡ a ∷ ms → a ≡ b → ls ≡ b ∷ ms
+line_is p q = cc
+
+-- one line alone has none after it
+pub not_alone : {a b c : Line} {ls ms : List Line} → ls ≡ a ∷ [] → ls ≢ b ∷ c ∷ ms
+not_alone p q = cc
 
 pub first_word : {w x : Word} {ws xs : Line} → w ∷ ws ≡ x ∷ xs → w ≡ x
 first_word e = cc
