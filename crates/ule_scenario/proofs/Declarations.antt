@@ -3,7 +3,7 @@ use Rattle.std.proofs.Common.{◌≡◌, ◌≢◌, ℕ, ◌+◌, ◌*◌, ◌^�
 use Rattle.std.specs.Prelude.{codes, if◌then◌else◌, nat_le}
 use Rattle.std.specs.Fmt.{decimal, signed_decimal}
 use Rattle.std.specs.Str.Parse.{digits_value}
-use Rattle.std.proofs.lemmas.Bool.{and_parts, leb-true, ltb-true, or_cases, false≢true}
+use Rattle.std.proofs.lemmas.Bool.{and_from, and_parts, leb-true, lt-ltb, ltb-true, or_cases, false≢true}
 use Rattle.ule_prio.specs.Class.{is_within}
 use Rattle.ule_types.specs.Commands.{is_nice}
 use Rattle.ule_types.specs.Form.{is_bound_for}
@@ -40,6 +40,14 @@ thread_parts cpus spec good =
     let inner = and_parts (is_bound_for cpus spec) (is_in_range spec) outer.0 in
     let kept = and_parts (is_form spec.form) (ltb spec.cpu cpus) outer.1 in
     record { bound = inner.0; id = ltb-true spec.id 256 inner.1; form = kept.0; cpu = ltb-true spec.cpu cpus kept.1; kept = outer.1 }
+
+-- a thread that passes the tests can be declared by a line
+pub thread_from : (cpus id : ℕ) (form : Form) (cpu : ℕ) (bound : Bool) → (ltb cpus 2 || bound) ≡ true → id < 256 → is_form form ≡ true → cpu < cpus
+    → is_thread cpus (record { id = id; form = form; cpu = cpu; bound = bound }) ≡ true
+thread_from cpus id form cpu bound kept fits good within =
+    and_from ((ltb cpus 2 || bound) && ltb id 256) (is_form form && ltb cpu cpus)
+    (and_from (ltb cpus 2 || bound) (ltb id 256) kept (lt-ltb id 256 fits))
+    (and_from (is_form form) (ltb cpu cpus) good (lt-ltb cpu cpus within))
 
 -- the priority of an interrupt thread is a byte
 pub ithd_byte : (p : ℕ) → IsTrue (is_form (Ithd p)) → p < 256

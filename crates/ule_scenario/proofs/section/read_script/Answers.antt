@@ -10,7 +10,7 @@ use Rattle.ule_scenario.specs.Sections.{forked_in, is_spellable}
 use Rattle.ule_scenario.proofs.Causes.{refused_from}
 use Rattle.ule_scenario.proofs.Charges.{charge_push, ticks-append}
 use Rattle.ule_scenario.proofs.Runs.{begins_more}
-use Rattle.ule_scenario.proofs.Script.{pushed_script, read_more, forked_push, forks-le, none_without_line, none_over_budget, none_over_ticks, none_over_forks}
+use Rattle.ule_scenario.proofs.Script.{pushed_script, read_more, script_taken, forked_push, forks-le, none_without_line, none_over_budget, none_over_ticks, none_over_forks}
 use Rattle.ule_scenario.proofs.section.read_script.Goals as goal
 
 pub returns-in_default-clause-refused : goal.returns-in_default-clause-refused
@@ -74,3 +74,10 @@ loop-command-preserved c =
       once = rw noted (c.in_ok-note_fork.ensures.fresh old.invariant.once);
       room = rw noted (omega (arith, length-append old.forked (forked_by next.command), forks-le c.args.worker c.args.cpus next.command, old.invariant.room, c.in-Some-charged.ensures.sum));
     }
+
+pub returns-clause-ok : goal.returns-clause-ok
+returns-clause-ok c =
+    let end = c.loop-command in
+    let inv = end.invariant in
+    script_taken c.args.declared.now c.args.worker c.args.cpus c.args.spent c.args.forked.now (cut c.args.text.now) (cut c.in-Some.commands.now) (cut end.rest.now) (slice_index_or end.scripts c.args.worker []) end.total end.ticks end.forked
+    c.in-Some.ensures.found inv.begins inv.sum inv.within inv.ticks inv.few inv.noted inv.once c.in_default-next_command.ensures.none
