@@ -11,13 +11,13 @@ returns-else-allows-clause-none c =
     let same = same_number c.in_ok-p.p p (omega (arith, c.in_ok-p.ensures.within)) (omega arith) (second_of c.in_ok-words.ensures.found c.in_ok-p.ensures.found e) in
     false≢true (sym c.if-allows.false ∙ c.allows.ensures ∙ ap (is_base_of c.args.class) same ∙ good)
 
-pub returns-in_err-words-clause-none : goal.returns-in_err-words-clause-none
-returns-in_err-words-clause-none c =
-    rw c.from_residual.ensures (λ p rest byte good e. c.in_err-words.ensures.none _ e)
+pub returns-in_err-words : goal.returns-in_err-words
+returns-in_err-words c =
+    rw c.from_residual.ensures (record { found = tt; within = tt; byte = tt; none = λ p rest byte good e. c.in_err-words.ensures.none _ e })
 
-pub returns-in_err-p-clause-none : goal.returns-in_err-p-clause-none
-returns-in_err-p-clause-none c =
-    rw c.from_residual-in_err-p.ensures (λ p rest byte good e. c.in_err-p.ensures.none p _ (omega (arith, byte)) (after_one c.in_ok-words.ensures.found e))
+pub returns-in_err-p : goal.returns-in_err-p
+returns-in_err-p c =
+    rw c.from_residual-in_err-p.ensures (record { found = tt; within = tt; byte = tt; none = λ p rest byte good e. c.in_err-p.ensures.none p _ (omega (arith, byte)) (after_one c.in_ok-words.ensures.found e) })
 
 pub returns-then-allows-clause-found : goal.returns-then-allows-clause-found
 returns-then-allows-clause-found c =

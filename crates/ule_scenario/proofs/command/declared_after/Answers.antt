@@ -3,13 +3,13 @@ use Rattle.std.proofs.lemmas.Bool.{false≢true}
 use Rattle.ule_scenario.proofs.Parts.{after_one, after_two, put_two}
 use Rattle.ule_scenario.proofs.command.declared_after.Goals as goal
 
-pub returns-in_err-words-clause-none : goal.returns-in_err-words-clause-none
-returns-in_err-words-clause-none c =
-    rw c.from_residual.ensures (λ t fits some e. c.in_err-words.ensures.none _ (c.of.ensures ∙ e))
+pub returns-in_err-words : goal.returns-in_err-words
+returns-in_err-words c =
+    rw c.from_residual.ensures (record { found = tt; within = tt; declared = tt; none = λ t fits some e. c.in_err-words.ensures.none _ (c.of.ensures ∙ e) })
 
-pub returns-in_err-t-clause-none : goal.returns-in_err-t-clause-none
-returns-in_err-t-clause-none c =
-    rw c.from_residual-in_err-t.ensures (λ t fits some e. c.in_err-t.ensures.none t _ fits some (after_one (sym c.of.ensures ∙ c.in_ok-words.ensures.found) e))
+pub returns-in_err-t : goal.returns-in_err-t
+returns-in_err-t c =
+    rw c.from_residual-in_err-t.ensures (record { found = tt; within = tt; declared = tt; none = λ t fits some e. c.in_err-t.ensures.none t _ fits some (after_one (sym c.of.ensures ∙ c.in_ok-words.ensures.found) e) })
 
 pub returns-then-is_end-clause-found : goal.returns-then-is_end-clause-found
 returns-then-is_end-clause-found c =

@@ -3,9 +3,9 @@ use Rattle.std.proofs.lemmas.Bool.{false≢true}
 use Rattle.ule_scenario.proofs.Parts.{after_one, put_one}
 use Rattle.ule_scenario.proofs.cut.Words.last_nice_value.Goals as goal
 
-pub returns-in_err-n-clause-none : goal.returns-in_err-n-clause-none
-returns-in_err-n-clause-none c =
-    rw c.from_residual.ensures (λ n nice e. c.in_err-n.ensures.none n _ nice e)
+pub returns-in_err-n : goal.returns-in_err-n
+returns-in_err-n c =
+    rw c.from_residual.ensures (record { found = tt; within = tt; none = λ n nice e. c.in_err-n.ensures.none n _ nice e })
 
 pub returns-then-is_end-clause-found : goal.returns-then-is_end-clause-found
 returns-then-is_end-clause-found c =

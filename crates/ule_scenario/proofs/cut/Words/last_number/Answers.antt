@@ -9,9 +9,9 @@ returns-then-n-least-clause-none c =
     λ n least within e.
     omega (arith, same_number c.in_ok-n.n n (omega arith) (omega arith) (first_word (sym c.in_ok-n.ensures.found ∙ e)))
 
-pub returns-in_err-n-clause-none : goal.returns-in_err-n-clause-none
-returns-in_err-n-clause-none c =
-    rw c.from_residual.ensures (λ n least within e. c.in_err-n.ensures.none n _ within e)
+pub returns-in_err-n : goal.returns-in_err-n
+returns-in_err-n c =
+    rw c.from_residual.ensures (record { found = tt; from = tt; within = tt; none = λ n least within e. c.in_err-n.ensures.none n _ within e })
 
 pub returns-then-is_end-clause-found : goal.returns-then-is_end-clause-found
 returns-then-is_end-clause-found c =
