@@ -7,17 +7,25 @@ use Rattle.ule_scenario.proofs.line.thread_of.Goals as goal
 
 pub returns-in_err-id : goal.returns-in_err-id
 returns-in_err-id c =
-    rw c.from_residual-in_err-id.ensures (record { found = tt; within = tt; none = λ spec good e.
-    let parts = thread_parts c.args.cpus spec good in
-    c.in_err-id.ensures.none spec.id _ (omega (arith, parts.id)) (after_one (sym c.of.ensures ∙ c.in_ok-words.ensures.found) e) })
+    rw c.from_residual-in_err-id.ensures (record {
+      found = tt;
+      within = tt;
+      none = λ spec good e.
+          let parts = thread_parts c.args.cpus spec good in
+          c.in_err-id.ensures.none spec.id _ (omega (arith, parts.id)) (after_one (sym c.of.ensures ∙ c.in_ok-words.ensures.found) e);
+    })
 
 pub returns-in_err-cpu : goal.returns-in_err-cpu
 returns-in_err-cpu c =
-    rw c.from_residual-in_err-cpu.ensures (record { found = tt; within = tt; none = λ spec good e.
-    let parts = thread_parts c.args.cpus spec good in
-    let placed = after_form c.in_ok-form.form spec.form c.in_ok-id.words c.in_ok-form.words (decimal spec.cpu ∷ bound_words spec.bound) c.in_ok-form.ensures.found
-    (after_two (sym c.of.ensures ∙ c.in_ok-words.ensures.found) c.in_ok-id.ensures.found e) in
-    c.in_err-cpu.ensures.none spec.cpu spec.bound parts.cpu parts.bound placed })
+    rw c.from_residual-in_err-cpu.ensures (record {
+      found = tt;
+      within = tt;
+      none = λ spec good e.
+          let parts = thread_parts c.args.cpus spec good in
+          let placed = after_form c.in_ok-form.form spec.form c.in_ok-id.words c.in_ok-form.words (decimal spec.cpu ∷ bound_words spec.bound) c.in_ok-form.ensures.found
+          (after_two (sym c.of.ensures ∙ c.in_ok-words.ensures.found) c.in_ok-id.ensures.found e) in
+          c.in_err-cpu.ensures.none spec.cpu spec.bound parts.cpu parts.bound placed;
+    })
 
 pub returns-in_err-words : goal.returns-in_err-words
 returns-in_err-words c =

@@ -5,8 +5,12 @@ use Rattle.ule_scenario.proofs.number.nice_value.Goals as goal
 
 pub returns-in_err-size : goal.returns-in_err-size
 returns-in_err-size c =
-    rw c.from_residual.ensures (record { found = tt; within = tt; none = λ n. not_nice_of_minus c.args.word.now n (c.if-is_negative.ensures.0 refl)
-    (λ m within some e. c.in_err-size.ensures.none m within (c.split_at.ensures.back ∙ e)) })
+    rw c.from_residual.ensures (record {
+      found = tt;
+      within = tt;
+      none = λ n. not_nice_of_minus c.args.word.now n (c.if-is_negative.ensures.0 refl)
+          (λ m within some e. c.in_err-size.ensures.none m within (c.split_at.ensures.back ∙ e));
+    })
 
 pub returns-then-size-eq0-clause-none : goal.returns-then-size-eq0-clause-none
 returns-then-size-eq0-clause-none c =
