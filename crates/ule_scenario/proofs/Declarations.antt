@@ -1,10 +1,11 @@
 -- The lines of declarations tell them.
-use Rattle.std.proofs.Common.{◌≡◌, ◌≢◌, ℕ, ◌+◌, ◌*◌, ◌^◌, ◌<◌, ◌≤◌, ◌==◌, Bool, true, false, ◌&&◌, IsTrue, [], ◌∷◌, ◌++◌, length, refl, sym, ap, ◌∙◌, arith, ltb, get_or}
+use Rattle.std.proofs.Common.{◌≡◌, ◌≢◌, ℕ, ◌+◌, ◌*◌, ◌^◌, ◌<◌, ◌≤◌, ◌==◌, Bool, true, false, ◌&&◌, IsTrue, [], ◌∷◌, ◌++◌, length, refl, sym, ap, ◌∙◌, arith, ltb, get_or, ⊎_elim, ◌||◌, ℤ}
 use Rattle.std.specs.Prelude.{codes, if◌then◌else◌, nat_le}
 use Rattle.std.specs.Fmt.{decimal, signed_decimal}
 use Rattle.std.specs.Str.Parse.{digits_value}
-use Rattle.std.proofs.lemmas.Bool.{and_parts, leb-true, ltb-true}
+use Rattle.std.proofs.lemmas.Bool.{and_from, and_parts, leb-true, lt-ltb, ltb-true, or_cases, false≢true}
 use Rattle.ule_prio.specs.Class.{is_within}
+use Rattle.ule_types.specs.Commands.{is_nice}
 use Rattle.ule_types.specs.Form.{is_bound_for}
 use Rattle.ule_types.specs.Rules.{is_form, is_spec}
 use Rattle.ule_types.specs.declared.setup.Form.{Form}
@@ -39,6 +40,14 @@ thread_parts cpus spec good =
     let inner = and_parts (is_bound_for cpus spec) (is_in_range spec) outer.0 in
     let kept = and_parts (is_form spec.form) (ltb spec.cpu cpus) outer.1 in
     record { bound = inner.0; id = ltb-true spec.id 256 inner.1; form = kept.0; cpu = ltb-true spec.cpu cpus kept.1; kept = outer.1 }
+
+-- a thread that passes the tests can be declared by a line
+pub thread_from : (cpus id : ℕ) (form : Form) (cpu : ℕ) (bound : Bool) → (ltb cpus 2 || bound) ≡ true → id < 256 → is_form form ≡ true → cpu < cpus
+    → is_thread cpus (record { id = id; form = form; cpu = cpu; bound = bound }) ≡ true
+thread_from cpus id form cpu bound kept fits good within =
+    and_from ((ltb cpus 2 || bound) && ltb id 256) (is_form form && ltb cpu cpus)
+    (and_from (ltb cpus 2 || bound) (ltb id 256) kept (lt-ltb id 256 fits))
+    (and_from (is_form form) (ltb cpu cpus) good (lt-ltb cpu cpus within))
 
 -- the priority of an interrupt thread is a byte
 pub ithd_byte : (p : ℕ) → IsTrue (is_form (Ithd p)) → p < 256
@@ -159,3 +168,23 @@ after_form f g words x y p q =
 
     cut_two : {a b a' b' : Word} {x y : Line} → a ∷ b ∷ x ≡ a' ∷ b' ∷ y → x ≡ y
     cut_two e = cc
+
+-- what says on several CPUs that a thread isn't bound doesn't say that it is
+pub unbound_apart : (cpus : ℕ) (words : Line) (said bound : Bool) → 1 < cpus → said ≡ false → words ≡ bound_words said → (ltb cpus 2 || bound) ≡ true → words ≢ bound_words bound
+unbound_apart cpus words true bound more unbound is wants e = cc
+unbound_apart cpus words false true more unbound is wants e = cc
+unbound_apart cpus words false false more unbound is wants e =
+    ⊎_elim (λ one. omega (arith, ltb-true cpus 2 one)) false≢true (or_cases (ltb cpus 2) false wants)
+
+-- no form stands first where none of a class does
+pub no_form : (words : Line) → ((n : ℤ) (rest : Line) → IsTrue (is_nice n) → words ≢ codes "ts" ∷ signed_decimal n ∷ rest)
+    → ((p : ℕ) (rest : Line) → p < 256 → IsTrue (is_within 0 47 p) → words ≢ codes "ithd" ∷ decimal p ∷ rest)
+    → ((p : ℕ) (rest : Line) → p < 256 → IsTrue (is_within 48 79 p) → words ≢ codes "rt" ∷ decimal p ∷ rest)
+    → ((p : ℕ) (rest : Line) → p < 256 → IsTrue (is_within 48 79 p) → words ≢ codes "fifo" ∷ decimal p ∷ rest)
+    → ((p : ℕ) (rest : Line) → p < 256 → IsTrue (nat_le 224 p) → words ≢ codes "idle" ∷ decimal p ∷ rest)
+    → (f : Form) (rest : Line) → IsTrue (is_form f) → words ≢ form_words f ++ rest
+no_form words ts ithd rt fifo idle (Ts n) rest good e = ts n rest good e
+no_form words ts ithd rt fifo idle (Ithd p) rest good e = ithd p rest (ithd_byte p good) good e
+no_form words ts ithd rt fifo idle (Rt p) rest good e = rt p rest (rt_byte p good) good e
+no_form words ts ithd rt fifo idle (Fifo p) rest good e = fifo p rest (fifo_byte p good) good e
+no_form words ts ithd rt fifo idle (Idle p) rest good e = idle p rest (idle_byte p good) (and_parts (nat_le 224 p) (ltb p 256) good).0 e

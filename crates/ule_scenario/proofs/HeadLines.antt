@@ -1,13 +1,14 @@
 -- The lines of the settings and the head tell them.
-use Rattle.std.proofs.Common.{◌≡◌, ◌≢◌, ℕ, ◌^◌, ◌<◌, ◌≤◌, List, ◌∷◌, ◌++◌, refl, sym, ap, ◌∙◌, arith, get_or, Option, Some, None}
+use Rattle.std.proofs.Common.{◌≡◌, ◌≢◌, ℕ, ◌^◌, ◌<◌, ◌≤◌, List, [], ◌∷◌, ◌++◌, refl, sym, ap, subst, ◌∙◌, arith, get_or, Option, Some, None}
 use Rattle.std.specs.Prelude.{codes}
 use Rattle.std.proofs.lemmas.List.{append_assoc}
 use Rattle.ule_score.specs.declared.record.Settings.{Settings}
 use Rattle.ule_scenario.specs.Cut.{Word, Line}
 use Rattle.ule_scenario.specs.Scenario.{GivenSettings, settings_of, given_lines, setting_lines, set_line, header_line, jitter_line, cpus_line}
-use Rattle.ule_scenario.specs.Sections.{IsGivenWithin, AreGiven, after_preempt, after_slice, after_interact, settings_before, TakesSetting, TakesSettings, head_lines, TakesHead}
+use Rattle.ule_scenario.specs.Sections.{IsGivenWithin, AreGiven, after_preempt, after_slice, after_interact, settings_before, TakesSetting, TakesSettings, head_lines, TakesHead, HasNoHead}
 use Rattle.ule_scenario.proofs.Numbers.{same_number}
 use Rattle.ule_scenario.proofs.Parts.{first_line, other_lines, two_lines, first_word, second_word, second_of_three, third_of_three}
+use Rattle.ule_scenario.proofs.Runs.{cons_of}
 
 -- a line that gives no setting
 abbrev pub IsNoSetting : Line → Type 0
@@ -165,4 +166,25 @@ taken_within lines s rest takes = record {
   slice = takes.slice.within;
   preempt = takes.preempt.within;
   steal = takes.steal.within;
+}
+
+-- one line alone is no head
+pub no_head_alone : (lines : List Line) (line : Line) → lines ≡ line ∷ [] → HasNoHead lines
+no_head_alone lines line alone given jitter cpus next more within fits some few e =
+    let rest = jitter_line jitter ∷ cpus_line cpus ∷ next ∷ more in
+    let tail = cons_of (given_lines given) (jitter_line jitter) (cpus_line cpus ∷ next ∷ more) in
+    let none : settings_before given rest ≡ [] = other_lines (sym e ∙ alone) in
+    let some : [] ≡ tail.0 ∷ tail.1 = sym none ∙ sym (given_before given rest) ∙ tail.2 in
+    cc
+
+-- a head that was read step by step
+pub head_read : (lines after x y rest : List Line) (s : Settings) (jitter cpus : ℕ) → lines ≡ header_line ∷ after → TakesSettings after s x → x ≡ jitter_line jitter ∷ y → y ≡ cpus_line cpus ∷ rest
+    → jitter < 2 ^ 32 → 1 ≤ cpus → cpus ≤ 16 → TakesHead lines s jitter cpus rest
+head_read lines after x y rest s jitter cpus header takes e e' fits some few = record {
+  after = after;
+  header = header;
+  settings = subst (TakesSettings after s) (e ∙ ap (λ ls. jitter_line jitter ∷ ls) e') takes;
+  fits = fits;
+  least = some;
+  greatest = few;
 }

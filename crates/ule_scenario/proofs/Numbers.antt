@@ -1,10 +1,10 @@
 -- Digits without a leading zero are the decimal text of their value, and no other.
-use Rattle.std.proofs.Common.{◌≡◌, ◌≢◌, ℕ, ◌-◌, ◌^◌, ◌<◌, ◌≤◌, ◌==◌, false, refl, IsTrue, List, length, take, drop, get_or, sym, ap, ◌∙◌, arith, ⊎_elim, ℤ, pos, negsuc, suc, Option, Some, None, IfNone}
+use Rattle.std.proofs.Common.{◌≡◌, ◌≢◌, ℕ, ◌-◌, ◌^◌, ◌<◌, ◌≤◌, ◌==◌, false, refl, IsTrue, List, length, take, drop, get_or, sym, ap, ◌∙◌, arith, ⊎_elim, ℤ, pos, negsuc, suc, Option, Some, None, IfSome, IfNone, is_some, true, [], ◌∷◌}
 use Rattle.std.specs.Prelude.{if◌then◌else◌}
 use Rattle.std.specs.Char.{IsNotAsciiDigit}
 use Rattle.std.specs.Fmt.{decimal, signed_decimal}
 use Rattle.std.specs.Str.Parse.{AllDigits, digits_value}
-use Rattle.std.proofs.lemmas.Bool.{leb-true, ltb-true, ne_eqb, cases_eq}
+use Rattle.std.proofs.lemmas.Bool.{leb-true, ltb-true, ne_eqb, cases_eq, eqb-true, false≢true}
 use Rattle.std.proofs.lemmas.Fmt.{decimal-digits_value, digits_decimal, digits_value-decimal, decimal_nonempty, first_decimal, decimal_digit, decimal_injective}
 use Rattle.std.proofs.lemmas.Str.Parse.{numerals_by_value, tells_digits, digits_value-take-le, digit_at, IsNumeralModel}
 use Rattle.ule_types.specs.Commands.{is_nice}
@@ -88,3 +88,17 @@ nice_of_word (pos n) fits =
 nice_of_word (negsuc n) fits =
     let small : suc n < 2 ^ 32 = omega (arith, ltb-true n 20 fits) in
     ap negsuc (omega (arith, value_of_decimal (suc n) small))
+
+-- a word without bytes begins with no minus
+pub empty_not_minus : (word : List ℕ) → (length word == 0) ≡ true → get_or word 0 0 ≢ 45
+empty_not_minus [] empty e = omega (arith, e)
+empty_not_minus (b ∷ word) empty e = absurd (omega (arith, eqb-true (length (b ∷ word)) 0 empty))
+
+-- the number that was found between a number and itself
+pub number_between : (line : List (List ℕ)) (keyword : List ℕ) (n : ℕ) (r : Option ℕ) → IfSome r (λ m. line ≡ keyword ∷ decimal m ∷ []) → IfSome r (λ m. n ≤ m) → IfSome r (λ m. m ≤ n)
+    → IfNone r ((m : ℕ) → n ≤ m → m ≤ n → line ≢ keyword ∷ decimal m ∷ [])
+    → (IsTrue (is_some r) → line ≡ keyword ∷ decimal n ∷ []) × (line ≡ keyword ∷ decimal n ∷ [] → IsTrue (is_some r))
+number_between line keyword n None found from within none = (λ some. absurd (false≢true some), λ e. absurd (none n (omega arith) (omega arith) e))
+number_between line keyword n (Some m) found from within none =
+    let same : m ≡ n = omega (arith, from, within) in
+    (λ _. rw same at found, λ _. refl)

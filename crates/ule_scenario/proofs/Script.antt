@@ -12,7 +12,7 @@ use Rattle.ule_types.specs.declared.command.Command.{Command}
 use Rattle.ule_types.specs.declared.command.Command.TheVariants.{Tick, Time, Yield, Resched, Sleep, Wake, Lend, Unlend, Renice, Fork, Exit, Idle, Balance, Look}
 use Rattle.ule_scenario.specs.Cut.{Line}
 use Rattle.ule_scenario.specs.Scenario.{script_line, command_line}
-use Rattle.ule_scenario.specs.Sections.{Begins, is_spellable, charge, forked_in, are_few, HasNoScript}
+use Rattle.ule_scenario.specs.Sections.{Begins, Stops, is_spellable, charge, forked_in, are_few, TakesScript, HasNoScript}
 use Rattle.ule_scenario.specs.declared.declaration.Declared.{Declared}
 use Rattle.ule_scenario.proofs.Charges.{charge_push, charge-le, ticks-append, ticks-le, fewer}
 use Rattle.ule_scenario.proofs.Commands.{command_apart}
@@ -50,6 +50,22 @@ goes_on declared worker cpus lines script other next more here each apart front 
     let same = other_lines (sym here.front ∙ front) in
     let run = longer (is_spellable declared cpus) command_line (command_apart declared cpus) script other here.rest (next ∷ more) here.each each same (λ c after good over. apart c good (first_line over)) in
     (run.0, run.1)
+
+-- the script that was read, with its line
+pub script_taken : (declared : Declared) (worker cpus spent : ℕ) (forked : List ℕ) (lines commands rest : List Line) (script : List Command) (total ticks : ℕ) (noted : List ℕ)
+    → lines ≡ script_line worker ∷ commands → Begins (is_spellable declared cpus) command_line commands script rest → total ≡ spent + charge worker cpus script → total ≤ 65536
+    → ticks ≡ count_by is_tick script → IsTrue (are_few worker cpus ticks) → noted ≡ forked ++ forked_in script → IsTrue (is_distinct noted)
+    → Stops (is_spellable declared cpus) command_line rest → TakesScript declared worker cpus spent forked lines script rest
+script_taken declared worker cpus spent forked lines commands rest script total ticks noted e begins sum within counted few all once stops = record {
+  front = e ∙ ap (λ ls. script_line worker ∷ ls) begins.front;
+  allowed = record {
+    each = begins.each;
+    forks = ap is_distinct (sym all) ∙ once;
+    ticks = ap (are_few worker cpus) (sym counted) ∙ few;
+    budget = omega (arith, sum, within);
+  };
+  stops = stops;
+}
 
 -- the threads that commands in two parts fork
 pub forked-append : (xs ys : List Command) → forked_in (xs ++ ys) ≡ forked_in xs ++ forked_in ys

@@ -26,19 +26,12 @@ fn is_thread_number(threads: &[ThreadSpec], id: ThreadId) -> bool
     threads.iter().any(|spec| spec.id == id)
 }
 
-/// Whether one of the unborn threads has this number.
-fn is_unborn_number(unborn: &[ThreadId], id: ThreadId) -> bool
-    ensures { result ≡ is_among unborn.now id }
-{
-    unborn.iter().any(|t| *t == id)
-}
-
 /// Whether one of the threads or of the unborn ones has this number.
 #[tactic(auto, using(crate::proofs::Distinct::among_declared))]
 pub(crate) fn is_declared(threads: &[ThreadSpec], unborn: &[ThreadId], id: ThreadId) -> bool
     ensures { result ≡ is_among (declared_ids threads.now unborn.now) id }
 {
-    is_thread_number(threads, id) || is_unborn_number(unborn, id)
+    is_thread_number(threads, id) || unborn.contains(&id)
 }
 
 /// The declared thread whose number stands next, and the words after it.

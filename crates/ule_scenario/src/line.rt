@@ -36,7 +36,6 @@ pub(crate) fn number_after(line: &[u8], keyword: &[u8], least: u32, greatest: u3
 }
 
 /// Whether a line has this keyword and this number.
-#[tactic(auto, using(crate::proofs::Numbers::same_number))]
 fn has_number(line: &[u8], keyword: &[u8], number: u32) -> bool
     ensures { IsTrue result ↔ (words_of line.now ≡ keyword.now ∷ decimal number ∷ []) }
 {

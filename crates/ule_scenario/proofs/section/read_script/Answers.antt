@@ -10,48 +10,71 @@ use Rattle.ule_scenario.specs.Sections.{forked_in, is_spellable}
 use Rattle.ule_scenario.proofs.Causes.{refused_from}
 use Rattle.ule_scenario.proofs.Charges.{charge_push, ticks-append}
 use Rattle.ule_scenario.proofs.Runs.{begins_more}
-use Rattle.ule_scenario.proofs.Script.{pushed_script, read_more, forked_push, forks-le, none_without_line, none_over_budget, none_over_ticks, none_over_forks}
+use Rattle.ule_scenario.proofs.Script.{pushed_script, read_more, script_taken, forked_push, forks-le, none_without_line, none_over_budget, none_over_ticks, none_over_forks}
 use Rattle.ule_scenario.proofs.section.read_script.Goals as goal
 
-pub returns-in_default-clause-refused : goal.returns-in_default-clause-refused
-returns-in_default-clause-refused c =
-    (refl, refl, refl, none_without_line c.args.declared.now c.args.worker c.args.cpus c.args.spent c.args.forked.now (cut c.args.text.now) c.in_default.ensures.none)
+pub returns-in_default : goal.returns-in_default
+returns-in_default c =
+    record { ok = tt; spent = tt; forked = tt; few = tt; put = tt; refused = (refl, refl, refl, none_without_line c.args.declared.now c.args.worker c.args.cpus c.args.spent c.args.forked.now (cut c.args.text.now) c.in_default.ensures.none) }
 
-pub returns-in_default-charged-clause-refused : goal.returns-in_default-charged-clause-refused
-returns-in_default-charged-clause-refused c =
+pub returns-in_default-charged : goal.returns-in_default-charged
+returns-in_default-charged c =
     let old = c.loop-command in
     let next = c.in-Some-next_command in
     let script = slice_index_or old.scripts c.args.worker [] in
-    let here = read_more c.args.declared.now c.args.worker c.args.cpus (cut c.args.text.now) (cut c.in-Some.commands.now) (cut old.rest.now) (cut next.after.now) script next.command c.in-Some.ensures.found old.invariant.begins next.ensures.found next.ensures.within in (
-      refl,
-      refl,
-      refl,
-      none_over_budget c.args.declared.now c.args.worker c.args.cpus c.args.spent c.args.forked.now (cut c.args.text.now) script next.command here old.total old.invariant.sum c.in_default-charged.ensures.none,
-    )
+    let here = read_more c.args.declared.now c.args.worker c.args.cpus (cut c.args.text.now) (cut c.in-Some.commands.now) (cut old.rest.now) (cut next.after.now) script next.command c.in-Some.ensures.found old.invariant.begins next.ensures.found next.ensures.within in
+    record {
+      ok = tt;
+      spent = tt;
+      forked = tt;
+      few = tt;
+      put = tt;
+      refused = (
+        refl,
+        refl,
+        refl,
+        none_over_budget c.args.declared.now c.args.worker c.args.cpus c.args.spent c.args.forked.now (cut c.args.text.now) script next.command here old.total old.invariant.sum c.in_default-charged.ensures.none,
+      );
+    }
 
-pub returns-then-not-are_few-clause-refused : goal.returns-then-not-are_few-clause-refused
-returns-then-not-are_few-clause-refused c =
+pub returns-then-not-are_few : goal.returns-then-not-are_few
+returns-then-not-are_few c =
     let old = c.loop-command in
     let next = c.in-Some-next_command in
     let script = slice_index_or old.scripts c.args.worker [] in
-    let here = read_more c.args.declared.now c.args.worker c.args.cpus (cut c.args.text.now) (cut c.in-Some.commands.now) (cut old.rest.now) (cut next.after.now) script next.command c.in-Some.ensures.found old.invariant.begins next.ensures.found next.ensures.within in (
-      refl,
-      refl,
-      refl,
-      none_over_ticks c.args.declared.now c.args.worker c.args.cpus c.args.spent c.args.forked.now (cut c.args.text.now) script next.command here (old.ticks + c.ticks_of-ticks.result)
-          (ap (λ n. n + c.ticks_of-ticks.result) old.invariant.ticks ∙ ap (λ n. count_by is_tick script + n) c.ticks_of-ticks.ensures.ticks)
-          (sym c.are_few.ensures ∙ c.if-not-are_few.true),
-    )
+    let here = read_more c.args.declared.now c.args.worker c.args.cpus (cut c.args.text.now) (cut c.in-Some.commands.now) (cut old.rest.now) (cut next.after.now) script next.command c.in-Some.ensures.found old.invariant.begins next.ensures.found next.ensures.within in
+    record {
+      ok = tt;
+      spent = tt;
+      forked = tt;
+      few = tt;
+      put = tt;
+      refused = (
+        refl,
+        refl,
+        refl,
+        none_over_ticks c.args.declared.now c.args.worker c.args.cpus c.args.spent c.args.forked.now (cut c.args.text.now) script next.command here (old.ticks + c.ticks_of-ticks.result)
+            (ap (λ n. n + c.ticks_of-ticks.result) old.invariant.ticks ∙ ap (λ n. count_by is_tick script + n) c.ticks_of-ticks.ensures.ticks)
+            (sym c.are_few.ensures ∙ c.if-not-are_few.true),
+      );
+    }
 
-pub returns-in_err-note_fork-clause-refused : goal.returns-in_err-note_fork-clause-refused
-returns-in_err-note_fork-clause-refused c =
+pub returns-in_err-note_fork : goal.returns-in_err-note_fork
+returns-in_err-note_fork c =
     let old = c.loop-command in
     let next = c.in-Some-next_command in
     let script = slice_index_or old.scripts c.args.worker [] in
     let here = read_more c.args.declared.now c.args.worker c.args.cpus (cut c.args.text.now) (cut c.in-Some.commands.now) (cut old.rest.now) (cut next.after.now) script next.command c.in-Some.ensures.found old.invariant.begins next.ensures.found next.ensures.within in
     let p = err_from_is_err_and c.from_residual.result c.from_residual.ensures.1 in
-    rw (p.1, p.2) (refused_from _ _ _ c.in_err-note_fork.ensures.refused
-    (none_over_forks c.args.declared.now c.args.worker c.args.cpus c.args.spent c.args.forked.now (cut c.args.text.now) script next.command here old.forked old.invariant.noted))
+    rw (p.1, p.2) (record {
+      ok = tt;
+      spent = tt;
+      forked = tt;
+      few = tt;
+      put = tt;
+      refused = refused_from _ _ _ c.in_err-note_fork.ensures.refused
+          (none_over_forks c.args.declared.now c.args.worker c.args.cpus c.args.spent c.args.forked.now (cut c.args.text.now) script next.command here old.forked old.invariant.noted);
+    })
 
 pub loop-command-preserved : goal.loop-command-preserved
 loop-command-preserved c =
@@ -74,3 +97,20 @@ loop-command-preserved c =
       once = rw noted (c.in_ok-note_fork.ensures.fresh old.invariant.once);
       room = rw noted (omega (arith, length-append old.forked (forked_by next.command), forks-le c.args.worker c.args.cpus next.command, old.invariant.room, c.in-Some-charged.ensures.sum));
     }
+
+pub returns : goal.returns
+returns c =
+    let end = c.loop-command in
+    let inv = end.invariant in
+    record {
+      ok = script_taken c.args.declared.now c.args.worker c.args.cpus c.args.spent c.args.forked.now (cut c.args.text.now) (cut c.in-Some.commands.now) (cut end.rest.now) (slice_index_or end.scripts c.args.worker []) end.total end.ticks end.forked
+          c.in-Some.ensures.found inv.begins inv.sum inv.within inv.ticks inv.few inv.noted inv.once c.in_default-next_command.ensures.none;
+      spent = inv.sum;
+      forked = inv.noted;
+      few = inv.room;
+      put = inv.put;
+      refused = tt;
+    }
+
+pub returns-then-is_err : goal.returns-then-is_err
+returns-then-is_err c = record { ok = tt; spent = tt; forked = tt; few = tt; put = tt; refused = tt }
