@@ -1,5 +1,6 @@
 pub mod HandLaws
 pub mod FirstLock
+pub mod ChangeSteps
 pub mod WorldLaws
 pub mod StartingLaws
 pub mod FinalLaws

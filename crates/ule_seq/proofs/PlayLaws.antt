@@ -1,10 +1,10 @@
 -- How a player goes on: courses, and the plays that turns reach.
-use Rattle.std.proofs.Common.{◌≡◌, Bool, true, false, ◌==◌, ℕ, zero, suc, ◌+◌, ◌^◌, ◌<◌, ◌≤◌, List, [], ◌∷◌, ◌++◌, length, take, drop, map, slice_get, slice_set, slice_index_or, Option, Some, None, option_and_then, if◌then◌else◌, refl, sym, ◌∙◌, ap, subst, arith}
+use Rattle.std.proofs.Common.{◌≡◌, Bool, true, false, ◌==◌, ℕ, zero, suc, ◌+◌, ◌-◌, ◌^◌, ◌<◌, ◌≤◌, List, [], ◌∷◌, ◌++◌, length, take, drop, map, get_or, slice_get, slice_set, slice_index_or, Option, Some, None, option_and_then, if◌then◌else◌, refl, sym, ◌∙◌, ap, subst, arith}
 use Rattle.std.specs.List.{enumerate_from}
 use Rattle.std.proofs.lemmas.Bool.{false≢true}
 use Rattle.std.proofs.lemmas.List.{drop_all, length-map, length-take-le, length_push, take_more}
 use Rattle.std.proofs.lemmas.List.FromFn.{length-enumerate_from}
-use Rattle.std.proofs.lemmas.Option.{none-some, same_Some}
+use Rattle.std.proofs.lemmas.Option.{none-some, same_Some, slice_get-get_or}
 use Rattle.ule_types.specs.Form.{IsOfForm}
 use Rattle.ule_types.specs.Outcome.{OutcomeValue}
 use Rattle.ule_types.specs.declared.command.Command.{Command}
@@ -27,7 +27,7 @@ use Rattle.ule_model.specs.Rounds.{Play, after_item, after_step, entry_of, great
 use Rattle.ule_model.specs.Start.{starting_time, world_at_start}
 use Rattle.ule_model.specs.Step.{step}
 use Rattle.ule_model.specs.World.{World}
-use Rattle.ule_model.specs.WorldValue.{CanStep, Shows, WorldValue, holder_in}
+use Rattle.ule_model.specs.WorldValue.{CanStep, Shows, Steps, WorldValue, holder_in}
 use Rattle.ule_laws.proofs.TellLaws.{holder_shown}
 use Rattle.ule_rounds.proofs.HistoryLaws.{history_of_rounds}
 use Rattle.ule_rounds.proofs.Keeping.{IsUnderWay, advance_within, has_next, left_performed, possible, time_below, under_way_opening, under_way_turn}
@@ -326,6 +326,32 @@ pub turn_item : (s : Setup) (v : PlayerValue) (p : Play) (worker : ℕ) (i : Ite
 turn_item s v p worker i ahead at =
     ap (λ (o : Option program.Course). after_step worker (option_and_then next_step o) p) (turn_got s v p worker i ahead at) ∙
     ap (λ (o : Option (Item × program.Course)). after_step worker o p) at.next
+
+-- a player whose world stepped, in which the worker's course was settled and the entry was noted, performed the event
+pub event_performed : (before old : PlayerValue) (world : WorldValue) (noted : OutcomeValue) (worker i : ℕ) (e : Event) (ahead : Ahead) (reply : Reply) (course made : Course) →
+    before ≡ old → Steps before.world worker e before.now world reply → i ≡ worker → worker < length old.courses → course ≡ get_or before.courses i course →
+    made ≡ settled course ahead (Some (reply, before.now)) →
+    noted ≡ record before.outcome {
+      entries = before.outcome.entries ++ record { worker = worker; event = e; now = before.now; reply = reply } ∷ [];
+      room = before.outcome.room - 1;
+    } →
+    IsPerformed old worker e ahead (record { world = world; courses = slice_set before.courses i made; now = before.now; outcome = noted })
+event_performed before old world noted worker i e ahead reply course made view steps from within at is note =
+    subst (λ (v : PlayerValue). IsPerformed v worker e ahead (record { world = world; courses = slice_set before.courses i made; now = before.now; outcome = noted })) view
+    (record {
+      reply = reply;
+      steps = steps;
+      courses =
+          ap (λ (n : ℕ). slice_set before.courses n made) from ∙ ap (slice_set before.courses worker) is ∙
+          ap (settled_in before.courses worker ahead (Some (reply, before.now))) (sym there);
+      now = refl;
+      outcome = note;
+    })
+  where
+    there : slice_get before.courses worker ≡ Some course
+    there =
+        slice_get-get_or before.courses worker course (subst (λ (v : PlayerValue). worker < length v.courses) (sym view) within) ∙
+        ap Some (sym (at ∙ ap (λ (n : ℕ). get_or before.courses n course) from))
 
 -- the play after a turn in which the worker's event was performed
 pub turn_performed : (s : Setup) (v new : PlayerValue) (p : Play) (worker : ℕ) (e : Event) (ahead : Ahead) → IsAtTurn s v p worker (item.Event e) ahead →

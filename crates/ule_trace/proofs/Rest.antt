@@ -1,12 +1,15 @@
 -- What is left of a trace's text while its lines are spelled one after another.
-use Rattle.std.proofs.Common.{◌≡◌, ℕ, ◌+◌, ◌<◌, ◌≤◌, List, ◌++◌, length, get_or, drop, map, Some, refl, ap, arith}
+use Rattle.std.proofs.Common.{◌≡◌, ℕ, ◌+◌, ◌<◌, ◌≤◌, List, ◌++◌, length, get_or, drop, map, Some, Ok, refl, ap, subst, arith}
 use Rattle.std.specs.Prelude.{slice_get}
 use Rattle.std.proofs.lemmas.List.{drop_more, drop_all}
 use Rattle.std.proofs.lemmas.Option.{slice_get_within, get_or_from_slice_get}
 use Rattle.ule_score.specs.declared.record.CpuLine.{CpuLine}
+use Rattle.ule_io.specs.Sink.{SinkState}
+use Rattle.ule_trace.proofs.Progress.{Holds, made_room, spelled}
+use Rattle.ule_trace.specs.Held.{Moves}
 use Rattle.ule_trace.specs.Line.{line_text, lines_text}
 use Rattle.ule_trace.specs.FinalText.{final_words, cpu_words}
-use Rattle.ule_trace.specs.Trace.{entry_words, entry_lines, cpu_lines, closing_lines}
+use Rattle.ule_trace.specs.Trace.{entry_words, entry_lines, cpu_lines, closing_lines, trace_text}
 use Rattle.ule_types.specs.declared.event.Entry.{Entry}
 use Rattle.ule_types.specs.declared.outcome.ThreadLine.{ThreadLine}
 use Rattle.ule_types.specs.Outcome.{OutcomeValue}
@@ -51,3 +54,27 @@ cpu_next o lines k d e within =
 -- behind the last CPU line come the closing lines
 pub cpus_end : (o : OutcomeValue) (k : ℕ) → length o.cpus ≤ k → after_cpus o k ≡ lines_text (closing_lines o.now (length o.entries))
 cpus_end o k past = rw (drop_all k o.cpus past) refl
+
+-- ---- what goes out line by line
+
+-- there is room for the next entry's line, and it is spelled
+pub entry_spelled : {old mid new : SinkState} {held left : List ℕ} (o : OutcomeValue) (k : ℕ) (e : Entry) → slice_get o.entries k ≡ Some e →
+    Holds old mid held (after_entries o k) (trace_text o) → Moves mid new held left (Ok tt) →
+    Holds old new (left ++ line_text (entry_words (k + 1) e)) (after_entries o (k + 1)) (trace_text o)
+entry_spelled o k e got h m = spelled (line_text (entry_words (k + 1) e)) (after_entries o (k + 1)) (made_room h m) (entry_next o k e got)
+
+-- there is room for the next thread line, and it is spelled
+pub thread_spelled : {old mid new : SinkState} {held left : List ℕ} (o : OutcomeValue) (k : ℕ) (l : ThreadLine) → k < length o.threads → l ≡ get_or o.threads k l →
+    Holds old mid held (after_threads o k) (trace_text o) → Moves mid new held left (Ok tt) →
+    Holds old new (left ++ line_text (final_words l)) (after_threads o (k + 1)) (trace_text o)
+thread_spelled o k l within read h m = spelled (line_text (final_words l)) (after_threads o (k + 1)) (made_room h m) (thread_next o k l within read)
+
+-- all entries are spelled
+pub entries_spelled : {old new : SinkState} {held : List ℕ} (o : OutcomeValue) (k : ℕ) → length o.entries ≤ k →
+    Holds old new held (after_entries o k) (trace_text o) → Holds old new held (after_threads o 0) (trace_text o)
+entries_spelled {old} {new} {held} o k past h = subst (λ (rest : List ℕ). Holds old new held rest (trace_text o)) (entries_end o k past) h
+
+-- all thread lines are spelled
+pub threads_spelled : {old new : SinkState} {held : List ℕ} (o : OutcomeValue) (k : ℕ) → length o.threads ≤ k →
+    Holds old new held (after_threads o k) (trace_text o) → Holds old new held (after_cpus o 0) (trace_text o)
+threads_spelled {old} {new} {held} o k past h = subst (λ (rest : List ℕ). Holds old new held rest (trace_text o)) (threads_end o k past) h

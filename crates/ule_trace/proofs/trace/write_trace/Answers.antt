@@ -1,9 +1,9 @@
-use Rattle.std.proofs.Common.{◌≡◌, ◌+◌, ◌-◌, ◌<◌, ◌≤◌, [], ◌∷◌, codes, length, get_or, Some, false, sym, ap, ◌∙◌, refl, arith}
+use Rattle.std.proofs.Common.{◌≡◌, ◌+◌, ◌-◌, ◌<◌, ◌≤◌, [], ◌∷◌, codes, length, get_or, false, sym, ap, ◌∙◌, refl, arith}
 use Rattle.std.specs.Prelude.{slice_get}
 use Rattle.std.proofs.lemmas.List.{append-nil}
 use Rattle.std.proofs.lemmas.Result.{err_from_is_err_and}
 use Rattle.ule_trace.proofs.Progress.{nothing_spelled, spelled, made_room, failed, finished}
-use Rattle.ule_trace.proofs.Rest.{after_entries, entry_next, thread_next, cpu_next, cpus_end}
+use Rattle.ule_trace.proofs.Rest.{after_entries, entry_spelled, entries_spelled, thread_spelled, threads_spelled, cpu_next, cpus_end}
 use Rattle.ule_score.specs.declared.record.CpuLine.{CpuLine}
 use Rattle.ule_trace.specs.Line.{line_text, lines_text}
 use Rattle.ule_trace.specs.Trace.{closing_lines, trace_text}
@@ -22,12 +22,14 @@ returns-in_err-make_room g c =
 
 pub loop-k-preserved : goal.loop-k-preserved
 loop-k-preserved g c =
-    let o = c.args.o.now in
-    let k = c.loop-k.k in
-    let same : k ≡ k + 1 - 1 = omega arith in
-    let got : slice_get o.entries k ≡ Some c.entry.result.now = ap (slice_get o.entries) same ∙ c.entry.ensures in
+    let same : c.loop-k.k ≡ c.loop-k.k + 1 - 1 = omega arith in
     rw (c.spell_entry.ensures, c.from.ensures)
-    (spelled _ _ (made_room c.loop-k.invariant c.in_ok-make_room.ensures.moved) (entry_next o k c.entry.result.now got))
+    (entry_spelled c.args.o.now c.loop-k.k c.entry.result.now (ap (slice_get c.args.o.now.entries) same ∙ c.entry.ensures) c.loop-k.invariant c.in_ok-make_room.ensures.moved)
+
+pub loop-line-init : goal.loop-line-init
+loop-line-init g c =
+    let past : length c.args.o.now.entries ≤ c.loop-k.k = omega arith in
+    entries_spelled c.args.o.now c.loop-k.k past c.loop-k.invariant
 
 pub returns-in_err-make_room-2 : goal.returns-in_err-make_room-2
 returns-in_err-make_room-2 g c =
@@ -36,14 +38,16 @@ returns-in_err-make_room-2 g c =
 
 pub loop-line-preserved : goal.loop-line-preserved
 loop-line-preserved g c =
-    let o = c.args.o.now in
-    let k = c.loop-line.line-index in
-    let line = c.line-item.result in
     let lines = c.threads-line-items.ensures.lines in
-    let within : k < length o.threads = omega (arith, ap length lines) in
-    let read : line ≡ get_or o.threads k line = c.line-item.is ∙ ap (λ ls. get_or ls k line) lines in
+    let within : c.loop-line.line-index < length c.args.o.now.threads = omega (arith, ap length lines) in
+    let read : c.line-item.result ≡ get_or c.args.o.now.threads c.loop-line.line-index c.line-item.result = c.line-item.is ∙ ap (λ ls. get_or ls c.loop-line.line-index c.line-item.result) lines in
     rw c.spell_thread.ensures
-    (spelled _ _ (made_room c.loop-line.invariant c.in_ok-make_room-2.ensures.moved) (thread_next o k line within read))
+    (thread_spelled c.args.o.now c.loop-line.line-index c.line-item.result within read c.loop-line.invariant c.in_ok-make_room-2.ensures.moved)
+
+pub loop-c-init : goal.loop-c-init
+loop-c-init g c =
+    let past : length c.args.o.now.threads ≤ c.loop-line.line-index = omega (arith, ap length c.threads-line-items.ensures.lines) in
+    threads_spelled c.args.o.now c.loop-line.line-index past c.loop-line.invariant
 
 pub returns-in_err-make_room-3 : goal.returns-in_err-make_room-3
 returns-in_err-make_room-3 g c =
