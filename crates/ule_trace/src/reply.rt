@@ -13,16 +13,6 @@ use ule_prio::{Cpu, Kind, Priority, ThreadId};
 use ule_score::Place;
 use ule_types::Reply;
 
-// Appends a keyword alone.
-fn spell_name(held: &mut Held, name: &'static str)
-    requires short { length name.now ≤ 24 }
-    requires room { length held.old + 125 ≤ CAPACITY }
-    ensures text { held.new ≡ held.old ++ spaced (name.now ∷ []) }
-    ensures growth { length held.new ≤ length held.old + 125 }
-{
-    held.words(&[Text(name)]);
-}
-
 // Appends a keyword and the place where a thread stands.
 fn spell_standing(held: &mut Held, name: &'static str, place: Place)
     requires short { length name.now ≤ 24 }
@@ -151,13 +141,13 @@ pub fn spell_reply(held: &mut Held, r: Reply)
 {
     match r {
         Reply::Ticked(current, due, ended) => spell_ticked(held, current, due, ended),
-        Reply::Unmarked => spell_name(held, "unmarked"),
-        Reply::Nothing => spell_name(held, "nothing"),
+        Reply::Unmarked => held.words(&[Text("unmarked")]),
+        Reply::Nothing => held.words(&[Text("nothing")]),
         Reply::Switched(out, into, preempted) => spell_switched(held, out, into, preempted),
         Reply::Dropped(out, into) => {
             held.words(&[Text("dropped"), thread(out), optional_thread(into)])
         }
-        Reply::Bedded => spell_name(held, "bedded"),
+        Reply::Bedded => held.words(&[Text("bedded")]),
         Reply::NotAsleep(place) => spell_standing(held, "notasleep", place),
         Reply::Woken(p, bound, last, last_run) => spell_woken(held, p, bound, last, last_run),
         Reply::Seen(load, movable, low) => spell_seen(held, load, movable, low),
@@ -168,12 +158,12 @@ pub fn spell_reply(held: &mut Held, r: Reply)
             held.words(&[Text("changed"), priority(p), Flag(requeued), Flag(marked)])
         }
         Reply::NotAllowed(place) => spell_standing(held, "notallowed", place),
-        Reply::Hatched => spell_name(held, "hatched"),
+        Reply::Hatched => held.words(&[Text("hatched")]),
         Reply::Forked(parent, p) => held.words(&[Text("forked"), thread(parent), priority(p)]),
-        Reply::Returned => spell_name(held, "returned"),
+        Reply::Returned => held.words(&[Text("returned")]),
         Reply::Exited(out, into, parent, run) => spell_exited(held, out, into, parent, run),
-        Reply::Buried => spell_name(held, "buried"),
-        Reply::ParentGone => spell_name(held, "parentgone"),
+        Reply::Buried => held.words(&[Text("buried")]),
+        Reply::ParentGone => held.words(&[Text("parentgone")]),
     }
 }
 

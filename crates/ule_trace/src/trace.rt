@@ -18,7 +18,7 @@ fn spell_entry(held: &mut Held, k: u64, e: &Entry)
 {
     held.number(k);
     held.words(&[Worker(e.worker), Number(e.now)]);
-    spell_event(held, &e.event);
+    spell_event(held, e.event);
     held.words(&[Text("->")]);
     spell_reply(held, e.reply);
     held.byte(b'\n');
