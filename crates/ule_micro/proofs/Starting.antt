@@ -196,9 +196,9 @@ pushed (Ok x) e items more less is none same = same
 pushed (Err x) e items more less is none same = absurd (true≢false (sym is ∙ none))
 
 -- one more of a list that says this at each place
-pub one_more : {X : Type 0} (say : ℕ → Option X) (n : ℕ) (xs xs' : List X) (x : X) → (length xs ≡ n) × ((k : ℕ) → k < n → slice_get xs k ≡ say k) → say n ≡ Some x → xs' ≡ xs ++ x ∷ []
+pub one_more_said : {X : Type 0} (say : ℕ → Option X) (n : ℕ) (xs xs' : List X) (x : X) → (length xs ≡ n) × ((k : ℕ) → k < n → slice_get xs k ≡ say k) → say n ≡ Some x → xs' ≡ xs ++ x ∷ []
     → (length xs' ≡ n + 1) × ((k : ℕ) → k < n + 1 → slice_get xs' k ≡ say k)
-one_more say n xs xs' x old new is = let c = old.0 in (
+one_more_said say n xs xs' x old new is = let c = old.0 in (
   (let a : length xs' ≡ length (xs ++ x ∷ []) = ap length is in let b = length-append xs (x ∷ []) in omega arith),
   λ k h. ap (λ l. slice_get l k) is ∙ dite (ℕ_discrete k n)
       (λ z. snoc_last xs x k (z ∙ sym c) ∙ (sym new ∙ ap say (sym z)))

@@ -1,5 +1,5 @@
 //! The step model: lock words, threads' words, values, and workers that step one at a time.
-ghost use Rattle.std.specs.Prelude.{◌≡◌, ◌<◌, ◌≤◌, ℕ, length, slice_get, All, None, Some, if◌then◌else◌};
+ghost use Rattle.std.specs.Prelude.{◌≡◌, ◌<◌, ◌≤◌, length, slice_get, All, None, Some, if◌then◌else◌};
 ghost use Rattle.ule_micro.specs.Kept.{IsTurned, WorkerStandsAt, TakesNext, ReleasesNext};
 ghost use Rattle.ule_micro.specs.States.{IsEntry, lock_holder, pending, word_of};
 ghost use Rattle.ule_micro.specs.Theorem.{HasLegalPlay, IsNoStep, IsNotStuck, LockAgreement, WordTellsPlace};

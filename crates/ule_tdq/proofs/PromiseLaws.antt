@@ -349,6 +349,6 @@ chosen_nearest v q Idle t kept real idle batch there nearest = nowhere_nearest (
 
 -- ---- the bucket at the removal index
 
--- a switch that is no preemption leaves it as it was
+-- a switch that is no preemption leaves the bucket at the removal index as it was
 pub switched_ahead : (why : Why) (now : ℕ) (v : CpuValue) → is_preemption why v.line.slice_end ≡ false → LeavesNextBucket v (when_choosing why now v)
 switched_ahead why now v = search rules

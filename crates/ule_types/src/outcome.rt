@@ -1,4 +1,4 @@
-ghost use Rattle.std.specs.Prelude.{◌≡◌, ℕ, ◌+◌, ◌-◌, ◌<◌, ◌≤◌, List, [], ◌∷◌, ◌++◌, length, slice_get, vec_capacity, nat_le, ◌==◌, IfOk, Some};
+ghost use Rattle.std.specs.Prelude.{◌≡◌, ◌+◌, ◌-◌, ◌<◌, ◌≤◌, [], ◌∷◌, ◌++◌, length, slice_get, vec_capacity, nat_le, ◌==◌, IfOk, Some};
 ghost use Rattle.std.specs.List.{position_or_len};
 ghost use Rattle.ule_types.specs.Outcome.{placed, with_cpu, RisesFrom};
 
