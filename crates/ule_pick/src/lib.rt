@@ -1,0 +1,6 @@
+//! The choice of a CPU for a thread, after `sched_pickcpu`.
+#![tactic(auto)]
+
+pub use choice::Card;
+
+pub mod choice;
