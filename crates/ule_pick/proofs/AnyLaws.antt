@@ -1,5 +1,5 @@
 -- The last search always finds a CPU.
-use Rattle.std.proofs.Common.{◌≡◌, ◌-◌, ◌^◌, ◌&&◌, ◌≤◌, ℕ, negsuc, pos, int_lt, nat_le, true, Option, Some, None, List, refl, sym, ◌∙◌, ap, subst, arith}
+use Rattle.std.proofs.Common.{◌≡◌, ◌-◌, ◌^◌, ◌&&◌, ◌≤◌, ℕ, negsuc, pos, int_lt, nat_le, true, Some, List, refl, sym, ◌∙◌, ap, subst, arith}
 use Rattle.std.proofs.lemmas.Bool.{and_from, le-leb, false≢true}
 use Rattle.ule_topo.specs.Looks.{look_at}
 use Rattle.ule_topo.specs.Mask.{all_cpus, has_cpu}

@@ -1,5 +1,5 @@
 -- Worked values of the choice of a CPU, by computing.
-use Rattle.std.proofs.Common.{◌≡◌, ℕ, Option, List, [], ◌∷◌, replicate, Some, None, refl}
+use Rattle.std.proofs.Common.{◌≡◌, ℕ, Option, List, [], ◌∷◌, Some, None, refl}
 use Rattle.ule_topo.specs.Mask.{below, has_cpu}
 use Rattle.ule_topo.specs.Tree.{Tree}
 use Rattle.ule_topo.specs.declared.look.Summary.{Summary}

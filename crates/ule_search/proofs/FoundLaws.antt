@@ -1,5 +1,5 @@
 -- What is found is the best.
-use Rattle.std.proofs.Common.{◌≡◌, ℕ, zero, suc, ◌+◌, ◌<◌, Bool, true, false, List, length, Option, Some, None, IfSome, ℤ, pos, int_lt, nat_le, ◌&&◌, refl, sym, ap, subst, arith, ⊎_elim, if◌then◌else◌}
+use Rattle.std.proofs.Common.{◌≡◌, ℕ, zero, suc, ◌+◌, ◌<◌, Bool, true, false, List, length, Option, Some, None, IfSome, ℤ, pos, int_lt, nat_le, ◌&&◌, refl, sym, subst, arith, ⊎_elim, if◌then◌else◌}
 use Rattle.std.proofs.lemmas.Bool.{and_parts, cases_eq, false_from_ne_true}
 use Rattle.ule_topo.specs.Looks.{look_at}
 use Rattle.ule_topo.specs.Mask.{has_cpu}

@@ -1,12 +1,12 @@
 -- The groups that have a CPU lie inside one another, in their order.
-use Rattle.std.proofs.Common.{◌≡◌, ℕ, zero, suc, ◌+◌, ◌-◌, ◌<◌, ◌≤◌, true, false, Bool, Option, Some, None, List, [], ◌∷◌, ◌++◌, length, refl, sym, ◌∙◌, ap, subst, arith, ⊎_elim, add-one}
+use Rattle.std.proofs.Common.{◌≡◌, ℕ, zero, suc, ◌+◌, ◌-◌, ◌<◌, ◌≤◌, true, false, Bool, Option, Some, None, List, [], ◌∷◌, ◌++◌, length, refl, sym, ◌∙◌, ap, subst, arith, ⊎_elim}
 use Rattle.std.proofs.lemmas.Bool.{cases_eq, cases_order, false_from_ne_true}
 use Rattle.std.proofs.lemmas.List.{reverse-append}
 use Rattle.std.proofs.lemmas.List.Sums.{fold-append}
 use Rattle.std.specs.Prelude.{IfSome, filter, reverse}
 use Rattle.ule_topo.specs.Inside.{IsInside, lies, lies_deeper, BehindIsInside, DeepestIsInnermost, OutwardByParents, outward_from}
 use Rattle.ule_topo.specs.Mask.{below, has_cpu}
-use Rattle.ule_topo.specs.Tree.{IsTree, IsChild, Tree, deepest, group_at, last_group, mask_of, outward, parent_of}
+use Rattle.ule_topo.specs.Tree.{IsTree, IsChild, Tree, group_at, last_group, mask_of, outward, parent_of}
 use Rattle.ule_topo.specs.declared.group.Group.{Group}
 use Rattle.ule_topo.proofs.BelowLaws.{filter_below_gap, filter_below_in, filter_below_none, filter_below_out}
 use Rattle.ule_topo.proofs.MaskLaws.{all_cpus_have, all_cpus_there, has_cpu_outside, meets_with}

@@ -1,5 +1,5 @@
 -- What the code of masks reads and writes.
-use Rattle.std.proofs.Common.{◌≤◌, ◌≡◌, ℕ, ◌+◌, true, false, min, ◌==◌, ◌*◌, ◌%◌, ◌^◌, ◌<◌, not, sym, ◌∙◌, ap, ⊎_elim, arith, eq-eqb, ne_eqb, subst}
+use Rattle.std.proofs.Common.{◌≤◌, ◌≡◌, ℕ, true, false, min, ◌==◌, ◌*◌, ◌%◌, ◌^◌, ◌<◌, not, sym, ◌∙◌, ap, ⊎_elim, arith, eq-eqb, ne_eqb}
 use Rattle.std.proofs.lemmas.Bool.{cases_eq, cases_lt, eqb-true, eqb-false, false_from_ne_true}
 use Rattle.std.proofs.lemmas.Nat.{one_shl, pow_pos}
 use Rattle.std.proofs.lemmas.Nat.Bits.{and_pow, bit_at-lt, bit_at-zero, bit_at_and, bit_at_clear_same, bit_at_ones, bit_at_ones_above}

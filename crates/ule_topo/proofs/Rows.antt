@@ -3,7 +3,7 @@ use Rattle.std.proofs.Common.{◌≡◌, ℕ, Option, Some, None, Ok, Err, List,
 use Rattle.ule_topo.specs.Build.{built, built_behind, group_of_line}
 use Rattle.ule_topo.specs.Faults.{code_of_fault}
 use Rattle.ule_topo.specs.Mask.{below, has_cpu, is_inside, meets, without_cpu}
-use Rattle.ule_topo.specs.Tree.{Tree, deepest, outward}
+use Rattle.ule_topo.specs.Tree.{deepest, outward}
 use Rattle.ule_topo.specs.declared.group.Group.{Group}
 use Rattle.ule_topo.specs.declared.group.GroupLine.{GroupLine}
 use Rattle.ule_topo.specs.declared.fault.TopoFault.TheVariants.{NoRoot, BadParent, OutsideParent, Overlap, TooDeep, BadId}

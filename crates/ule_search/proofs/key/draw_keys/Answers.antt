@@ -1,7 +1,6 @@
 use Rattle.std.proofs.Common.{◌≡◌, ℕ, ℤ, ◌+◌, ◌*◌, arith, rules, ◌∙◌, ap, refl, map, replicate, pos, ◌-ℤ◌, subst, take, w64, SFits, length-set}
 use Rattle.std.proofs.lemmas.Int.{to_z-of_z}
 use Rattle.ule_topo.specs.Mask.{below}
-use Rattle.ule_topo.specs.declared.look.Summary.{Summary}
 use Rattle.ule_search.specs.Jitter.{draw_of_word, stepped_word}
 use Rattle.ule_search.specs.Search.{key_of}
 use Rattle.ule_search.proofs.KeyLaws.{fit_more, key_made, noted_more, noted_none, word_more, word_none}

@@ -1,4 +1,4 @@
-use Rattle.std.proofs.Common.{◌≡◌, ℕ, ℤ, List, length, Bool, ◌∙◌, ap, arith, to_z, of_z, w16}
+use Rattle.std.proofs.Common.{ℕ, ℤ, List, length, Bool, ◌∙◌, ap, arith, to_z, of_z, w16}
 use Rattle.std.proofs.lemmas.Int.{to_z-of_z}
 use Rattle.ule_search.specs.Search.{best_cpu, comes_first, may_be_lowest, rank_up}
 use Rattle.ule_search.proofs.BestLaws.{kept_all, kept_in, kept_none, kept_out}

@@ -1,6 +1,4 @@
-use Rattle.std.proofs.Common.{◌≡◌, ◌*◌, ◌%◌, ◌^◌, ℕ, false, subst, arith, bit_and}
-use Rattle.std.specs.Int.{bit_not, w16}
-use Rattle.ule_topo.specs.Mask.{has_cpu}
+use Rattle.std.proofs.Common.{arith}
 use Rattle.ule_topo.proofs.MaskLaws.{without_cpu_read, without_cpu_same, without_cpu_rest}
 use Rattle.ule_topo.proofs.mask.without_cpu.Goals as goal
 

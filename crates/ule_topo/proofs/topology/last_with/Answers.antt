@@ -1,4 +1,4 @@
-use Rattle.std.proofs.Common.{rules, ◌≡◌, ◌∙◌, true, false, ap, sym, refl, Bool, ℕ, arith}
+use Rattle.std.proofs.Common.{rules, ◌≡◌, ◌∙◌, ap, sym, refl, Bool, ℕ, arith}
 use Rattle.std.proofs.lemmas.List.{get_or_default}
 use Rattle.ule_topo.specs.Mask.{below, has_cpu}
 use Rattle.ule_topo.specs.Tree.{group_at, no_group}

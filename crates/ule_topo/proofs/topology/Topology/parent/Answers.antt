@@ -1,4 +1,4 @@
-use Rattle.std.proofs.Common.{rules, ◌≡◌, ◌∙◌, ap, ℕ, Option, List}
+use Rattle.std.proofs.Common.{◌≡◌, ap, List}
 use Rattle.std.proofs.lemmas.List.{get_or_default}
 use Rattle.ule_topo.specs.Tree.{group_at, no_group}
 use Rattle.ule_topo.specs.declared.group.Group.{Group}
