@@ -1,5 +1,5 @@
 -- The start: an empty world in which each declared thread is queued, in order.
-use Rattle.std.specs.Prelude.{ℕ, ◌+◌, ◌*◌, ◌/◌, ◌%◌, ◌^◌, ℤ, pos, [], ◌∷◌, ◌++◌, fold, replicate, slice_set, Some, None, if◌then◌else◌}
+use Rattle.std.specs.Prelude.{ℕ, ◌+◌, ◌/◌, ◌%◌, ◌^◌, ℤ, pos, [], ◌∷◌, ◌++◌, fold, replicate, slice_set, Some, None, if◌then◌else◌}
 use Rattle.ule_history.specs.declared.CpuUse.{CpuUse}
 use Rattle.ule_history.specs.declared.History.{History}
 use Rattle.ule_prio.specs.declared.class.Class.{Class}
@@ -9,6 +9,7 @@ use Rattle.ule_score.specs.declared.place.Place.TheVariants.{Unborn}
 use Rattle.ule_score.specs.declared.record.CpuLine.{CpuLine}
 use Rattle.ule_score.specs.declared.record.Settings.{Settings}
 use Rattle.ule_score.specs.declared.record.ThreadRecord.{ThreadRecord}
+pub use Rattle.ule_search.specs.Jitter.{stepped_word}
 use Rattle.ule_types.specs.declared.setup.Form.{Form}
 use Rattle.ule_types.specs.declared.setup.Form.TheVariants.{Ts, Ithd, Rt, Fifo, Idle}
 use Rattle.ule_types.specs.declared.setup.Setup.{Setup}
@@ -102,10 +103,6 @@ laid w spec = with_side spec.cpu (laid_on spec.cpu (record_of w.settings spec) (
 -- the world with an unborn thread
 abbrev pub with_unborn : World → ℕ → World
 with_unborn w t = record w { members = w.members ++ unborn_member (unborn_record t) ∷ [] }
-
--- jitter: the word after a step
-abbrev pub stepped_word : ℕ → ℕ
-stepped_word x = (x * 69069 + 5) % 2 ^ 32
 
 -- CPU 0's balance word after its first step, and the count that it gives
 abbrev pub first_balance_word : ℕ → ℕ

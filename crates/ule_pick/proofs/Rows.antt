@@ -8,10 +8,11 @@ use Rattle.ule_search.specs.Search.{best_cpu, comes_first, key_of, may_be_lowest
 use Rattle.ule_pick.specs.Choice.{pick}
 use Rattle.ule_pick.specs.declared.choice.Card.{Card}
 
--- one CPU, and two in a root
+-- one CPU alone
 abbrev one : Tree
 one = record { cpus = 1; groups = record { id = 0; parent = None; cpus = 1; depth = 1 } ∷ [] }
 
+-- two CPUs in a root
 abbrev pair : Tree
 pair = record { cpus = 2; groups = record { id = 0; parent = None; cpus = 3; depth = 1 } ∷ [] }
 
@@ -23,13 +24,15 @@ card bound = record { priority = 172; bound = bound; last = 0; last_run = 20001 
 abbrev seen : ℕ → ℕ → Summary
 seen load lowpri = record { load = load; movable = 0; lowpri = lowpri }
 
--- both CPUs idle; CPU 0 with a better thread and CPU 1 idle; both with a better and a worse thread
+-- both CPUs idle
 abbrev idle : List Summary
 idle = seen 0 255 ∷ seen 0 255 ∷ []
 
+-- CPU 0 with a better thread, CPU 1 idle
 abbrev busy : List Summary
 busy = seen 1 20 ∷ seen 0 255 ∷ []
 
+-- CPU 0 with a better thread, CPU 1 with a worse one
 abbrev full : List Summary
 full = seen 1 20 ∷ seen 1 200 ∷ []
 

@@ -1,8 +1,9 @@
-ghost use Rattle.std.specs.Prelude.{◌≡◌, ℕ, ◌<◌, ◌≤◌, ◌↔◌, false, IsTrue, [], replicate, All, IfOk, IsNone, IfSome, OnSome};
-ghost use Rattle.ule_runq.specs.Runq.{AreEmptyBelow, IsRunq, is_empty_at, with_tail, with_head, without, times, first_from, IsFirstFrom, is_eligible, first_allowed, bucket_in, place_in};
+ghost use Rattle.std.specs.Prelude.{◌≡◌, ℕ, ◌+◌, ◌%◌, ◌<◌, ◌≤◌, ◌↔◌, false, IsTrue, [], replicate, length, find, All, IfOk, IsNone, IfSome, OnSome};
+ghost use Rattle.ule_runq.specs.Links.{SpellsLists, ReadsAs};
+ghost use Rattle.ule_runq.specs.Runq.{IsRunq, list_at, is_empty_at, with_tail, with_head, without, times, first_from, IsFirstFrom, is_eligible, first_allowed, bucket_in, place_in};
 ghost use Rattle.ule_runq.specs.Set.{has};
 
-use crate::bucket::Bucket;
+use crate::links::{Links, NONE, THREADS};
 use crate::set::ThreadSet;
 use std::alloc::Global;
 use std::marker::Model;
@@ -16,22 +17,28 @@ pub const RQ_NQS: u8 = 64;
 /// twice and room for all 256.
 #[derive(Drop)]
 pub struct Runq {
-    buckets: Vec<Bucket>,
-    /// A bucket below which none has a thread, so that no search begins below it; `RQ_NQS` where no
-    /// bucket has one.
-    lowest: u8,
+    links: Box<Links>,
 }
 
 impl Model for Runq {
-    ghost use Rattle.std.specs.Prelude.{List, ℕ, ◌≤◌};
-    ghost use Rattle.ule_runq.specs.Runq.{AreEmptyBelow, IsRunq};
-    ghost use Rattle.ule_runq.specs.declared.runq.TheConstants.{RQ_NQS};
+    ghost use Rattle.std.specs.Prelude.{List, ℕ};
+    ghost use Rattle.ule_runq.specs.Links.{SpellsLists, lists_of};
 
     ghost Value = { List (List ℕ) };
 
-    ghost view = { λ q. q.buckets.items };
+    ghost view = { λ q. lists_of q.links.value };
 
-    ghost invariant = { λ q. IsRunq q.buckets.items × (q.lowest ≤ RQ_NQS) × AreEmptyBelow q.buckets.items q.lowest };
+    ghost invariant = { λ q. SpellsLists q.links.value (lists_of q.links.value) };
+}
+
+// Whether `t` is in the set and isn't the thread to be skipped.
+fn is_eligible(t: ThreadId, allowed: &ThreadSet, skip: &Option<ThreadId>) -> bool
+    ensures { result ≡ is_eligible (has allowed.now) skip.now t }
+{
+    match skip {
+        None => allowed.has(t),
+        Some(skipped) => allowed.has(t) && t != *skipped,
+    }
 }
 
 impl Runq {
@@ -39,16 +46,10 @@ impl Runq {
     pub fn empty(alloc: Global) -> Result<Runq, Memory>
         ensures { IfOk result (λ q. q ≡ replicate RQ_NQS []) }
     {
-        let mut buckets = Vec::with_capacity(alloc, usize::from(RQ_NQS))?;
-        for _ in 0..RQ_NQS {
-            if buckets.push(Bucket::empty(alloc)?).is_err() {
-                return Err(Memory);
-            }
+        match Box::new(alloc, Links::empty()) {
+            Ok(links) => Ok(Runq { links }),
+            Err(_) => Err(Memory),
         }
-        Ok(Runq {
-            buckets,
-            lowest: RQ_NQS,
-        })
     }
 
     /// Puts `t` behind the threads of bucket `b`, after `runq_add`.
@@ -59,10 +60,9 @@ impl Runq {
         ensures whole { IsRunq self.new }
         ensures number { t < 256 }
     {
-        let _number = t.0; // so that it is known to be below 256
-        let bucket = &mut self.buckets[usize::from(b)];
-        bucket.push_tail(t);
-        self.lowest = self.lowest.min(b);
+        let links = &mut *self.links;
+        let last = links.tail[usize::from(b)];
+        links.link_in(b, last, t.0, NONE);
     }
 
     /// Puts `t` before the threads of bucket `b`, after `runq_add` of a preempted thread.
@@ -73,10 +73,9 @@ impl Runq {
         ensures whole { IsRunq self.new }
         ensures number { t < 256 }
     {
-        let _number = t.0; // so that it is known to be below 256
-        let bucket = &mut self.buckets[usize::from(b)];
-        bucket.push_head(t);
-        self.lowest = self.lowest.min(b);
+        let links = &mut *self.links;
+        let first = links.head[usize::from(b)];
+        links.link_in(b, NONE, t.0, first);
     }
 
     /// Takes `t` out and says from which bucket, after `runq_remove`.
@@ -86,24 +85,22 @@ impl Runq {
         ensures rest { self.new ≡ without t self.old }
         ensures whole { IsRunq self.new }
     {
-        let (b, position) = self.find(t).unwrap();
-        let bucket = &mut self.buckets[usize::from(b)];
-        bucket.remove(usize::from(position));
-        self.lowest = self.lowest_used();
+        let links = &mut *self.links;
+        let b = links.bucket[usize::from(t.0)] as u8;
+        links.link_out(b, t.0);
         b
     }
 
-    // The lowest bucket that has a thread, and `RQ_NQS` where none has one.
-    fn lowest_used(&self) -> u8
+    // How many empty buckets come from bucket `b` on, going round: `RQ_NQS` where all are empty.
+    fn empty_from(&self, b: u8) -> u8
+        requires { b < RQ_NQS }
         ensures within { result ≤ RQ_NQS }
-        ensures below { AreEmptyBelow self.now result }
+        ensures before { (j : ℕ) → j < result → list_at self.now ((b + j) % RQ_NQS) ≡ [] }
+        ensures behind { result < RQ_NQS → 0 < length (list_at self.now ((b + result) % RQ_NQS)) }
+        ensures whole { IsRunq self.now }
     {
-        for b in self.lowest..RQ_NQS {
-            if !self.buckets[usize::from(b)].is_empty() {
-                return b;
-            }
-        }
-        RQ_NQS
+        let turned = self.links().status.rotate_right(u32::from(b));
+        turned.trailing_zeros() as u8
     }
 
     /// The first thread from bucket `b` on, and round to it, with its bucket, after
@@ -116,13 +113,13 @@ impl Runq {
         ensures nearest { IfSome result (λ p. IsFirstFrom self.now b p.0 p.1) }
         ensures whole { IsRunq self.now }
     {
-        for step in self.lowest.saturating_sub(b)..RQ_NQS {
-            let bucket = (b + step) % RQ_NQS;
-            if let Some(t) = self.buckets[usize::from(bucket)].first() {
-                return Some((bucket, t));
-            }
+        let step = self.empty_from(b);
+        if step == RQ_NQS {
+            return None;
         }
-        None
+        let bucket = (b + step) % RQ_NQS;
+        let first = self.links().head[usize::from(bucket)];
+        Some((bucket, ThreadId(first as u8)))
     }
 
     /// The first thread from bucket `b` on, and round to it, that is in `allowed` and isn't `skip`,
@@ -141,11 +138,36 @@ impl Runq {
         ensures allowed { IfSome result (λ t. IsTrue (is_eligible (has allowed.now) skip t)) }
         ensures whole { IsRunq self.now }
     {
-        for step in self.lowest.saturating_sub(b)..RQ_NQS {
+        for step in self.empty_from(b)..RQ_NQS {
             let at = (b + step) % RQ_NQS;
-            if let Some(t) = self.buckets[usize::from(at)].first_allowed(allowed, &skip) {
+            if let Some(t) = self.first_allowed_in(at, allowed, &skip) {
                 return Some(t);
             }
+        }
+        None
+    }
+
+    // The first thread of bucket `b` that is in `allowed` and isn't `skip`.
+    fn first_allowed_in(
+        &self,
+        b: u8,
+        allowed: &ThreadSet,
+        skip: &Option<ThreadId>,
+    ) -> Option<ThreadId>
+        requires { b < RQ_NQS }
+        ensures { result ≡ find (is_eligible (has allowed.now) skip.now) (list_at self.now b) }
+    {
+        let links = self.links();
+        let mut at = links.head[usize::from(b)];
+        for _ in 0..THREADS {
+            if at == NONE {
+                return None;
+            }
+            let t = ThreadId(at as u8);
+            if is_eligible(t, allowed, skip) {
+                return Some(t);
+            }
+            at = links.next[usize::from(at)];
         }
         None
     }
@@ -156,7 +178,17 @@ impl Runq {
         ensures value { result ≡ is_empty_at self.now b }
         ensures whole { IsRunq self.now }
     {
-        self.buckets[usize::from(b)].is_empty()
+        self.links().head[usize::from(b)] == NONE
+    }
+
+    /// The tables that the queue keeps. They spell its lists, forward from each head and backward
+    /// from each tail.
+    pub fn links(&self) -> &Links
+        ensures spells { SpellsLists result.now self.now }
+        ensures read { ReadsAs result.now self.now }
+        ensures whole { IsRunq self.now }
+    {
+        &self.links
     }
 
     /// The bucket in which `t` waits, and its position there, where the head has position 0.
@@ -167,10 +199,17 @@ impl Runq {
         ensures within { IfSome result (λ at. (at.0 < RQ_NQS) × (at.1 < 256)) }
         ensures whole { IsRunq self.now }
     {
-        for b in self.lowest..RQ_NQS {
-            if let Some(position) = self.buckets[usize::from(b)].position(t) {
-                return Some((b, position as u16));
+        let links = self.links();
+        let b = links.bucket[usize::from(t.0)];
+        if b == NONE {
+            return None;
+        }
+        let mut at = links.head[usize::from(b)];
+        for position in 0..THREADS {
+            if at == u16::from(t.0) {
+                return Some((b as u8, position));
             }
+            at = links.next[usize::from(at)];
         }
         None
     }

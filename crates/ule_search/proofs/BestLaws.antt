@@ -30,10 +30,12 @@ module _ (before : List ℤ → List ℤ → Bool) (rank : ℕ → List ℤ) (pa
   Kept n = found_with_rank rank (best_cpu before rank passes n)
 
   -- the better of two CPUs, with their lists
-  better_found : (found n : ℕ) (b : Bool) → found_with_rank rank (if b then Some n else Some found) ≡ (if b then Some (with_rank rank n) else Some (with_rank rank found))
+  better_found : (found n : ℕ) (b : Bool) →
+      found_with_rank rank (if b then Some n else Some found) ≡ (if b then Some (with_rank rank n) else Some (with_rank rank found))
   better_found found n true = refl
   better_found found n false = refl
 
+  -- the better of two, with their lists, is the better of two with its list
   better_with_rank : (o : Option ℕ) (n : ℕ) → better_ranked before (found_with_rank rank o) (with_rank rank n) ≡ found_with_rank rank (better_cpu before rank o n)
   better_with_rank None n = refl
   better_with_rank (Some found) n = sym (better_found found n (before (rank n) (rank found)))
@@ -53,6 +55,7 @@ module _ (before : List ℤ → List ℤ → Bool) (rank : ℕ → List ℤ) (pa
   pub kept_out : (n : ℕ) (kept new : Option Ranked) (b : Bool) → kept ≡ Kept n → b ≡ passes n → b ≡ false → new ≡ kept → new ≡ Kept (n + 1)
   kept_out n kept new b so_far test is_out same = same ∙ so_far ∙ ap (found_with_rank rank) (sym (best_skip n (sym test ∙ is_out)))
 
+  -- the CPU of a CPU with its list
   named : (o : Option ℕ) → ranked_cpu (found_with_rank rank o) ≡ o
   named None = refl
   named (Some c) = refl

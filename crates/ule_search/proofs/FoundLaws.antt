@@ -19,6 +19,7 @@ pub record IsOrder (before : List ℤ → List ℤ → Bool) : Type 0 where
 first_order : IsOrder comes_first
 first_order = record { irreflexive = not_before_itself; transitive = before_trans }
 
+-- and the reverse
 last_order : IsOrder comes_last
 last_order = record { irreflexive = not_before_itself; transitive = λ xs ys zs one two. before_trans zs ys xs two one }
 
@@ -70,7 +71,9 @@ module _ (before : List ℤ → List ℤ → Bool) (rank : ℕ → List ℤ) (pa
     first = λ d within. by_last n d (λ e. passes e ≡ true → before (rank e) (rank c) ≡ false) within (b.first d) (λ fits. no_less);
   }
 
-  finds_better : (n c : ℕ) → passes n ≡ true → IsBest before rank passes n c → (b : Bool) → before (rank n) (rank c) ≡ b → Finds (n + 1) (if b then Some n else Some c)
+  -- it takes the place of the one that was found, or not
+  finds_better : (n c : ℕ) → passes n ≡ true → IsBest before rank passes n c → (b : Bool) → before (rank n) (rank c) ≡ b →
+      Finds (n + 1) (if b then Some n else Some c)
   finds_better n c fit is true less = finds_new n c fit is less
   finds_better n c fit is false no_less = finds_old n c is no_less
 
@@ -79,6 +82,7 @@ module _ (before : List ℤ → List ℤ → Bool) (rank : ℕ → List ℤ) (pa
   finds_in n fit None none = finds_first n fit none
   finds_in n fit (Some c) b = finds_better n c fit b (before (rank n) (rank c)) refl
 
+  -- the next CPU passes or not
   finds_next : (n : ℕ) (b : Bool) → passes n ≡ b → Finds n (best_cpu before rank passes n) → Finds (n + 1) (best_cpu before rank passes (n + 1))
   finds_next n true fit so_far = subst (Finds (n + 1)) (sym (best_more before rank passes n fit)) (finds_in n fit (best_cpu before rank passes n) so_far)
   finds_next n false out so_far = subst (Finds (n + 1)) (sym (best_skip before rank passes n out)) (finds_out n out (best_cpu before rank passes n) so_far)
@@ -126,13 +130,16 @@ highest_in group mask looks at_least c is =
 abbrev pub IsOf : ℕ → ℕ → Option ℕ → Type 0
 IsOf n mask o = IfSome o (λ c. (c < n) × (has_cpu mask c ≡ true))
 
+-- what is found as the lowest is a CPU of the mask
 pub lowest_there : (t : Tree) (g : ℕ) (looks : List Summary) (mask : ℕ) (above : ℤ) (limit : ℕ) (prefer : Option ℕ) (x n : ℕ) (o : Option ℕ) → length looks ≡ n →
     FindsLowest t g looks mask above limit prefer x o → IsOf n mask o
 lowest_there t g looks mask above limit prefer x n o looked found =
     found_passes _ _ (may_be_lowest (mask_of t g) mask looks above limit) (length looks) (λ c. (c < n) × (has_cpu mask c ≡ true))
     (λ c there fit. (omega (arith, there, looked), lowest_in (mask_of t g) mask looks above limit c fit)) o found
 
-pub highest_there : (t : Tree) (g : ℕ) (looks : List Summary) (mask at_least x n : ℕ) (o : Option ℕ) → length looks ≡ n → FindsHighest t g looks mask at_least x o → IsOf n mask o
+-- and so is what is found as the highest
+pub highest_there : (t : Tree) (g : ℕ) (looks : List Summary) (mask at_least x n : ℕ) (o : Option ℕ) → length looks ≡ n →
+    FindsHighest t g looks mask at_least x o → IsOf n mask o
 highest_there t g looks mask at_least x n o looked found =
     found_passes _ _ (may_be_highest (mask_of t g) mask looks at_least) (length looks) (λ c. (c < n) × (has_cpu mask c ≡ true))
     (λ c there fit. (omega (arith, there, looked), highest_in (mask_of t g) mask looks at_least c fit)) o found

@@ -19,6 +19,7 @@ word_next : (n x : ℕ) → word_after_steps (n + 1) x ≡ stepped_word (word_af
 unfolding word_after_steps
 word_next n x = let one_more : n + 1 ≡ suc n = omega arith in ap (λ m. word_after_steps m x) one_more
 
+-- one more step of a word that has come so far
 pub word_more : (n x y : ℕ) → y ≡ word_after_steps n x → stepped_word y ≡ word_after_steps (n + 1) x
 word_more n x y is = ap stepped_word is ∙ sym (word_next n x)
 
@@ -36,7 +37,8 @@ unfolding below
 noted_none f keys = refl
 
 -- one more key is noted
-pub noted_more : (f : ℕ → ℤ) (keys : List ℤ) (c : ℕ) (k : ℤ) → c < length keys → k ≡ f c → take c keys ≡ map f (below c) → take (c + 1) (set keys c k) ≡ map f (below (c + 1))
+pub noted_more : (f : ℕ → ℤ) (keys : List ℤ) (c : ℕ) (k : ℤ) → c < length keys → k ≡ f c → take c keys ≡ map f (below c) →
+    take (c + 1) (set keys c k) ≡ map f (below (c + 1))
 noted_more f keys c k there is so_far =
     take_more_set keys c k there ∙ ap (λ xs. xs ++ k ∷ []) so_far ∙ ap (λ z. map f (below c) ++ z ∷ []) is
     ∙ sym (map-append f (below c) (c ∷ [])) ∙ ap (map f) (sym (below_more c))
@@ -46,7 +48,8 @@ abbrev pub IsKey : ℤ → Type 0
 IsKey z = (negsuc 126 ≤ℤ z) × (z ≤ℤ pos (2 ^ 40))
 
 -- a key that is noted is within bounds, as those before it
-pub fit_more : (c : ℕ) (keys : List ℤ) (k : ℤ) → c < length keys → IsKey k → ((i : ℕ) → i < c → IsKey (key_at keys i)) → (i : ℕ) → i < c + 1 → IsKey (key_at (set keys c k) i)
+pub fit_more : (c : ℕ) (keys : List ℤ) (k : ℤ) → c < length keys → IsKey k → ((i : ℕ) → i < c → IsKey (key_at keys i)) → (i : ℕ) → i < c + 1 →
+    IsKey (key_at (set keys c k) i)
 fit_more c keys k there fits before i within =
     ⊎_elim
     (λ (same : i ≡ c). subst IsKey (sym (ap (λ j. get_or (set keys c k) j (pos 0)) same ∙ get_or-set_same keys c k (pos 0) there)) fits)

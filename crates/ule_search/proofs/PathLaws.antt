@@ -35,13 +35,16 @@ path_skip k groups keys c is_out =
     let inner : List Group = filter (λ (h : Group). has_cpu h.cpus c) groups in
     ap (λ (b : Bool). take 3 (map (λ (h : Group). sum_of keys h.cpus) (if b then k ∷ inner else inner) ++ replicate 3 (key_at keys c))) (sym is_out)
 
-pub path_end : (groups : List Group) (keys : List ℤ) (c i : ℕ) → length groups ≤ i → key_at keys c ∷ key_at keys c ∷ key_at keys c ∷ [] ≡ path_through (drop i groups) keys c
+-- behind all groups the path is the key alone
+pub path_end : (groups : List Group) (keys : List ℤ) (c i : ℕ) → length groups ≤ i →
+    key_at keys c ∷ key_at keys c ∷ key_at keys c ∷ [] ≡ path_through (drop i groups) keys c
 path_end groups keys c i end = path_nil keys c ∙ ap (λ ks. path_through ks keys c) (sym (drop_all i groups end))
 
 module _ (groups : List Group) (keys : List ℤ) (c i j : ℕ) (d : Group) (next : i ≡ suc j) (within : i ≤ length groups) (p : List ℤ) (is : p ≡ path_through (drop i groups) keys c) where
   rest : get_or groups j d ∷ drop i groups ≡ drop j groups
   rest = ap (λ n. get_or groups j d ∷ drop n groups) next ∙ sym (drop-cons groups j d (omega arith))
 
+  -- a group that has the CPU puts its sum in front
   pub path_more : has_cpu (get_or groups j d).cpus c ≡ true →
       sum_of keys (get_or groups j d).cpus ∷ get_or p 0 (pos 0) ∷ get_or p 1 (pos 0) ∷ [] ≡ path_through (drop j groups) keys c
   path_more is_in =
@@ -56,6 +59,7 @@ module _ (groups : List Group) (keys : List ℤ) (c i j : ℕ) (d : Group) (next
       (ap (λ (xs : List ℤ). get_or xs j (pos 0)) given ∙ get_or-map (λ (k : Group). sum_of keys k.cpus) groups j d (pos 0) (omega arith))
       ∙ path_more is_in
 
+  -- one that has not leaves the path
   pub path_same : has_cpu (get_or groups j d).cpus c ≡ false → p ≡ path_through (drop j groups) keys c
   path_same is_out = is ∙ path_skip (get_or groups j d) (drop i groups) keys c is_out ∙ ap (λ ks. path_through ks keys c) rest
 
@@ -66,6 +70,7 @@ long_front k (z ∷ []) = refl
 long_front k (z ∷ w ∷ []) = refl
 long_front k (z ∷ w ∷ v ∷ zs) = refl
 
+-- a path has three numbers
 long_path : (groups : List Group) (keys : List ℤ) (c : ℕ) → length (path_through groups keys c) ≡ 3
 unfolding path_through
 long_path groups keys c = long_front (key_at keys c) (map (λ (k : Group). sum_of keys k.cpus) (filter (λ (k : Group). has_cpu k.cpus c) groups))
@@ -89,10 +94,13 @@ rank_is groups keys number c p is =
 
 -- ---- the sums of groups
 
+-- no sum
 pub sums_none : (keys : List ℤ) (sums : List ℤ) → take 0 sums ≡ sums_of [] keys
 sums_none keys sums = refl
 
-pub sums_more : (groups : List Group) (keys sums : List ℤ) (i : ℕ) (d : Group) (z : ℤ) → i < length groups → i < length sums → z ≡ sum_of keys (get_or groups i d).cpus →
+-- one more sum
+pub sums_more : (groups : List Group) (keys sums : List ℤ) (i : ℕ) (d : Group) (z : ℤ) → i < length groups → i < length sums →
+    z ≡ sum_of keys (get_or groups i d).cpus →
     take i sums ≡ sums_of (take i groups) keys → take (i + 1) (set sums i z) ≡ sums_of (take (i + 1) groups) keys
 sums_more groups keys sums i d z there here is so_far =
     take_more_set sums i z here ∙ ap (λ (xs : List ℤ). xs ++ z ∷ []) so_far ∙ ap (λ (y : ℤ). sums_of (take i groups) keys ++ y ∷ []) is

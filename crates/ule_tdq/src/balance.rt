@@ -1,15 +1,10 @@
 ghost use Rattle.std.specs.Prelude.{◌≡◌, if◌then◌else◌};
-ghost use Rattle.ule_model.specs.Start.{balance_count, stepped_word};
+ghost use Rattle.ule_model.specs.Start.{balance_count};
 ghost use Rattle.ule_model.specs.Tick.{balance_after_tick, is_due, word_after_tick};
+ghost use Rattle.ule_search.specs.Jitter.{stepped_word};
 
 use ule_prio::Cpu;
-
-/// The balance word after a step.
-fn stepped_word(word: u32) -> u32
-    ensures { result ≡ stepped_word word }
-{
-    ((u64::from(word) * 69069 + 5) % (1 << 32)) as u32
-}
+use ule_search::stepped_word;
 
 /// The balance count that a balance word gives, 64..=191.
 fn balance_count(word: u32) -> u64

@@ -13,12 +13,14 @@ unfolding built_behind
 built_none cpus groups = refl
 
 -- a line that is group_of_line adds its group
-pub built_more : (cpus : ℕ) (groups : List Group) (l : GroupLine) (ls : List GroupLine) (k : Group) → group_of_line cpus groups l ≡ Ok k → built_behind cpus groups (l ∷ ls) ≡ built_behind cpus (groups ++ k ∷ []) ls
+pub built_more : (cpus : ℕ) (groups : List Group) (l : GroupLine) (ls : List GroupLine) (k : Group) → group_of_line cpus groups l ≡ Ok k →
+    built_behind cpus groups (l ∷ ls) ≡ built_behind cpus (groups ++ k ∷ []) ls
 unfolding built_behind
 built_more cpus groups l ls k is = rw (is, built_behind) refl
 
 -- a line with a fault ends the building
-pub built_fault : (cpus : ℕ) (groups : List Group) (l : GroupLine) (ls : List GroupLine) (f : TopoFault) → group_of_line cpus groups l ≡ Err f → built_behind cpus groups (l ∷ ls) ≡ Err (record { line = length groups; fault = f })
+pub built_fault : (cpus : ℕ) (groups : List Group) (l : GroupLine) (ls : List GroupLine) (f : TopoFault) → group_of_line cpus groups l ≡ Err f →
+    built_behind cpus groups (l ∷ ls) ≡ Err (record { line = length groups; fault = f })
 unfolding built_behind
 built_fault cpus groups l ls f is = rw (is, built_behind) refl
 
@@ -32,6 +34,7 @@ module _ (cpus i : ℕ) (table : List Group) (lines : List GroupLine) (d : Group
       (sym (built_more cpus (take i table) (get_or lines i d) (drop (i + 1) lines) k (sym of ∙ is))
       ∙ ap (built_behind cpus (take i table)) (rw add-one (sym (drop-cons lines i d within))) ∙ so_far)
 
+  -- a fault at the line of place i
   pub step_fault : (f : TopoFault) (r : Result Group TopoFault) → r ≡ group_of_line cpus (take i table) (get_or lines i d) → r ≡ Err f →
       built_behind cpus (take i table) (drop i lines) ≡ built cpus lines →
       Err (record { line = i; fault = f }) ≡ built cpus lines
@@ -42,7 +45,8 @@ module _ (cpus i : ℕ) (table : List Group) (lines : List GroupLine) (d : Group
       ∙ ap (built_behind cpus (take i table)) (sym (drop-cons lines i d within)) ∙ so_far
 
 -- the blanks behind a group that is written
-pub step_rest : (i : ℕ) (table : List Group) → i < 15 → length table ≡ 15 → (k : Group) → drop i table ≡ replicate (15 - i) no_group → drop (i + 1) (set table i k) ≡ replicate (15 - (i + 1)) no_group
+pub step_rest : (i : ℕ) (table : List Group) → i < 15 → length table ≡ 15 → (k : Group) → drop i table ≡ replicate (15 - i) no_group →
+    drop (i + 1) (set table i k) ≡ replicate (15 - (i + 1)) no_group
 step_rest i table within full k rest =
     drop-set-lt (i + 1) table i k (omega arith) ∙ sym (drop-drop 1 i table) ∙ ap (drop 1) rest ∙ drop-replicate 1 (15 - i) no_group ∙ ap (λ n. replicate n no_group) (omega arith)
 

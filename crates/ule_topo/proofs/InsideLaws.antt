@@ -18,6 +18,7 @@ module _ (cpus : ℕ) (groups : List Group) (tree : IsTree cpus groups) (c : ℕ
   abbrev Has : ℕ → Type 0
   Has g = has_cpu (group_at groups g).cpus c ≡ true
 
+  -- an option has one value
   same_place : (p q : ℕ) (o : Option ℕ) → o ≡ Some p → o ≡ Some q → p ≡ q
   same_place p q o one two = cc
 
@@ -77,7 +78,8 @@ module _ (cpus : ℕ) (groups : List Group) (tree : IsTree cpus groups) (c : ℕ
       (cases_order p g)
 
 -- a CPU of a group is one of those that there are
-pub cpu_there : (cpus : ℕ) (groups : List Group) → IsTree cpus groups → (c n g : ℕ) → g < n → g < length groups → has_cpu (group_at groups g).cpus c ≡ true → c < cpus
+pub cpu_there : (cpus : ℕ) (groups : List Group) → IsTree cpus groups → (c n g : ℕ) → g < n → g < length groups → has_cpu (group_at groups g).cpus c ≡ true →
+    c < cpus
 cpu_there cpus groups tree c zero g less within has_g = absurd (omega arith)
 cpu_there cpus groups tree c (suc n) zero less within has_g = all_cpus_there cpus c (ap (λ m. has_cpu m c) (sym (tree.root within).all) ∙ has_g)
 cpu_there cpus groups tree c (suc n) (suc g) less within has_g =
@@ -107,6 +109,7 @@ last_pushed gs n = fold-append (λ (found g : ℕ). g) 0 gs (n ∷ [])
 pub last_below_in : (p : ℕ → Bool) (n : ℕ) → p n ≡ true → last_group (filter p (below (n + 1))) ≡ n
 last_below_in p n is = ap last_group (filter_below_in p n is) ∙ last_pushed (filter p (below n)) n
 
+-- and where it does not pass
 pub last_below_out : (p : ℕ → Bool) (n : ℕ) → p n ≡ false → last_group (filter p (below (n + 1))) ≡ last_group (filter p (below n))
 last_below_out p n is = ap last_group (filter_below_out p n is)
 

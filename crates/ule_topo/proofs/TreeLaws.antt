@@ -27,11 +27,13 @@ pub record IsNext (cpus : ℕ) (groups : List Group) (k : Group) : Type 0 where
   pub child : 0 < length groups → IsChild groups (length groups) k
   pub apart : (g : ℕ) → g < length groups → LieApart (group_at groups g) k
 
+-- answers that are equal have equal values
 ok_same : {A E : Type 0} (x y : A) → ◌≡◌ {A = Result A E} (Ok x) (Ok y) → x ≡ y
 ok_same x y is = cc
 
 -- ---- a line that is group_of_line
 
+-- the group of the first line is a root
 root_next : (cpus : ℕ) (groups : List Group) (l : GroupLine) (k : Group) → length groups ≡ 0 → (b : Bool) → (is_none l.parent && (l.cpus == all_cpus cpus)) ≡ b →
     ◌≡◌ {A = Result Group TopoFault} (if b then Ok (record { id = l.id; parent = None; cpus = l.cpus; depth = 1 }) else Err NoRoot) (Ok k) → IsNext cpus groups k
 root_next cpus groups l k none true all made =
@@ -44,7 +46,9 @@ root_next cpus groups l k none true all made =
     subst (IsNext cpus groups) (ok_same {E = TopoFault} root k made) next
 root_next cpus groups l k none false all made = absurd (cc)
 
-child_next : (cpus : ℕ) (groups : List Group) (l : GroupLine) (k parent : Group) (p : ℕ) → slice_get groups p ≡ Some parent → group_in parent p groups l ≡ Ok k → IsNext cpus groups k
+-- the group of a line in its parent is a child
+child_next : (cpus : ℕ) (groups : List Group) (l : GroupLine) (k parent : Group) (p : ℕ) → slice_get groups p ≡ Some parent →
+    group_in parent p groups l ≡ Ok k → IsNext cpus groups k
 child_next cpus groups l k parent p found is =
     let child : Group = record { id = l.id; parent = Some p; cpus = l.cpus; depth = parent.depth + 1 } in
     let deep : Result Group TopoFault = if nat_le 4 parent.depth then Err TooDeep else Ok child in
@@ -73,24 +77,30 @@ child_next cpus groups l k parent p found is =
     } in
     subst (IsNext cpus groups) (ok_same {E = TopoFault} child k three.1) next
 
-below_next : (cpus : ℕ) (groups : List Group) (l : GroupLine) (k : Group) (p : ℕ) (o : Option Group) → slice_get groups p ≡ o → group_in_found p o groups l ≡ Ok k → IsNext cpus groups k
+-- the same by the parent that was found
+below_next : (cpus : ℕ) (groups : List Group) (l : GroupLine) (k : Group) (p : ℕ) (o : Option Group) → slice_get groups p ≡ o →
+    group_in_found p o groups l ≡ Ok k → IsNext cpus groups k
 below_next cpus groups l k p None found is = absurd (cc)
 below_next cpus groups l k p (Some parent) found is = child_next cpus groups l k parent p found is
 
+-- the same by its place
 place_next : (cpus : ℕ) (groups : List Group) (l : GroupLine) (k : Group) (o : Option ℕ) → group_at_place o groups l ≡ Ok k → IsNext cpus groups k
 place_next cpus groups l k None is = absurd (cc)
 place_next cpus groups l k (Some p) is = below_next cpus groups l k p (slice_get groups p) refl is
 
+-- the same by its number
 as_child_next : (cpus : ℕ) (groups : List Group) (l : GroupLine) (k : Group) (o : Option ℕ) → child_of_line o groups l ≡ Ok k → IsNext cpus groups k
 as_child_next cpus groups l k None is = absurd (cc)
 as_child_next cpus groups l k (Some id) is = place_next cpus groups l k (place_of_id id groups) is
 
+-- the same of the first line and of a later one
 first_or_later : (cpus : ℕ) (groups : List Group) (l : GroupLine) (k : Group) (b : Bool) → (length groups == 0) ≡ b →
     (if b then root_of_line cpus l else child_of_line l.parent groups l) ≡ Ok k → IsNext cpus groups k
 first_or_later cpus groups l k true none is =
     root_next cpus groups l k (eqb-true (length groups) 0 none) (is_none l.parent && (l.cpus == all_cpus cpus)) refl is
 first_or_later cpus groups l k false some is = as_child_next cpus groups l k l.parent is
 
+-- the group of a line goes on with the tree
 placed_next : (cpus : ℕ) (groups : List Group) (l : GroupLine) (k : Group) → group_of_line cpus groups l ≡ Ok k → IsNext cpus groups k
 unfolding group_of_line
 placed_next cpus groups l k is =
@@ -103,19 +113,24 @@ module _ (cpus : ℕ) (groups : List Group) (k : Group) (tree : IsTree cpus grou
   abbrev pub more : List Group
   more = groups ++ k ∷ []
 
+  -- the groups are one more
   long : length more ≡ length groups + 1
   long = length-append groups (k ∷ [])
 
+  -- the old groups stay
   old_at : (g : ℕ) → g < length groups → group_at more g ≡ group_at groups g
   old_at g within = get_or-append groups (k ∷ []) no_group g within
 
+  -- the new one is the last
   new_at : group_at more (length groups) ≡ k
   new_at = get_or-append_seam groups k [] no_group
 
+  -- a fact about each group, by whether it is the new one
   by_place : (P : ℕ → Type 0) (g : ℕ) → g < length more → (g < length groups → P g) → P (length groups) → P g
   by_place P g within old new =
       ⊎_elim (λ (same : g ≡ length groups). subst P (sym same) new) (λ (other : g ≡ length groups → ⊥). old (omega (arith, long, within))) (cases_eq g (length groups))
 
+  -- an old child stays one
   child_more : (g : ℕ) (h : Group) → g ≤ length groups → IsChild groups g h → IsChild more g h
   child_more g h within is =
       let behind = is.behind in
@@ -128,6 +143,7 @@ module _ (cpus : ℕ) (groups : List Group) (k : Group) (tree : IsTree cpus grou
         shallow = is.shallow;
       }
 
+  -- a tree with a next group is a tree
   pub tree_more : IsTree cpus more
   tree_more = record {
     root = λ _. ⊎_elim
@@ -148,9 +164,11 @@ module _ (cpus : ℕ) (groups : List Group) (k : Group) (tree : IsTree cpus grou
 
 -- ---- what is built
 
+-- no groups are a tree
 tree_none : (cpus : ℕ) → IsTree cpus []
 tree_none cpus = record { root = λ some. absurd (omega arith); children = λ g some within. absurd (omega arith); apart = λ g h rises within. absurd (omega arith) }
 
+-- the root of no lines is a next group
 lone_next : (cpus : ℕ) → IsNext cpus [] (lone_root cpus)
 lone_next cpus = record {
   root = λ _. record { parent = refl; all = refl; shallow = refl };
@@ -158,6 +176,7 @@ lone_next cpus = record {
   apart = λ g within p here there. absurd (omega arith);
 }
 
+-- it is a tree alone
 pub lone_tree : (cpus : ℕ) → IsTree cpus (lone_root cpus ∷ [])
 lone_tree cpus = tree_more cpus [] (lone_root cpus) (tree_none cpus) (lone_next cpus)
 
@@ -165,19 +184,23 @@ lone_tree cpus = tree_more cpus [] (lone_root cpus) (tree_none cpus) (lone_next 
 abbrev IsBuilt : Result Tree BuildFault → Type 0
 IsBuilt r = IfOk r (λ t. IsTree t.cpus t.groups)
 
+-- what is built from a line on, by its group
 by_group : (cpus : ℕ) (groups : List Group) (l : GroupLine) (ls : List GroupLine) (r : Result Group TopoFault) → group_of_line cpus groups l ≡ r →
     ((k : Group) → group_of_line cpus groups l ≡ Ok k → IsBuilt (built_behind cpus (groups ++ k ∷ []) ls)) → IsBuilt (built_behind cpus groups (l ∷ ls))
 by_group cpus groups l ls (Err f) is rest = subst IsBuilt (sym (built_fault cpus groups l ls f is)) tt
 by_group cpus groups l ls (Ok k) is rest = subst IsBuilt (sym (built_more cpus groups l ls k is)) (rest k is)
 
+-- what is built behind a tree is a tree
 built_from_tree : (cpus : ℕ) (groups : List Group) (lines : List GroupLine) → IsTree cpus groups → IsBuilt (built_behind cpus groups lines)
 built_from_tree cpus groups [] tree = subst IsBuilt (sym (built_none cpus groups)) tree
 built_from_tree cpus groups (l ∷ ls) tree =
     by_group cpus groups l ls (group_of_line cpus groups l) refl (λ k is. built_from_tree cpus (groups ++ k ∷ []) ls (tree_more cpus groups k tree (placed_next cpus groups l k is)))
 
+-- what is built is a tree
 built_tree : (cpus : ℕ) (lines : List GroupLine) → IsBuilt (built cpus lines)
 built_tree cpus [] = lone_tree cpus
 built_tree cpus (l ∷ ls) = built_from_tree cpus [] (l ∷ ls) (tree_none cpus)
 
+-- the groups that were built are a tree
 pub ok_tree : (cpus : ℕ) (lines : List GroupLine) (groups : List Group) → Ok (record { cpus = cpus; groups = groups }) ≡ built cpus lines → IsTree cpus groups
 ok_tree cpus lines groups is = subst IsBuilt (sym is) (built_tree cpus lines)

@@ -4,6 +4,7 @@ use Rattle.std.specs.Prelude.{ℕ, ◌≡◌, ◌+◌, ◌<◌, ◌≤◌, true,
 use Rattle.ule_topo.specs.Mask.{all_cpus, below, has_cpu, is_inside, meets}
 use Rattle.ule_topo.specs.declared.group.Group.{Group}
 
+-- a topology: its number of CPUs, and its groups
 pub record Tree : Type 0 where
   pub cpus : ℕ
   pub groups : List Group

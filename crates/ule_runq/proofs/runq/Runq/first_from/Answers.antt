@@ -1,39 +1,46 @@
-use Rattle.std.proofs.Common.{◌≡◌, ◌+◌, ◌%◌, [], sym, ◌∙◌, ap, subst, arith, below_more}
-use Rattle.std.specs.Prelude.{All, List, ℕ}
-use Rattle.ule_runq.specs.declared.runq.TheConstants.{RQ_NQS}
-use Rattle.ule_runq.specs.Runq.{times, first_from, IsFirstFrom}
-use Rattle.ule_runq.proofs.Access.{first_from_read, empty_read, all_empty_round, first_from-all_empty}
+use Rattle.std.proofs.Common.{◌<◌, refl, sym, arith}
 use Rattle.ule_runq.proofs.RunqLaws.{first_from_Some, times_first}
+use Rattle.ule_runq.proofs.Spelled.{all_lists_empty, first_from_empty, first_read, head_small}
 use Rattle.ule_runq.proofs.runq.Runq.first_from.Goals as goal
 
-pub returns-in-Some-clause-value : goal.returns-in-Some-clause-value
-returns-in-Some-clause-value c =
-    sym (first_from_read _ c.args.b c.loop-step.step _ c.in-Some.t _ c.self.invariant.0 c.requires c.loop-step-test.true c.loop-step.invariant c.from.ensures c.index.ensures (sym c.in-Some.ensures))
-    ∙ ap (λ q. first_from q c.args.b) c.self.view_is
+pub returns-then-step-eq-RQ_NQS-clause-value : goal.returns-then-step-eq-RQ_NQS-clause-value
+returns-then-step-eq-RQ_NQS-clause-value c =
+    let sound = c.empty_from-step.ensures.whole in
+    sym (first_from_empty c.args.self.now c.args.b sound c.requires
+    (all_lists_empty c.args.self.now c.args.b sound c.requires (λ j below. c.empty_from-step.ensures.before j (omega arith))))
 
-pub returns-in-Some-clause-found : goal.returns-in-Some-clause-found
-returns-in-Some-clause-found c =
-    let found = first_from_read _ c.args.b c.loop-step.step _ c.in-Some.t _ c.self.invariant.0 c.requires c.loop-step-test.true c.loop-step.invariant c.from.ensures c.index.ensures (sym c.in-Some.ensures) in
-    sym (ap (λ q. times q c.in-Some.t) c.self.view_is) ∙ times_first _ c.args.b _ c.in-Some.t c.self.invariant.0 c.requires found
+pub returns-then-step-eq-RQ_NQS-clause-none : goal.returns-then-step-eq-RQ_NQS-clause-none
+returns-then-step-eq-RQ_NQS-clause-none c = (
+  λ _. all_lists_empty c.args.self.now c.args.b c.empty_from-step.ensures.whole c.requires (λ j below. c.empty_from-step.ensures.before j (omega arith)),
+  λ _. refl,
+)
 
-pub returns-in-Some-clause-nearest : goal.returns-in-Some-clause-nearest
-returns-in-Some-clause-nearest c =
-    let found = first_from_read _ c.args.b c.loop-step.step _ c.in-Some.t _ c.self.invariant.0 c.requires c.loop-step-test.true c.loop-step.invariant c.from.ensures c.index.ensures (sym c.in-Some.ensures) in
-    subst (λ (q : List (List ℕ)). IsFirstFrom q c.args.b ((c.args.b + c.loop-step.step) % RQ_NQS) c.in-Some.t) c.self.view_is
-    (first_from_Some _ c.args.b _ c.in-Some.t c.self.invariant.0.buckets c.requires found)
+pub overflow_cast-result : goal.overflow_cast-result
+overflow_cast-result c =
+    let some : c.empty_from-step.result < 64 = omega (arith, c.empty_from-step.ensures.within) in
+    let low = head_small _ _ _ _ c.links.ensures.spells (omega arith) c.from.ensures (c.empty_from-step.ensures.behind some) in omega arith
 
-pub loop-step-preserved : goal.loop-step-preserved
-loop-step-preserved c =
-    below_more _ _ c.loop-step.invariant
-    (empty_read _ c.args.b c.loop-step.step _ _ c.self.invariant.0 c.from.ensures c.index.ensures (sym c.first.ensures ∙ c.in_default.is))
+pub invariant_of-result : goal.invariant_of-result
+invariant_of-result c =
+    let some : c.empty_from-step.result < 64 = omega (arith, c.empty_from-step.ensures.within) in
+    head_small _ _ _ _ c.links.ensures.spells (omega arith) c.from.ensures (c.empty_from-step.ensures.behind some)
 
 pub returns-clause-value : goal.returns-clause-value
 returns-clause-value c =
-    sym (first_from-all_empty _ c.args.b c.self.invariant.0 c.requires (all_empty_round _ c.args.b c.loop-step.step c.self.invariant.0 c.requires (omega arith) c.loop-step.invariant))
-    ∙ ap (λ q. first_from q c.args.b) c.self.view_is
+    let some : c.empty_from-step.result < 64 = omega (arith, c.empty_from-step.ensures.within) in
+    sym (first_read _ _ c.args.b c.empty_from-step.result _ c.links.ensures.spells c.requires some c.empty_from-step.ensures.before
+    (c.empty_from-step.ensures.behind some) c.from.ensures)
 
-pub returns-clause-none : goal.returns-clause-none
-returns-clause-none c = (
-  (λ none. subst (All {X = List ℕ} (λ xs. xs ≡ [])) c.self.view_is (all_empty_round _ c.args.b c.loop-step.step c.self.invariant.0 c.requires (omega arith) c.loop-step.invariant)),
-  (λ none. cc),
-)
+pub returns-clause-found : goal.returns-clause-found
+returns-clause-found c =
+    let some : c.empty_from-step.result < 64 = omega (arith, c.empty_from-step.ensures.within) in
+    times_first c.args.self.now c.args.b _ _ c.links.ensures.whole c.requires
+    (first_read _ _ c.args.b c.empty_from-step.result _ c.links.ensures.spells c.requires some c.empty_from-step.ensures.before
+    (c.empty_from-step.ensures.behind some) c.from.ensures)
+
+pub returns-clause-nearest : goal.returns-clause-nearest
+returns-clause-nearest c =
+    let some : c.empty_from-step.result < 64 = omega (arith, c.empty_from-step.ensures.within) in
+    first_from_Some c.args.self.now c.args.b _ _ c.links.ensures.whole.buckets c.requires
+    (first_read _ _ c.args.b c.empty_from-step.result _ c.links.ensures.spells c.requires some c.empty_from-step.ensures.before
+    (c.empty_from-step.ensures.behind some) c.from.ensures)

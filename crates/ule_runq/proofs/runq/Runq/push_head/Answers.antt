@@ -1,20 +1,31 @@
-use Rattle.std.proofs.Common.{◌∙◌, ap, arith}
-use Rattle.ule_runq.specs.Runq.{times}
-use Rattle.ule_runq.proofs.Access.{room_in_read, bound_written, IsRunq-head_written}
+use Rattle.std.proofs.Common.{slice_index, ap}
+use Rattle.ule_runq.proofs.Spelled.{spelled_at, spelled_whole, lists_of_spelled, head_free, head_linked}
 use Rattle.ule_runq.proofs.runq.Runq.push_head.Goals as goal
 
-pub push_head-requires : goal.push_head-requires
-push_head-requires c =
-    room_in_read _ c.args.b _ c.args.t _ c.self.invariant.0 c.requires.bucket (omega arith) (ap (λ q. times q c.args.t) c.self.view_is ∙ c.requires.absent) c.from.ensures c.index_mut-bucket.ensures.value
+pub link_in-requires-clause-behind : goal.link_in-requires-clause-behind
+link_in-requires-clause-behind c =
+    let spells = spelled_at _ _ _ c.self.invariant c.self.view_is c.deref_mut-links.ensures.value in
+    (head_free _ _ c.args.b c.args.t _ _ spells c.requires.bucket c.t.invariant c.requires.absent c.t.view_is (ap (slice_index _) c.from.ensures)).0
+
+pub link_in-requires-clause-not_behind : goal.link_in-requires-clause-not_behind
+link_in-requires-clause-not_behind c =
+    let spells = spelled_at _ _ _ c.self.invariant c.self.view_is c.deref_mut-links.ensures.value in
+    (head_free _ _ c.args.b c.args.t _ _ spells c.requires.bucket c.t.invariant c.requires.absent c.t.view_is (ap (slice_index _) c.from.ensures)).1
 
 pub invariant_of-self : goal.invariant_of-self
 invariant_of-self c =
-    let low = bound_written _ _ c.args.b _ _ _ c.self.invariant.1 c.self.invariant.2 c.from.ensures c.min-self-inside.ensures in (
-      IsRunq-head_written _ c.args.b _ c.args.t _ _ c.self.invariant.0 c.requires.bucket (omega arith) (ap (λ q. times q c.args.t) c.self.view_is ∙ c.requires.absent) c.from.ensures c.index_mut-bucket.ensures.value c.push_head.ensures,
-      low.0,
-      low.1,
-    )
+    let spells = spelled_at _ _ _ c.self.invariant c.self.view_is c.deref_mut-links.ensures.value in
+    spelled_whole _ _
+    (head_linked _ _ c.args.b c.args.t _ _ spells c.requires.bucket c.t.invariant c.requires.absent c.t.view_is _ (ap (slice_index _) c.from.ensures) c.link_in.ensures)
+
+pub returns-clause-filed : goal.returns-clause-filed
+returns-clause-filed c =
+    let spells = spelled_at _ _ _ c.self.invariant c.self.view_is c.deref_mut-links.ensures.value in
+    lists_of_spelled _ _
+    (head_linked _ _ c.args.b c.args.t _ _ spells c.requires.bucket c.t.invariant c.requires.absent c.t.view_is _ (ap (slice_index _) c.from.ensures) c.link_in.ensures)
 
 pub returns-clause-whole : goal.returns-clause-whole
 returns-clause-whole c =
-    IsRunq-head_written _ c.args.b _ c.args.t _ _ c.self.invariant.0 c.requires.bucket (omega arith) (ap (λ q. times q c.args.t) c.self.view_is ∙ c.requires.absent) c.from.ensures c.index_mut-bucket.ensures.value c.push_head.ensures
+    let spells = spelled_at _ _ _ c.self.invariant c.self.view_is c.deref_mut-links.ensures.value in
+    (spelled_whole _ _
+    (head_linked _ _ c.args.b c.args.t _ _ spells c.requires.bucket c.t.invariant c.requires.absent c.t.view_is _ (ap (slice_index _) c.from.ensures) c.link_in.ensures)).sound
