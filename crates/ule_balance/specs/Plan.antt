@@ -62,7 +62,9 @@ plan_next t looks m x = planned_for t looks m x m.high
 
 -- a plan that is told whether the low CPU got a thread: one that got one gives none, and one that got none takes none
 abbrev pub plan_told : ℕ → Bool → Masks → Masks
-plan_told low moved m = if moved then record m { donors = without_cpu low m.donors; high = None } else record m { takers = without_cpu low m.takers; fresh = false }
+plan_told low moved m =
+    if moved then record m { donors = without_cpu low m.donors; high = None }
+    else record m { takers = without_cpu low m.takers; fresh = false }
 
 -- ---- what a plan keeps
 

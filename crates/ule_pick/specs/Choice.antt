@@ -45,7 +45,9 @@ near_cpu t card looks now x =
 -- else the one that was found
 abbrev pub own_or_found : Card → List Summary → ℕ → ℕ → ℕ
 own_or_found card looks own f =
-    if nat_lt card.priority (look_at looks own).lowpri && nat_lt (look_at looks f).lowpri 224 && nat_le (look_at looks own).load ((look_at looks f).load + 1) then own else f
+    if nat_lt card.priority (look_at looks own).lowpri && nat_lt (look_at looks f).lowpri 224 &&
+    nat_le (look_at looks own).load ((look_at looks f).load + 1)
+    then own else f
 
 -- a CPU, and the jitter word after its choice
 pub record Picked : Type 0 where

@@ -15,12 +15,13 @@ abbrev pub FindsBest : (List ℤ → List ℤ → Bool) → (ℕ → List ℤ) �
 FindsBest before rank passes n None = (c : ℕ) → c < n → passes c ≡ false
 FindsBest before rank passes n (Some c) = IsBest before rank passes n c
 
--- what a search for the lowest answers: the CPU with the least list of path, key and number of those that may be it, and none exactly where none may be
+-- what a search for the lowest answers: of those that may be it the CPU with the least list of path, key and number, and none exactly where none may be
 abbrev pub FindsLowest : Tree → ℕ → List Summary → ℕ → ℤ → ℕ → Option ℕ → ℕ → Option ℕ → Type 0
 FindsLowest t g looks mask above limit prefer x found =
     FindsBest comes_first (rank_up (groups_behind t g) (keys_of looks prefer x)) (may_be_lowest (mask_of t g) mask looks above limit) (length looks) found
 
--- what a search for the highest answers: the CPU with the greatest list of path, key and number counted down of those that may be it, and none exactly where none may be
+-- what a search for the highest answers: of those that may be it the CPU with the greatest list of path, key and number counted down, and none exactly
+-- where none may be
 abbrev pub FindsHighest : Tree → ℕ → List Summary → ℕ → ℕ → ℕ → Option ℕ → Type 0
 FindsHighest t g looks mask at_least x found =
     FindsBest comes_last (rank_down (groups_behind t g) (keys_of looks None x)) (may_be_highest (mask_of t g) mask looks at_least) (length looks) found
@@ -33,4 +34,5 @@ LowestIsLeast =
 
 -- the law: highest finds the highest
 abbrev pub HighestIsGreatest : Type 0
-HighestIsGreatest = (t : Tree) (g : ℕ) (looks : List Summary) (mask at_least x : ℕ) → FindsHighest t g looks mask at_least x (highest t g looks mask at_least x)
+HighestIsGreatest =
+    (t : Tree) (g : ℕ) (looks : List Summary) (mask at_least x : ℕ) → FindsHighest t g looks mask at_least x (highest t g looks mask at_least x)

@@ -14,7 +14,7 @@ abbrev pub preference : Option ℕ → ℕ → ℕ
 preference None c = 0
 preference (Some p) c = if p == c then 64 else 0
 
--- the key of a CPU: 256 for each thread of the load, less the CPU's own draw, which is the draw after those for the CPUs before it, and less the preference
+-- the key of a CPU: 256 for each thread of the load, less the CPU's own draw, which comes behind those for the CPUs before it, and less the preference
 unfoldable pub key_of : List Summary → Option ℕ → ℕ → ℕ → ℤ
 key_of looks prefer x c = pos ((look_at looks c).load * 256) -ℤ pos (draw_of_word (word_after_steps (c + 1) x) + preference prefer c)
 

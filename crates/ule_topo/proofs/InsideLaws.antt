@@ -2,9 +2,11 @@
 use Rattle.std.proofs.Common.{◌≡◌, ℕ, zero, suc, ◌+◌, ◌-◌, ◌<◌, ◌≤◌, true, false, Bool, Option, Some, None, List, [], ◌∷◌, ◌++◌, length, refl, sym, ◌∙◌, ap, subst, arith, ⊎_elim}
 use Rattle.std.proofs.lemmas.Bool.{cases_eq, cases_order, false_from_ne_true}
 use Rattle.std.proofs.lemmas.List.{reverse-append}
+use Rattle.std.proofs.lemmas.List.Elements.{Contains-append_right}
 use Rattle.std.proofs.lemmas.List.Sums.{fold-append}
+use Rattle.std.specs.List.{Contains}
 use Rattle.std.specs.Prelude.{IfSome, filter, reverse}
-use Rattle.ule_topo.specs.Inside.{IsInside, lies, lies_deeper, BehindIsInside, DeepestIsInnermost, OutwardByParents, outward_from}
+use Rattle.ule_topo.specs.Inside.{IsInside, lies, lies_deeper, BehindIsInside, DeepestIsInnermost, OutwardByParents, OutwardMeetsHolders, outward_from}
 use Rattle.ule_topo.specs.Mask.{below, has_cpu}
 use Rattle.ule_topo.specs.Tree.{IsTree, IsChild, Tree, group_at, last_group, mask_of, outward, parent_of}
 use Rattle.ule_topo.specs.declared.group.Group.{Group}
@@ -186,3 +188,26 @@ module _ (t : Tree) (tree : IsTree t.cpus t.groups) (c : ℕ) where
 -- the law of the way outward
 pub outward_by_parents : OutwardByParents
 outward_by_parents t c g tree within has_g = outward_begins t tree c g has_g ∙ ap (λ rest. g ∷ rest) (outward_goes_on t tree c g within has_g (parent_of t g) refl)
+
+-- a way outward meets its first group
+meets_first : (t : Tree) (c g : ℕ) → IsTree t.cpus t.groups → g < length t.groups → has_cpu (mask_of t g) c ≡ true → Contains (outward t c g) g
+meets_first t c g tree within has_g =
+    subst (λ gs. Contains gs g) (sym (outward_by_parents t c g tree within has_g)) (0, omega arith, refl)
+
+-- and the groups that the way outward from its parent meets
+meets_further : (t : Tree) (c g p h : ℕ) → IsTree t.cpus t.groups → g < length t.groups → has_cpu (mask_of t g) c ≡ true → parent_of t g ≡ Some p →
+    Contains (outward t c p) h → Contains (outward t c g) h
+meets_further t c g p h tree within has_g is met =
+    subst (λ gs. Contains gs h) (sym (outward_by_parents t c g tree within has_g ∙ ap (λ o. g ∷ outward_from t c o) is))
+    (Contains-append_right (g ∷ []) (outward t c p) h met)
+
+-- the law of the groups that it meets
+pub outward_meets_holders : OutwardMeetsHolders
+outward_meets_holders t c h g tree within has_g (lies is) =
+    let up = parent_holds t.cpus t.groups tree c g h within is has_g in
+    let before = up.0 in
+    meets_further t c g h h tree within has_g is (meets_first t c h tree (omega arith) up.1)
+outward_meets_holders t c h g tree within has_g (lies_deeper {p = p} is inner) =
+    let up = parent_holds t.cpus t.groups tree c g p within is has_g in
+    let before = up.0 in
+    meets_further t c g p h tree within has_g is (outward_meets_holders t c h p tree (omega arith) up.1 inner)

@@ -1,5 +1,6 @@
 -- When a group lies strictly inside another one, and the laws of the groups of one CPU.
 use Rattle.std.specs.Prelude.{◌≡◌, ℕ, ◌<◌, true, false, Option, Some, None, List, [], ◌∷◌, length}
+use Rattle.std.specs.List.{Contains}
 use Rattle.ule_topo.specs.Mask.{has_cpu}
 use Rattle.ule_topo.specs.Tree.{IsTree, Tree, deepest, group_at, mask_of, outward, parent_of}
 use Rattle.ule_topo.specs.declared.group.Group.{Group}
@@ -27,8 +28,13 @@ abbrev pub outward_from : Tree → ℕ → Option ℕ → List ℕ
 outward_from t c None = []
 outward_from t c (Some p) = outward t c p
 
--- the law: the way outward from a group of a CPU is that group and the way outward from its parent, and ends at the root; so who goes from
--- parent to parent meets every group of the CPU that holds the first one
+-- the law: the way outward from a group of a CPU is that group and the way outward from its parent, and ends at the root
 abbrev pub OutwardByParents : Type 0
 OutwardByParents =
-    (t : Tree) (c g : ℕ) → IsTree t.cpus t.groups → g < length t.groups → has_cpu (mask_of t g) c ≡ true → outward t c g ≡ g ∷ outward_from t c (parent_of t g)
+    (t : Tree) (c g : ℕ) → IsTree t.cpus t.groups → g < length t.groups → has_cpu (mask_of t g) c ≡ true →
+    outward t c g ≡ g ∷ outward_from t c (parent_of t g)
+
+-- the law: so it meets every group that the first one lies inside
+abbrev pub OutwardMeetsHolders : Type 0
+OutwardMeetsHolders =
+    (t : Tree) (c h g : ℕ) → IsTree t.cpus t.groups → g < length t.groups → has_cpu (mask_of t g) c ≡ true → IsInside t.groups h g → Contains (outward t c g) h

@@ -1,4 +1,4 @@
-ghost use Rattle.ule_topo.specs.Inside.{BehindIsInside, DeepestIsInnermost, OutwardByParents};
+ghost use Rattle.ule_topo.specs.Inside.{BehindIsInside, DeepestIsInnermost, OutwardByParents, OutwardMeetsHolders};
 
 /// The law of the innermost group of a CPU: it has the CPU, and no group behind it has. It does
 /// nothing when it runs.
@@ -12,8 +12,9 @@ pub fn groups_behind_are_inside()
     ensures { BehindIsInside }
 {}
 
-/// The law of the way outward: from parent to parent it meets every group of a CPU that holds the
-/// first one. It does nothing when it runs.
+/// The laws of the way outward: it goes from parent to parent, and meets every group that the first
+/// one lies inside. It does nothing when it runs.
 pub fn outward_goes_by_parents()
-    ensures { OutwardByParents }
+    ensures parents { OutwardByParents }
+    ensures holders { OutwardMeetsHolders }
 {}
