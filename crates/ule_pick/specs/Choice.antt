@@ -31,7 +31,7 @@ any_cpu t card looks x = record { cpu = lowest_above t card looks 0 (negsuc 0) x
 abbrev pub worse_cpu : Tree → Card → List Summary → ℕ → Searched
 worse_cpu t card looks x = else_search (any_cpu t card looks) (word_after_search looks x) (lowest_above t card looks 0 (pos card.priority) x)
 
--- while the thread's data may be in the caches near its last CPU, the lowest of those there that run nothing or an idle thread worse than it;
+-- while the thread's data may be in the caches near its last CPU, the lowest of those there that run nothing, or an idle thread that is worse than it;
 -- or else one of all
 abbrev pub near_cpu : Tree → Card → List Summary → ℕ → ℕ → Searched
 near_cpu t card looks now x =
@@ -41,8 +41,8 @@ near_cpu t card looks now x =
 
 -- ---- the choice
 
--- the worker's own CPU, where it runs something worse, the CPU that was found isn't idle, and its load is at least the own one less 1;
--- else the one that was found
+-- the worker's own CPU, where it runs something worse than the thread, the CPU that was found isn't idle, and the own load is at most 1 above the
+-- load there; else the one that was found
 abbrev pub own_or_found : Card → List Summary → ℕ → ℕ → ℕ
 own_or_found card looks own f =
     if nat_lt card.priority (look_at looks own).lowpri && nat_lt (look_at looks f).lowpri 224 &&
