@@ -83,7 +83,8 @@ def waits_table(scene):
     head = "".join("<th>%s</th>" % words for words in WAITS_HEAD)
     rows = ["<tr>%s</tr>" % head]
     for wait in waits_of(scene):
-        entries = "%s to %s" % (max(wait.begin, scene.first), wait.end if wait.end <= scene.last else "the end")
+        begin = "the start" if wait.begin < scene.first else wait.begin
+        entries = "%s to %s" % (begin, wait.end if wait.end <= scene.last else "the end")
         cells = (wait.thread, labels[wait.thread], wait.queue, wait.stays, wait.total, wait.longest, entries)
         rows.append("<tr>%s</tr>" % "".join("<td>%s</td>" % escape(str(cell)) for cell in cells))
     return "\n".join(rows)
