@@ -81,6 +81,10 @@ class Lane:
             self.starts.append(at)
             self.stays.append(stay)
 
+    def stay_at(self, coordinate):
+        """The stay at a coordinate."""
+        return self.stays[bisect_right(self.starts, coordinate) - 1]
+
     def ends(self):
         """The begin of each stay, as its coordinate, the stay and 1, and its end with -1."""
         for number, (at, stay) in enumerate(zip(self.starts, self.stays)):

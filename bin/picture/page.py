@@ -3,13 +3,17 @@ import json
 import os
 from html import escape
 
-from .scene import short_of, style_of, words_of
+from .links import LINKS
+from .saying import EVENT_SAYS, REPLY_SAYS
+from .scene import folds_of, label_of, short_of, style_of, words_of
 from .story import MARKS
-from .styles import EDGE, FAINT, LINE, LOAD, MARK_COLOURS, PATTERN_LINES, RUNNING_TINTS, STATES
+from .styles import EDGE, FAINT, FAINT_WORDS, LINE, LINK_LOOKS, LOAD, MARK_COLOURS, PATTERN_LINES, RUNNING_TINTS, STATES
 from .svg import patterns, tag
+from .waits import waits_of
 
 PARTS = os.path.join(os.path.dirname(os.path.abspath(__file__)), "page")
-SCRIPTS = ("data.js", "draw.js", "lanes.js", "use.js", "print.js")
+SCRIPTS = ("data.js", "draw.js", "links.js", "lanes.js", "use.js", "print.js")
+WAITS_HEAD = ("thread", "class, nice", "queue", "stays", "hz ticks in all", "longest stay", "its entries")
 
 
 def page_text(scene, axis):
@@ -18,6 +22,7 @@ def page_text(scene, axis):
         "title": escape(scene.name),
         "about": escape(about(scene)),
         "legend": legend(),
+        "waits": waits_table(scene),
         "style": part("page.css"),
         "data": data_text(scene, axis),
         "script": "\n".join(part(name) for name in SCRIPTS),
@@ -45,8 +50,9 @@ def legend():
     """The states and the marks with what they say."""
     states = "".join(state(name, style) for name, style in STATES.items())
     marks = "".join(mark(name, *MARKS[name]) for name in MARKS)
+    links = "".join(link(name, says) for name, says in LINKS.items())
     shared = "<svg width='0' height='0' aria-hidden='true'><defs>%s</defs></svg>" % "".join(patterns(STATES))
-    return shared + states + marks
+    return shared + states + marks + links
 
 
 def state(name, style):
@@ -64,6 +70,26 @@ def mark(name, letter, says):
     return "<span title='%s'>%s %s</span>" % (escape(says), circle, escape(name))
 
 
+def link(name, says):
+    """One kind of arrow of the legend."""
+    colour, dashes = LINK_LOOKS[name]
+    line = tag("path", d="M1 7H17m-5 -4l5 4l-5 4", stroke=colour, stroke_dasharray=dashes, fill="none", stroke_width=1.5)
+    return "<span><svg width='20' height='14' aria-hidden='true'>%s</svg> %s</span>" % (line, escape(says))
+
+
+def waits_table(scene):
+    """The rows of the table of waits."""
+    labels = {row.number: label_of(row) for row in scene.threads}
+    head = "".join("<th>%s</th>" % words for words in WAITS_HEAD)
+    rows = ["<tr>%s</tr>" % head]
+    for wait in waits_of(scene):
+        begin = "the start" if wait.begin < scene.first else wait.begin
+        entries = "%s to %s" % (begin, wait.end if wait.end <= scene.last else "the end")
+        cells = (wait.thread, labels[wait.thread], wait.queue, wait.stays, wait.total, wait.longest, entries)
+        rows.append("<tr>%s</tr>" % "".join("<td>%s</td>" % escape(str(cell)) for cell in cells))
+    return "\n".join(rows)
+
+
 def data_text(scene, axis):
     """What the script of the page draws, as JSON that can stand in a page."""
     text = json.dumps(data_of(scene, axis), separators=(",", ":"))
@@ -72,7 +98,7 @@ def data_text(scene, axis):
 
 def data_of(scene, axis):
     """What the script of the page draws."""
-    base = min([entry.now for entry in scene.entries] + ([] if scene.now is None else [scene.now]))
+    base = min(scene.times())
     places = {}
     threads = [thread_row(row, scene, places) for row in scene.threads]
     names = {name: at for at, name in enumerate(MARKS)}
@@ -89,6 +115,9 @@ def data_of(scene, axis):
         "cpus": [cpu_row(row, load) for row, load in zip(scene.cpus, scene.loads)],
         "threads": threads,
         "places": [[style_of(place) or "", short_of(place), words_of(place)] for place in places],
+        "links": scene.links,
+        "folds": [[fold.begin - base, fold.end - base, fold.width] for fold in folds_of(scene)],
+        "says": [EVENT_SAYS, REPLY_SAYS],
         "looks": looks(),
     }
 
@@ -112,6 +141,7 @@ def thread_row(row, scene, places):
         "starts": row.starts,
         "pieces": [places.setdefault(place, len(places)) for place in row.pieces],
         "marked": scene.marked[row.number],
+        "label": label_of(row),
         "final": row.final,
     }
 
@@ -126,5 +156,7 @@ def looks():
         "line": LINE,
         "edge": EDGE,
         "faint": FAINT,
+        "faintWords": FAINT_WORDS,
         "lines": PATTERN_LINES,
+        "links": LINK_LOOKS,
     }

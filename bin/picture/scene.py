@@ -1,7 +1,8 @@
 """A window of a trace as it is drawn: lanes in order, pieces with their words, and two axes."""
-from typing import Dict, List, NamedTuple, Optional
+from typing import Dict, List, NamedTuple, Optional, Tuple
 
 from .lanes import NOBODY, NOT_TOLD
+from .links import Link
 from .reader import Entry
 from .story import story_of
 
@@ -19,7 +20,8 @@ class Scene(NamedTuple):
     """What is drawn of the entries `first` to `last`, of `count` that there are.
 
     Coordinates go from `first - 1`, what stood before the window, to `last + 1`, where it ends. `now` is
-    the time at the end of the trace, or none where the window ends before.
+    the time at the end of the trace, or none where the window ends before; `span` is the least time of the
+    window, and its last one.
     """
 
     name: str
@@ -27,16 +29,28 @@ class Scene(NamedTuple):
     last: int
     count: int
     now: Optional[int]
+    span: Tuple[int, int]
     entries: List[Entry]
     marks: List[Optional[str]]
     cpus: List[Row]
     loads: List[Row]
     threads: List[Row]
     marked: Dict[int, List[int]]
+    links: List[Link]
 
     def numbered(self):
         """The entries with their numbers and marks."""
         return zip(range(self.first, self.last + 1), self.entries, self.marks)
+
+    def times(self):
+        """The times of the entries, and the one at the end where the window has it."""
+        return [entry.now for entry in self.entries] + ([] if self.now is None else [self.now])
+
+    def time_at(self, coordinate):
+        """The time of a coordinate: the least before the window, and the last one behind it."""
+        if self.first <= coordinate <= self.last:
+            return self.entries[coordinate - self.first].now
+        return self.span[0] if coordinate < self.first else self.span[1]
 
 
 def scene_of(trace, name, first, last):
@@ -47,25 +61,36 @@ def scene_of(trace, name, first, last):
         starts, pieces = lane.window(first - 1, last)
         return Row(number, starts, pieces, finals.get(number))
 
+    entries = trace.entries[first - 1 : last]
+    now = trace.now if last == len(trace.entries) else None
+    least = min([entry.now for entry in entries], default=trace.now)
     return Scene(
         name,
         first,
         last,
         len(trace.entries),
-        trace.now if last == len(trace.entries) else None,
-        trace.entries[first - 1 : last],
+        now,
+        (least, entries[-1].now if now is None else now),
+        entries,
         story.marks[first - 1 : last],
         [row(cpu, lane, trace.cpus) for cpu, lane in story.cpus.items()],
         [row(cpu, lane.load, {}) for cpu, lane in story.cpus.items()],
         [row(thread, lane, trace.threads) for thread, lane in story.threads.items()],
         {thread: [n for n in story.marked.get(thread, []) if first <= n <= last] for thread in story.threads},
+        [link for link in story.links if first <= link.begin and link.end <= last],
     )
+
+
+def label_of(row):
+    """The class and the nice value of a thread, as its final line tells them."""
+    return " ".join(row.final.split(" ")[3:5]) if row.final else ""
 
 
 class EntryAxis:
     """The axis of entry numbers, on which a coordinate stands at itself."""
 
     name = "entry"
+    folds = ()
 
     def __init__(self, scene):
         self.low, self.high = scene.first - 1, scene.last + 1
@@ -74,20 +99,29 @@ class EntryAxis:
         """Where a coordinate stands."""
         return coordinate
 
+    def words(self, coordinate):
+        """What stands at a coordinate along the axis."""
+        return str(coordinate)
+
 
 class TickAxis:
-    """The axis of time in hz ticks, with a margin before the first time and behind the last one."""
+    """The axis of time in hz ticks, with a margin before the first time and behind the last one.
+
+    Each time stands nearer to the first one by what was folded before it.
+    """
 
     name = "hz tick"
 
-    def __init__(self, scene):
-        self.scene = scene
-        times = [entry.now for entry in scene.entries]
-        if scene.now is not None:
-            times.append(scene.now)
-        self.low, self.high = (min(times), max(times)) if times else (0, 0)
+    def __init__(self, scene, folds=()):
+        self.scene, self.folds = scene, folds
+        times = scene.times()
+        self.low, self.high = self.place(min(times)), self.place(max(times))
         margin = max(1, (self.high - self.low) // 50)
         self.low, self.high = self.low - margin, self.high + margin
+
+    def place(self, time):
+        """Where a time stands."""
+        return time - sum(fold.end - fold.begin - fold.width for fold in self.folds if fold.end <= time)
 
     def at(self, coordinate):
         """Where a coordinate stands."""
@@ -95,7 +129,34 @@ class TickAxis:
             return self.low
         if coordinate > self.scene.last:
             return self.high
-        return self.scene.entries[coordinate - self.scene.first].now
+        return self.place(self.scene.time_at(coordinate))
+
+    def words(self, coordinate):
+        """What stands at a coordinate along the axis."""
+        return str(self.scene.time_at(coordinate))
+
+
+class Fold(NamedTuple):
+    """A long time without an entry, from one time to another, and how wide it is drawn, in hz ticks."""
+
+    begin: int
+    end: int
+    width: int
+
+
+USUAL_GAPS_OF_LONG, USUAL_GAPS_OF_FOLD = 16, 4
+
+
+def folds_of(scene):
+    """The gaps between entries that are far longer than the usual one, which is the middle one of all."""
+    times = sorted(set(scene.times()))
+    gaps = sorted(after - before for before, after in zip(times, times[1:]))
+    usual = gaps[(len(gaps) - 1) // 2] if gaps else 0
+    return [
+        Fold(before, after, USUAL_GAPS_OF_FOLD * usual)
+        for before, after in zip(times, times[1:])
+        if after - before > USUAL_GAPS_OF_LONG * usual
+    ]
 
 
 def stretches(row, scene):

@@ -14,6 +14,7 @@ from .lanes import (
     queued,
     running,
 )
+from .links import Link, links_of
 
 # the marks, each with its letter and what it says
 MARKS = {
@@ -28,12 +29,13 @@ MARKS = {
 
 
 class Story(NamedTuple):
-    """The lanes of a trace by number, the mark of each entry or none, and the marked entries by thread."""
+    """The lanes of a trace by number, the mark of each entry or none, the marked entries by thread, and the links."""
 
     cpus: Dict[int, CpuLane]
     threads: Dict[int, ThreadLane]
     marks: List[str]
     marked: Dict[int, List[int]]
+    links: List[Link]
 
 
 class Teller:
@@ -167,6 +169,14 @@ def mark_of(entry):
     return None, None
 
 
+def told_priority(entry):
+    """The thread whose priority a reply tells, and the priority; none twice where it tells none."""
+    event, reply = entry.event, entry.reply
+    if reply[0] in ("woken", "changed"):
+        return int(event[1]), int(reply[1])
+    return (int(event[2]), int(reply[2])) if reply[0] == "forked" else (None, None)
+
+
 def named_in(entry):
     """The CPUs and the threads that an entry names by its worker and its event."""
     word, first, worker = entry.event[0], int(entry.event[1]), entry.worker
@@ -198,7 +208,8 @@ def story_of(trace):
     for thread in threads:
         teller.threads.setdefault(thread, ThreadLane())
     close(trace, teller)
-    return Story(dict(sorted(teller.cpus.items())), dict(sorted(teller.threads.items())), marks, marked)
+    links = links_of(trace.entries, teller.threads)
+    return Story(dict(sorted(teller.cpus.items())), dict(sorted(teller.threads.items())), marks, marked, links)
 
 
 def close(trace, teller):

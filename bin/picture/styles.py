@@ -50,10 +50,17 @@ MARK_COLOURS = {
     "fork": ("#000000", "#FFFFFF"),
 }
 
+# the colour of each kind of arrow, and the lengths of its dashes and gaps
+LINK_LOOKS = {
+    "wake": ("#0072B2", "none"),
+    "switch": ("#B0306A", "4 2"),
+}
+
 LOAD = "#0072B2"
 LINE = "#4D4D4D"
 EDGE = "#7A7A7A"
 FAINT = "#CCCCCC"
+FAINT_WORDS = "#9A9A9A"
 
 
 def tint_of(order):

@@ -3,7 +3,7 @@ import argparse
 import os
 
 from .reader import NotATrace, read_trace
-from .scene import EntryAxis, TickAxis, scene_of
+from .scene import EntryAxis, TickAxis, folds_of, scene_of
 
 STANDARD_INPUT, STANDARD_OUTPUT, STANDARD_ERROR = 0, 1, 2
 NO_PICTURE, WRONG_WORDS = 1, 2
@@ -15,7 +15,8 @@ Reads a trace, from FILE or from standard input, and writes a picture of it to s
   --perfetto  write JSON of the Chrome trace event format, which Perfetto and chrome://tracing open
   --svg       write an SVG picture without script
               (else write one page of HTML, which needs no network)
-  --ticks     begin with time in hz ticks along the axis, in place of the numbers of the entries
+  --ticks     begin with time in hz ticks along the axis, in place of the numbers of the entries;
+              a long time without an entry is folded, but not in JSON
   --from K    draw from entry K on
   --to K      draw up to entry K
   --help      write this page
@@ -78,11 +79,11 @@ def text_of(asked, trace):
     if asked.first > max(last, 1):
         raise WrongWords("no entry is from %d on; the trace has %d" % (asked.first, len(trace.entries)))
     scene = scene_of(trace, name_of(asked.file), asked.first, last)
-    axis = TickAxis(scene) if asked.ticks else EntryAxis(scene)
     if asked.perfetto:
         from .chrome import chrome_text
 
-        return chrome_text(scene, axis)
+        return chrome_text(scene, TickAxis(scene) if asked.ticks else EntryAxis(scene))
+    axis = TickAxis(scene, folds_of(scene)) if asked.ticks else EntryAxis(scene)
     if asked.svg:
         from .svg import svg_text
 

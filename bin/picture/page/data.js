@@ -28,28 +28,42 @@ function entryAxis() {
   const low = scene.first - 1, high = scene.last + 1;
   const within = (value) => Math.min(Math.max(Math.floor(value), low), high);
   return {
-    name: "entries", low, high,
+    name: "entries", low, high, parts: [{ from: low, to: high, time: low }],
     at: (coordinate) => coordinate,
     from: within, upTo: within, standing: within,
     words: (value) => hasEntry(value) ? String(value) : "",
   };
 }
 
+// Where a time stands, less the time `scene.base`: nearer to the first one by what was folded before it.
+function placeOf(time) {
+  let place = time;
+  for (const [begin, end, width] of scene.folds) if (end <= time) place -= end - begin - width;
+  return place;
+}
+
+// The times that are drawn as long as they are, between the folds, each from one place to another.
+function plainTimes(least, most) {
+  const begins = [least, ...scene.folds.map(([, end]) => end)], ends = [...scene.folds.map(([begin]) => begin), most];
+  return begins.map((begin, at) => ({ from: placeOf(begin), to: placeOf(begin) + ends[at] - begin, time: begin }));
+}
+
 // The axis of time in hz ticks, less the time `scene.base`, with a margin at either end.
 function tickAxis() {
-  const { reached, ahead } = risingTimes(scene.times);
   const times = scene.end === null ? scene.times : scene.times.concat([scene.end]);
+  const { reached, ahead } = risingTimes(scene.times.map(placeOf));
   const least = times.reduce((a, b) => Math.min(a, b)), most = times.reduce((a, b) => Math.max(a, b));
-  const margin = Math.max(1, Math.floor((most - least) / MARGIN_SHARE));
-  const low = least - margin, high = most + margin;
+  const margin = Math.max(1, Math.floor((placeOf(most) - least) / MARGIN_SHARE));
+  const low = least - margin, high = placeOf(most) + margin;
+  const at = (coordinate) => placeOf(scene.times[coordinate - scene.first]);
   return {
-    name: "hz ticks", low, high,
-    at: (coordinate) => hasEntry(coordinate) ? scene.times[coordinate - scene.first] : coordinate < scene.first ? low : high,
+    name: "hz ticks", low, high, parts: plainTimes(least - margin, most + margin),
+    at: (coordinate) => hasEntry(coordinate) ? at(coordinate) : coordinate < scene.first ? low : high,
     // from what stands at a value: the entry before the first one that is as late
     from: (value) => scene.first + lastUpTo(reached, value - 1e-9),
     upTo: (value) => scene.first + lastUpTo(ahead, value),
     standing: (value) => scene.first + lastUpTo(reached, value),
-    words: (value) => String(BigInt(scene.base) + BigInt(Math.round(value))),
+    words: (time) => String(BigInt(scene.base) + BigInt(Math.round(time))),
   };
 }
 
@@ -81,6 +95,34 @@ function markOf(number) {
 
 function eventOf(number) {
   return lineOf(number).split(" ", 4)[3];
+}
+
+// Whether an entry is a switch that no mark asked for, which changed nothing.
+function isUnmarked(number) {
+  return lineOf(number).endsWith("-> unmarked");
+}
+
+// A pattern of the script's saying.py with its fields filled in, those within others first.
+function filled(pattern, event, reply) {
+  const field = /\{([er])(\d)(?: (thread)|=([^|{}]*)\|([^|{}]*)\|([^|{}]*))?\}/g;
+  const spelled = (_whole, side, at, thread, value, so, otherwise) => {
+    const word = (side === "e" ? event : reply)[Number(at)];
+    if (thread) return word === "-" ? "no thread" : `thread ${word}`;
+    return value === undefined ? word : word === value ? so : otherwise;
+  };
+  for (let before = null; before !== pattern;) {
+    before = pattern;
+    pattern = pattern.replace(field, spelled);
+  }
+  return pattern;
+}
+
+// An entry in words.
+function wordsOf(number) {
+  const [head, tail] = lineOf(number).split(" -> "), [, worker, now, ...event] = head.split(" "), reply = tail.split(" ");
+  const [events, replies] = scene.says;
+  const said = [filled(events[event[0]], event, reply), filled(replies[reply[0]], event, reply)].join(": ");
+  return `entry ${number}, worker ${worker.slice(1)} at ${now}: ${said}`;
 }
 
 // What a CPU runs, in words; below 0 stand no thread and what isn't told.

@@ -1,5 +1,5 @@
 // Drawing of pieces, marks and bands into a frame: a canvas, and the window of the axis that it shows.
-const GUTTER = 92, RULER = 24, BAR = 18, STRIP = 16, BAND = 18;
+const GUTTER = 124, RULER = 24, BAR = 18, STRIP = 16, BAND = 18;
 const CPU_HEIGHT = STRIP + BAR + BAND + 10, THREAD_HEIGHT = BAR + 4;
 const FONT = "11px sans-serif", BOLD = "bold 11px sans-serif", SMALL = "10px sans-serif";
 // below this width in pixels pieces are drawn together, by their shares of a column

@@ -1,13 +1,14 @@
 // The lanes in their order, and the whole picture of a window.
 const lanes = layOut();
 const lanesHeight = lanes.length ? lanes[lanes.length - 1].top + lanes[lanes.length - 1].height : 0;
+const topOfLane = new Map(lanes.map((lane) => [lane.name, lane.top]));
 const statesInOrder = ["real", "batch", "idle", "queued", "hand", "asleep", "unborn", "gone"];
 const plainStates = scene.looks.tints.concat(statesInOrder.map((state) => scene.looks.states[state][0]), [""]);
 
 // Each lane with its top and its height, below the ruler.
 function layOut() {
   const laid = [];
-  let top = RULER + 4;
+  let top = RULER + 16;
   for (const cpu of scene.cpus) {
     laid.push({ kind: "cpu", row: cpu, name: `CPU ${cpu.number}`, top, height: CPU_HEIGHT });
     top += CPU_HEIGHT;
@@ -53,8 +54,9 @@ function drawStrip(frame, numbers, y) {
     const x = frame.px(numbers[at]);
     if (x < GUTTER || x > frame.right || Math.floor(x) === lined) continue;
     lined = Math.floor(x);
-    context.fillStyle = scene.looks.line;
+    context.fillStyle = isUnmarked(numbers[at]) ? scene.looks.faint : scene.looks.line;
     context.fillRect(lined, y + 2, 1, STRIP - 2);
+    if (isUnmarked(numbers[at])) context.fillStyle = scene.looks.faintWords;
     const next = at + 1 < numbers.length ? frame.px(numbers[at + 1]) : frame.right, room = Math.min(next, frame.right) - x;
     const offset = markOf(numbers[at]) === null ? 3 : 17;
     if (room > 20 && context.measureText(eventOf(numbers[at])).width + offset + 3 <= room) {
@@ -72,21 +74,28 @@ function roundStep(value) {
 }
 
 function drawRuler(frame) {
-  const { context, view, axis, scale, right } = frame;
+  const { context, axis, scale, right } = frame;
   context.fillStyle = "#fff";
   context.fillRect(0, 0, frame.width, RULER);
   context.fillStyle = scene.looks.line;
   context.font = FONT;
   context.fillText(axis.name, 8, 16);
-  const step = roundStep(70 / scale), shift = Number(BigInt(scene.base) % BigInt(step));
-  const offset = view.axis === "ticks" ? shift : 0;
-  for (let value = Math.ceil((view.low + offset) / step) * step - offset; value <= view.high; value += step) {
-    const x = GUTTER + (value - view.low) * scale;
+  const step = roundStep(70 / scale);
+  for (const part of axis.parts) drawRulerPart(frame, part, step);
+  context.fillRect(GUTTER, RULER - 1, right - GUTTER, 1);
+}
+
+// The numbers along a part of the axis, each step one, as far as the window shows it.
+function drawRulerPart({ context, view, axis, scale, right }, part, step) {
+  const shift = view.axis === "ticks" ? Number(BigInt(scene.base) % BigInt(step)) : 0;
+  const timeOf = (value) => part.time + value - part.from;
+  const low = Math.max(view.low, part.from), high = Math.min(view.high, part.to);
+  for (let time = Math.ceil((timeOf(low) + shift) / step) * step - shift; time <= timeOf(high); time += step) {
+    const x = GUTTER + (part.from + time - part.time - view.low) * scale;
     context.fillRect(Math.round(x), 6, 1, RULER - 6);
-    const words = axis.words(value);
+    const words = axis.words(time);
     if (x + context.measureText(words).width + 4 < right + 12) context.fillText(words, x + 3, 16);
   }
-  context.fillRect(GUTTER, RULER - 1, right - GUTTER, 1);
 }
 
 function drawName(context, lane, y) {
@@ -94,6 +103,10 @@ function drawName(context, lane, y) {
   context.font = BOLD;
   if (lane.kind === "thread") {
     context.fillText(lane.name, 8, y + BAR / 2 + 4);
+    const width = context.measureText(lane.name).width;
+    context.font = SMALL;
+    context.fillStyle = scene.looks.line;
+    context.fillText(lane.row.label, 14 + width, y + BAR / 2 + 4);
     return;
   }
   context.fillText(lane.name, 8, y + STRIP + BAR / 2 + 4);
@@ -130,5 +143,7 @@ function drawAll(frame, shown, selected) {
     drawName(context, lane, y);
   }
   drawRuler(frame);
+  drawFolds(frame);
+  drawLinks(frame);
   if (selected !== null) drawAt(frame, selected, [4, 3]);
 }

@@ -72,7 +72,7 @@ function select(number) {
   selected = number;
   const value = axes[view.axis].at(number), span = view.high - view.low;
   if (value < view.low || value > view.high - span / 20) show(value - span / 2, value + span / 2);
-  const lines = [];
+  const lines = [wordsOf(number), ""];
   for (let near = number - LINES_AROUND; near <= number + LINES_AROUND; near++) {
     if (hasEntry(near)) lines.push((near === number ? "> " : "  ") + lineOf(near));
   }
