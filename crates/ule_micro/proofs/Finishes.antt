@@ -1,5 +1,5 @@
 -- A turn answers that the worker is finished only where its program is at its end.
-use Rattle.std.proofs.Common.{◌≡◌, ℕ, refl, sym, ap, ◌∙◌}
+use Rattle.std.proofs.Common.{◌≡◌, ℕ, List, refl, sym, ap, ◌∙◌}
 use Rattle.std.specs.Prelude.{Option, Some, None, slice_get}
 use Rattle.ule_micro.specs.declared.entry.HeldLocks.{HeldLocks}
 use Rattle.ule_micro.specs.declared.entry.HeldLocks.TheVariants.{One, Two}
@@ -16,7 +16,7 @@ use Rattle.ule_micro.specs.declared.word.Word.TheVariants.{Lock, Blocked}
 use Rattle.ule_micro.specs.declared.word.WordChange.{WordChange}
 use Rattle.ule_micro.specs.declared.word.WordChange.TheVariants.{Block, Point}
 use Rattle.ule_micro.specs.Means.{Means, Needs, one, both, lock_of}
-use Rattle.ule_micro.specs.Laws.{MovesLittle, KeepsPrograms}
+use Rattle.ule_micro.specs.Laws.{AreOrders, IsLawful}
 use Rattle.ule_micro.specs.States.{State, lock_holder, word_of}
 use Rattle.ule_micro.specs.Turns.{take, first_read, leave, open_event, approach, step_of, turn_by, turn_of_worker}
 use Rattle.ule_micro.specs.Kept.{IsKeptState}
@@ -26,7 +26,7 @@ use Rattle.ule_micro.proofs.Unstuck.{commit_moves}
 moved_not_finished : (d : StepDone) (t : Turn) → t ≡ turn.Moved d → t ≡ turn.Finished → ⊥
 moved_not_finished d t e is = cc
 
-module _ {H O G E R C : Type 0} (m : Means H O G E R C) (law : MovesLittle m) (programs : KeepsPrograms m) (s : State O G E R) (k : IsKeptState m s) (w : ℕ) (p : Seat O E R) (at : slice_get s.seats w ≡ Some p) where
+module _ {H O G E R C : Type 0} (m : Means H O G E R C) (orders : ℕ → List C) (laws : IsLawful m) (lists : AreOrders m orders) (s : State O G E R) (k : IsKeptState m orders s) (w : ℕ) (p : Seat O E R) (at : slice_get s.seats w ≡ Some p) where
   take_on : (l : ℕ) (there : Phase E R) (o : Option ℕ) → (take s w p l there o).0 ≡ turn.Finished → ⊥
   take_on l there (Some holder) e = cc
   take_on l there None e = cc
@@ -47,20 +47,20 @@ module _ {H O G E R C : Type 0} (m : Means H O G E R C) (law : MovesLittle m) (p
   way_on e (progress.Stale l) here is = cc
   way_on e (progress.Half a b) here is = take_on b _ (lock_holder s b) is
   way_on e (progress.Locked held) here is = cc
-  way_on e (progress.Timed held now) here is = let d = commit_moves m law programs s k w p at e held now here in moved_not_finished d.0 _ d.1 is
+  way_on e (progress.Timed held now) here is = let d = commit_moves m orders laws lists s k w p at e held now here in moved_not_finished d.0 _ d.1 is
 
-  leave_on : (reply : R) (now : ℕ) (held : HeldLocks) (o : Option WordChange) → (leave m s w p reply now held o).0 ≡ turn.Finished → ⊥
+  leave_on : (reply : R) (now : ℕ) (held : HeldLocks) (o : Option WordChange) → (leave m orders s w p reply now held o).0 ≡ turn.Finished → ⊥
   leave_on reply now held (Some (Block t)) is = cc
   leave_on reply now held (Some (Point t l)) is = cc
   leave_on reply now (One a) None is = cc
   leave_on reply now (Two a b) None is = cc
 
-  phase_on : (f : Phase E R) → p.phase ≡ f → (step_of m s w p f).0 ≡ turn.Finished → p.phase ≡ phase.Finished
+  phase_on : (f : Phase E R) → p.phase ≡ f → (step_of m orders s w p f).0 ≡ turn.Finished → p.phase ≡ phase.Finished
   phase_on phase.Finished here is = here
   phase_on (phase.Advance n) here is = absurd (cc)
   phase_on (phase.Event e way) here is = absurd (way_on e way here is)
   phase_on (phase.Leaving reply now held) here is = absurd (leave_on reply now held p.pending is)
 
   -- a worker whose turn says that it is finished stands at the end of its program
-  pub ends_there : (turn_of_worker m s w).0 ≡ turn.Finished → p.phase ≡ phase.Finished
-  ends_there is = phase_on p.phase refl (sym (ap (λ o. (turn_by m s w o).0) at) ∙ is)
+  pub ends_there : (turn_of_worker m orders s w).0 ≡ turn.Finished → p.phase ≡ phase.Finished
+  ends_there is = phase_on p.phase refl (sym (ap (λ o. (turn_by m orders s w o).0) at) ∙ is)

@@ -8,7 +8,7 @@ use Rattle.ule_micro.specs.declared.seat.Progress.{Progress}
 use Rattle.ule_micro.specs.declared.seat.Progress.TheVariants as progress
 use Rattle.ule_micro.specs.declared.todo.Todo.{Todo}
 use Rattle.ule_micro.specs.declared.todo.Todo.TheVariants as todo
-use Rattle.ule_micro.specs.Courses.{standing_with}
+use Rattle.ule_micro.specs.Standings.{standing_with}
 use Rattle.ule_micro.specs.States.{took, standing_of_phase}
 use Rattle.ule_micro.specs.Turns.{phase_with}
 

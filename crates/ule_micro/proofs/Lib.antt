@@ -1,10 +1,12 @@
 pub mod Lists
+pub mod Among
 pub mod Effects
 pub mod Programs
 pub mod Threads
 pub mod Words
 pub mod Moves
 pub mod Fetches
+pub mod Courses
 pub mod Numbers
 pub mod Seats
 pub mod Steps

@@ -10,20 +10,20 @@ use Rattle.ule_micro.specs.declared.seat.Phase.TheVariants as phase
 use Rattle.ule_micro.specs.declared.seat.Progress.{Progress}
 use Rattle.ule_micro.specs.declared.seat.Progress.TheVariants as progress
 use Rattle.ule_micro.specs.declared.seat.Seat.{Seat}
+use Rattle.ule_micro.specs.declared.locks.TheConstants.{LOCKS}
 use Rattle.ule_micro.specs.Means.{Means, stands_under}
 use Rattle.ule_micro.specs.Histories.{Leads}
 use Rattle.ule_micro.specs.Courses.{all_advanced, LegalPlay}
-use Rattle.ule_micro.specs.Laws.{values_and_hands_at_start}
+use Rattle.ule_micro.specs.Laws.{AreInRisingOrder, values_and_hands_at_start}
 use Rattle.ule_micro.specs.Agreement.{NamesOneHolder}
 use Rattle.ule_micro.specs.States.{State, word_of, holds, lock_held_by, pending, carried_at, course_of_seat, courses, standing_of_phase}
 use Rattle.ule_micro.specs.Turns.{at as placed}
 use Rattle.ule_micro.specs.Theorem.{ThreadAgreesIn, HasWhatItNeeds, IsTimely}
-use Rattle.ule_micro.specs.Performing.{AreInRisingOrder}
 use Rattle.ule_micro.specs.Kept.{IsKeptState}
 use Rattle.ule_micro.proofs.Seats.{each_seat, held_else, pending_same, pending_before, courses_same, carried_same, hands_same, finished_free}
 use Rattle.ule_micro.proofs.Threads.{thread_kept}
 
-module _ {H O G E R C : Type 0} (m : Means H O G E R C) (s : State O G E R) (k : IsKeptState m s) (w : ℕ) (p : Seat O E R) (at : slice_get s.seats w ≡ Some p) (there : Phase E R) (locks' : List (Option ℕ)) where
+module _ {H O G E R C : Type 0} (m : Means H O G E R C) (orders : ℕ → List C) (s : State O G E R) (k : IsKeptState m orders s) (w : ℕ) (p : Seat O E R) (at : slice_get s.seats w ≡ Some p) (there : Phase E R) (locks' : List (Option ℕ)) where
   abbrev p' : Seat O E R
   p' = placed p there
 
@@ -31,7 +31,7 @@ module _ {H O G E R C : Type 0} (m : Means H O G E R C) (s : State O G E R) (k :
   s' = record { locks = locks'; words = s.words; ticket = s.ticket; now = s.now; values = s.values; seats = set s.seats w p'; history = s.history }
 
   -- a worker with no change pending stays in its item, with what it then has
-  module _ (len : length locks' ≡ 25) (quiet : p.pending ≡ None) (course : standing_of_phase there ≡ standing_of_phase p.phase) (unfinished : there ≢ phase.Finished)
+  module _ (len : length locks' ≡ LOCKS) (quiet : p.pending ≡ None) (course : standing_of_phase there ≡ standing_of_phase p.phase) (unfinished : there ≢ phase.Finished)
       (names : (l : ℕ) → NamesOneHolder (slice_index_or locks' l None) (λ v. lock_held_by (slice_get (set s.seats w p') v) l))
       (apart : (reply : R) (now : ℕ) (held : HeldLocks) → there ≡ phase.Leaving reply now held → AreInRisingOrder held)
       (way : (e : E) (way : Progress) → there ≡ phase.Event e way → HasWhatItNeeds m s e way)
@@ -50,15 +50,14 @@ module _ {H O G E R C : Type 0} (m : Means H O G E R C) (s : State O G E R) (k :
         (k.agreement.threads t dec)
 
     -- the state after the step is kept
-    pub steps_on : IsKeptState m s'
+    pub steps_on : IsKeptState m orders s'
     steps_on = record {
       locks = len;
       words = k.words;
       values = k.values;
       workers = length-set s.seats w p' ∙ k.workers;
       numbers = λ v q e. ⊎_elim (λ (z : (v ≡ w) × (p' ≡ q)). ap (λ (y : Seat O E R). m.number y.own) (sym z.1) ∙ (k.numbers w p at ∙ sym z.0)) (λ (z : (v ≢ w) × (slice_get s.seats v ≡ Some q)). k.numbers v q z.1) (each_seat s.seats w p p' at v q e);
-      begun = λ v q e. ⊎_elim (λ (z : (v ≡ w) × (p' ≡ q)). subst (λ i. q.begun ≤ length (m.orders i)) (sym z.0) (subst (λ (y : Seat O E R). y.begun ≤ length (m.orders w)) z.1 (k.begun w p at))) (λ (z : (v ≢ w) × (slice_get s.seats v ≡ Some q)). k.begun v q z.1) (each_seat s.seats w p p' at v q e);
-      ended = λ v q e fin. ⊎_elim (λ (z : (v ≡ w) × (p' ≡ q)). absurd (unfinished (ap (λ (y : Seat O E R). y.phase) z.1 ∙ fin))) (λ (z : (v ≢ w) × (slice_get s.seats v ≡ Some q)). k.ended v q z.1 fin) (each_seat s.seats w p p' at v q e);
+      begun = λ v q e. ⊎_elim (λ (z : (v ≡ w) × (p' ≡ q)). subst (λ i. q.begun ≤ length (orders i)) (sym z.0) (subst (λ (y : Seat O E R). y.begun ≤ length (orders w)) z.1 (k.begun w p at))) (λ (z : (v ≢ w) × (slice_get s.seats v ≡ Some q)). k.begun v q z.1) (each_seat s.seats w p p' at v q e);
       apart = λ v q reply now held e is. ⊎_elim (λ (z : (v ≡ w) × (p' ≡ q)). apart reply now held (ap (λ (y : Seat O E R). y.phase) z.1 ∙ is)) (λ (z : (v ≢ w) × (slice_get s.seats v ≡ Some q)). k.apart v q reply now held z.1 is) (each_seat s.seats w p p' at v q e);
       agreement = record {
         locks = names;
@@ -71,9 +70,9 @@ module _ {H O G E R C : Type 0} (m : Means H O G E R C) (s : State O G E R) (k :
         past = k.agreement.past;
         now = subst (λ cs. s.now ≡ 20000 + all_advanced cs) (sym same_courses) k.agreement.now;
         finished = λ v q e fin. ⊎_elim (λ (z : (v ≡ w) × (p' ≡ q)). absurd (unfinished (ap (λ (y : Seat O E R). y.phase) z.1 ∙ fin)))
-            (λ (z : (v ≢ w) × (slice_get s.seats v ≡ Some q)). let r = k.agreement.finished v q z.1 fin in record { free = finished_free s' names v q e fin; calm = r.calm; empty = r.empty }) (each_seat s.seats w p p' at v q e);
+            (λ (z : (v ≢ w) × (slice_get s.seats v ≡ Some q)). let r = k.agreement.finished v q z.1 fin in record { ended = r.ended; free = finished_free s' names v q e fin; calm = r.calm; empty = r.empty }) (each_seat s.seats w p p' at v q e);
         ticket = k.agreement.ticket;
         history = subst (λ hs. Leads m (values_and_hands_at_start m) s.history record { values = s.values; hands = hs }) (sym (hands_same m s.seats w p p' at refl)) k.agreement.history;
       };
-      play = subst (LegalPlay m s.history s.values) (sym same_courses) k.play;
+      play = subst (LegalPlay m orders s.history s.values) (sym same_courses) k.play;
     }

@@ -9,6 +9,7 @@ use Rattle.ule_micro.specs.declared.word.Word.{Word}
 use Rattle.ule_micro.specs.declared.word.Word.TheVariants.{Lock, Blocked}
 use Rattle.ule_micro.specs.declared.word.WordChange.{WordChange}
 use Rattle.ule_micro.specs.declared.word.WordChange.TheVariants.{Block, Point}
+use Rattle.ule_micro.specs.declared.locks.TheConstants.{LIMBO}
 use Rattle.ule_micro.specs.Means.{Means, thread_of_change, stands_under}
 use Rattle.ule_micro.specs.Histories.{Leads}
 use Rattle.ule_micro.specs.Courses.{all_advanced, LegalPlay}
@@ -28,7 +29,7 @@ abbrev pub word_after_store : WordChange → Word
 word_after_store (Block t) = Blocked
 word_after_store (Point t l) = Lock l
 
-module _ {H O G E R C : Type 0} (m : Means H O G E R C) (settled : StartsSettled m) (s : State O G E R) (k : IsKeptState m s) (w : ℕ) (p : Seat O E R) (at : slice_get s.seats w ≡ Some p) (change : WordChange) (is : p.pending ≡ Some change) where
+module _ {H O G E R C : Type 0} (m : Means H O G E R C) (orders : ℕ → List C) (settled : StartsSettled m) (s : State O G E R) (k : IsKeptState m orders s) (w : ℕ) (p : Seat O E R) (at : slice_get s.seats w ≡ Some p) (change : WordChange) (is : p.pending ≡ Some change) where
   abbrev p' : Seat O E R
   p' = calm p
 
@@ -60,7 +61,7 @@ module _ {H O G E R C : Type 0} (m : Means H O G E R C) (settled : StartsSettled
 
   thread_here : (t : ℕ) → m.declared t ≡ true → thread_of_change change ≡ t → ThreadAgreesIn m s' t
   thread_here t dec a = thread_kept (holds s) (holds s') (pending s') (pending s') (λ l. stands_under m s.values l t) (λ l. stands_under m s.values l t) (λ v. carried_at m (slice_get s.seats v) t) (λ v. carried_at m (slice_get s'.seats v) t) t (word_after_store change) (word_of s' t)
-      ((λ i. slice_index_or (set s.words (a i) (word_after_store change)) t (Lock 24)) ∙ index_here s.words t (Lock 24) (word_after_store change) (let b = settled.few t dec in let c = k.words in omega arith))
+      ((λ i. slice_index_or (set s.words (a i) (word_after_store change)) t (Lock LIMBO)) ∙ index_here s.words t (Lock LIMBO) (word_after_store change) (let b = settled.few t dec in let c = k.words in omega arith))
       (λ l. refl) (carried_same m s.seats w p p' at t refl) (λ v c e _. e) (λ v c e _. e) (λ v l c e _ h. held_same s.seats w p p' at l refl v ∙ h)
       (stored change refl t a dec)
 
@@ -70,7 +71,7 @@ module _ {H O G E R C : Type 0} (m : Means H O G E R C) (settled : StartsSettled
 
   thread_far : (t : ℕ) → m.declared t ≡ true → thread_of_change change ≢ t → ThreadAgreesIn m s' t
   thread_far t dec far = thread_kept (holds s) (holds s') (pending s) (pending s') (λ l. stands_under m s.values l t) (λ l. stands_under m s.values l t) (λ v. carried_at m (slice_get s.seats v) t) (λ v. carried_at m (slice_get s'.seats v) t) t (word_of s t) (word_of s' t)
-      (index_else s.words (thread_of_change change) t (Lock 24) (word_after_store change) (λ z. far (sym z)))
+      (index_else s.words (thread_of_change change) t (Lock LIMBO) (word_after_store change) (λ z. far (sym z)))
       (λ l. refl) (carried_same m s.seats w p p' at t refl)
       (λ v c e a. dite (ℕ_discrete v w) (λ z. absurd (none-some c (sym gone ∙ (ap (pending s') (sym z) ∙ e)))) (λ n. sym (others v n) ∙ e))
       (λ v c e a. others v (other_change t v c far e a) ∙ e)
@@ -84,15 +85,14 @@ module _ {H O G E R C : Type 0} (m : Means H O G E R C) (settled : StartsSettled
   names l = names_kept (lock_holder s l) (lock_holder s l) (λ v. holds s v l) (λ v. holds s' v l) (k.agreement.locks l) refl (held_same s.seats w p p' at l refl)
 
   -- the state after the store is kept
-  pub store_kept : IsKeptState m s'
+  pub store_kept : IsKeptState m orders s'
   store_kept = record {
     locks = k.locks;
     words = length-set s.words (thread_of_change change) (word_after_store change) ∙ k.words;
     values = k.values;
     workers = length-set s.seats w p' ∙ k.workers;
     numbers = λ v q e. ⊎_elim (λ (z : (v ≡ w) × (p' ≡ q)). ap (λ (y : Seat O E R). m.number y.own) (sym z.1) ∙ (k.numbers w p at ∙ sym z.0)) (λ (z : (v ≢ w) × (slice_get s.seats v ≡ Some q)). k.numbers v q z.1) (each_seat s.seats w p p' at v q e);
-    begun = λ v q e. ⊎_elim (λ (z : (v ≡ w) × (p' ≡ q)). subst (λ i. q.begun ≤ length (m.orders i)) (sym z.0) (subst (λ (y : Seat O E R). y.begun ≤ length (m.orders w)) z.1 (k.begun w p at))) (λ (z : (v ≢ w) × (slice_get s.seats v ≡ Some q)). k.begun v q z.1) (each_seat s.seats w p p' at v q e);
-    ended = λ v q e fin. ⊎_elim (λ (z : (v ≡ w) × (p' ≡ q)). subst (λ i. slice_get (m.orders i) q.begun ≡ None) (sym z.0) (subst (λ (y : Seat O E R). slice_get (m.orders w) y.begun ≡ None) z.1 (k.ended w p at (ap (λ (y : Seat O E R). y.phase) z.1 ∙ fin)))) (λ (z : (v ≢ w) × (slice_get s.seats v ≡ Some q)). k.ended v q z.1 fin) (each_seat s.seats w p p' at v q e);
+    begun = λ v q e. ⊎_elim (λ (z : (v ≡ w) × (p' ≡ q)). subst (λ i. q.begun ≤ length (orders i)) (sym z.0) (subst (λ (y : Seat O E R). y.begun ≤ length (orders w)) z.1 (k.begun w p at))) (λ (z : (v ≢ w) × (slice_get s.seats v ≡ Some q)). k.begun v q z.1) (each_seat s.seats w p p' at v q e);
     apart = λ v q reply now held e there. ⊎_elim (λ (z : (v ≡ w) × (p' ≡ q)). k.apart w p reply now held at (ap (λ (y : Seat O E R). y.phase) z.1 ∙ there)) (λ (z : (v ≢ w) × (slice_get s.seats v ≡ Some q)). k.apart v q reply now held z.1 there) (each_seat s.seats w p p' at v q e);
     agreement = record {
       locks = names;
@@ -105,9 +105,9 @@ module _ {H O G E R C : Type 0} (m : Means H O G E R C) (settled : StartsSettled
       past = k.agreement.past;
       now = subst (λ cs. s.now ≡ 20000 + all_advanced cs) (sym same_courses) k.agreement.now;
       finished = λ v q e fin. ⊎_elim (λ (z : (v ≡ w) × (p' ≡ q)). let r = k.agreement.finished w p at (ap (λ (y : Seat O E R). y.phase) z.1 ∙ fin) in absurd (none-some change (sym r.calm ∙ is)))
-          (λ (z : (v ≢ w) × (slice_get s.seats v ≡ Some q)). let r = k.agreement.finished v q z.1 fin in record { free = r.free; calm = r.calm; empty = r.empty }) (each_seat s.seats w p p' at v q e);
+          (λ (z : (v ≢ w) × (slice_get s.seats v ≡ Some q)). let r = k.agreement.finished v q z.1 fin in record { ended = r.ended; free = r.free; calm = r.calm; empty = r.empty }) (each_seat s.seats w p p' at v q e);
       ticket = k.agreement.ticket;
       history = subst (λ hs. Leads m (values_and_hands_at_start m) s.history record { values = s.values; hands = hs }) (sym (hands_same m s.seats w p p' at refl)) k.agreement.history;
     };
-    play = subst (LegalPlay m s.history s.values) (sym same_courses) k.play;
+    play = subst (LegalPlay m orders s.history s.values) (sym same_courses) k.play;
   }

@@ -20,18 +20,20 @@ use Rattle.ule_micro.specs.declared.word.Word.TheVariants.{Lock, Blocked}
 use Rattle.ule_micro.specs.declared.word.WordChange.{WordChange}
 use Rattle.ule_micro.specs.declared.word.WordChange.TheVariants.{Block, Point}
 use Rattle.ule_micro.specs.Means.{Means, Needs, one, both, lock_of, stands_under}
-use Rattle.ule_micro.specs.Histories.{effect_under, values_under}
-use Rattle.ule_micro.specs.Laws.{MovesLittle, KeepsPrograms, AreRising}
+use Rattle.ule_micro.specs.Histories.{effect_under, own_entries, values_under}
+use Rattle.ule_micro.specs.Laws.{AreOrders, AreRising, IsLawful}
 use Rattle.ule_micro.specs.Agreement.{Place, IsThere, WordAgrees, under, in_hand}
-use Rattle.ule_micro.specs.States.{State, lock_holder, word_of, holds, lock_held_by, pending, pending_by, carried_at, course_of_seat, courses, took, standing_of_phase}
+use Rattle.ule_micro.specs.States.{State, lock_holder, word_of, holds, lock_held_by, pending, pending_by, carried_at, course_of_seat, took, standing_of_phase}
 use Rattle.ule_micro.specs.Turns.{take, commit, leave, open_event, approach, step_of, turn_by, first_read}
 use Rattle.ule_micro.specs.Theorem.{StepsNext, IsNotStuck}
 use Rattle.ule_micro.specs.Kept.{IsKeptState}
 use Rattle.ule_micro.proofs.Lists.{there}
 use Rattle.ule_micro.proofs.Seats.{seat_course_at, held_low}
 use Rattle.ule_micro.proofs.Threads.{lock_not_blocked}
-use Rattle.ule_micro.proofs.Moves.{among_one}
-use Rattle.ule_micro.proofs.Commits.{guarded_there, effect_there}
+use Rattle.ule_micro.proofs.Among.{among_one}
+use Rattle.ule_micro.proofs.Courses.{asked_for}
+use Rattle.ule_micro.proofs.Effects.{effect_is, guarded_there}
+use Rattle.ule_micro.proofs.Turning.{rises_at, sought_declared}
 
 module _ {A : Type 0} where
   -- an option is there or not
@@ -43,10 +45,10 @@ module _ {A : Type 0} where
 abbrev pub IsMoved : Turn → Type 0
 IsMoved t = (d : StepDone) × (t ≡ turn.Moved d)
 
-module _ {H O G E R C : Type 0} (m : Means H O G E R C) (law : MovesLittle m) (programs : KeepsPrograms m) (s : State O G E R) (k : IsKeptState m s) where
+module _ {H O G E R C : Type 0} (m : Means H O G E R C) (orders : ℕ → List C) (laws : IsLawful m) (lists : AreOrders m orders) (s : State O G E R) (k : IsKeptState m orders s) where
   -- a worker whose step of this phase is a step moves
-  moves_by : (w : ℕ) (p : Seat O E R) → slice_get s.seats w ≡ Some p → IsMoved (step_of m s w p p.phase).0 → StepsNext m s w
-  moves_by w p at (d, is) = (d, ap (λ o. (turn_by m s w o).0) at ∙ is)
+  moves_by : (w : ℕ) (p : Seat O E R) → slice_get s.seats w ≡ Some p → IsMoved (step_of m orders s w p p.phase).0 → StepsNext m orders s w
+  moves_by w p at (d, is) = (d, ap (λ o. (turn_by m orders s w o).0) at ∙ is)
 
   -- a free lock is taken
   take_moves : (w : ℕ) (p : Seat O E R) (l : ℕ) (there : Phase E R) (o : Option ℕ) → o ≡ None → IsMoved (take s w p l there o).0
@@ -54,15 +56,15 @@ module _ {H O G E R C : Type 0} (m : Means H O G E R C) (law : MovesLittle m) (p
 
   module _ (w : ℕ) (p : Seat O E R) (at : slice_get s.seats w ≡ Some p) where
     -- a worker with a change pending moves
-    pub pending_moves : (c : WordChange) → p.pending ≡ Some c → StepsNext m s w
+    pub pending_moves : (c : WordChange) → p.pending ≡ Some c → StepsNext m orders s w
     pending_moves c is = let z = k.agreement.changes w p at c is in
-        moves_by w p at (subst (λ f. IsMoved (step_of m s w p f).0) (sym z.2) (subst (λ o. IsMoved (leave m s w p z.0.reply z.0.now z.0.locks o).0) (sym is) (stores c))) where
-          stores : (d : WordChange) → IsMoved (leave m s w p (k.agreement.changes w p at c is).0.reply (k.agreement.changes w p at c is).0.now (k.agreement.changes w p at c is).0.locks (Some d)).0
+        moves_by w p at (subst (λ f. IsMoved (step_of m orders s w p f).0) (sym z.2) (subst (λ o. IsMoved (leave m orders s w p z.0.reply z.0.now z.0.locks o).0) (sym is) (stores c))) where
+          stores : (d : WordChange) → IsMoved (leave m orders s w p (k.agreement.changes w p at c is).0.reply (k.agreement.changes w p at c is).0.now (k.agreement.changes w p at c is).0.locks (Some d)).0
           stores (Block t) = (done.Block t, refl)
           stores (Point t l) = (done.Point t l, refl)
 
     -- a worker behind its commit moves
-    leave_moves : (reply : R) (now : ℕ) (held : HeldLocks) (o : Option WordChange) → IsMoved (leave m s w p reply now held o).0
+    leave_moves : (reply : R) (now : ℕ) (held : HeldLocks) (o : Option WordChange) → IsMoved (leave m orders s w p reply now held o).0
     leave_moves reply now held (Some (Block t)) = (done.Block t, refl)
     leave_moves reply now held (Some (Point t l)) = (done.Point t l, refl)
     leave_moves reply now (One a) None = (done.Release a, refl)
@@ -71,9 +73,9 @@ module _ {H O G E R C : Type 0} (m : Means H O G E R C) (law : MovesLittle m) (p
     -- a worker whose event is next commits
     pub commit_moves : (e : E) (held : HeldLocks) (now : ℕ) → p.phase ≡ phase.Event e (progress.Timed held now)
         → IsMoved (commit m s w p e held now (effect_under m w e now (m.hand p.own) held s.values)).0
-    commit_moves e held now here = let g = guarded_at in let a = effect_there m w e now (m.hand p.own) held s.values g.0 g.1 in (done.Commit (s.ticket + 1), ap (λ o. (commit m s w p e held now o).0) a.1) where
+    commit_moves e held now here = let g = guarded_at in (done.Commit (s.ticket + 1), ap (λ o. (commit m s w p e held now o).0) (effect_is m w e now (m.hand p.own) held s.values g.0 g.1)) where
       guarded_at : (guarded : List G) × (values_under held s.values ≡ Some guarded)
-      guarded_at = guarded_there m s.values held (m.needs e) k.values (law.rising e) (k.agreement.ways w p e (progress.Timed held now) at here)
+      guarded_at = guarded_there m s.values held (m.needs e) k.values (rises_at m orders s k w p at laws lists e (progress.Timed held now) here) (k.agreement.ways w p e (progress.Timed held now) at here)
 
     -- where no lock above l is held, a worker that holds l moves
     module _ (l : ℕ) (above : (b v : ℕ) → l < b → lock_holder s b ≡ Some v → ⊥) where
@@ -85,19 +87,19 @@ module _ {H O G E R C : Type 0} (m : Means H O G E R C) (law : MovesLittle m) (p
       way_moves e (progress.Named t a) here took_it = absurd (true≢false (sym took_it))
       way_moves e (progress.Taken t a) here took_it = (done.Read t (word_of s t), refl)
       way_moves e (progress.Stale a) here took_it = (done.Release a, refl)
-      way_moves e (progress.Half a b) here took_it = let needs = k.agreement.ways w p e (progress.Half a b) at here in let low = subst (AreRising m) needs (law.rising e) in
+      way_moves e (progress.Half a b) here took_it = let needs = k.agreement.ways w p e (progress.Half a b) at here in let low = subst AreRising needs (rises_at m orders s k w p at laws lists e (progress.Half a b) here) in
           let same = among_one a l took_it in take_moves w p b (phase.Event e (progress.Locked (Two a b))) (lock_holder s b) (free_above b (let x = low.0 in omega arith))
       way_moves e (progress.Locked held) here took_it = (done.Now s.now, refl)
       way_moves e (progress.Timed held now) here took_it = commit_moves e held now here
 
-      phase_moves : (f : Phase E R) → p.phase ≡ f → took f l ≡ true → IsMoved (step_of m s w p f).0
+      phase_moves : (f : Phase E R) → p.phase ≡ f → took f l ≡ true → IsMoved (step_of m orders s w p f).0
       phase_moves phase.Finished here took_it = absurd (true≢false (sym took_it))
       phase_moves (phase.Advance n) here took_it = absurd (true≢false (sym took_it))
       phase_moves (phase.Event e way) here took_it = way_moves e way here took_it
       phase_moves (phase.Leaving reply now held) here took_it = leave_moves reply now held p.pending
 
       -- the worker that holds this lock moves
-      pub holder_moves : took p.phase l ≡ true → StepsNext m s w
+      pub holder_moves : took p.phase l ≡ true → StepsNext m orders s w
       holder_moves took_it = moves_by w p at (phase_moves p.phase refl took_it)
 
     -- where no lock is held, a worker moves that is not finished, and does not find the word of a thread that it seeks blocked
@@ -124,14 +126,14 @@ module _ {H O G E R C : Type 0} (m : Means H O G E R C) (law : MovesLittle m) (p
       free_way e (progress.Locked held) here finds = (done.Now s.now, refl)
       free_way e (progress.Timed held now) here finds = commit_moves e held now here
 
-      free_phase : (f : Phase E R) → p.phase ≡ f → f ≢ phase.Finished → FindsLock f → IsMoved (step_of m s w p f).0
+      free_phase : (f : Phase E R) → p.phase ≡ f → f ≢ phase.Finished → FindsLock f → IsMoved (step_of m orders s w p f).0
       free_phase phase.Finished here unfinished finds = absurd (unfinished refl)
       free_phase (phase.Advance n) here unfinished finds = (done.Advance n, refl)
       free_phase (phase.Event e way) here unfinished finds = free_way e way here finds
       free_phase (phase.Leaving reply now held) here unfinished finds = leave_moves reply now held p.pending
 
       -- an unfinished worker that finds a lock moves
-      pub free_moves : p.phase ≢ phase.Finished → FindsLock p.phase → StepsNext m s w
+      pub free_moves : p.phase ≢ phase.Finished → FindsLock p.phase → StepsNext m orders s w
       free_moves unfinished finds = moves_by w p at (free_phase p.phase refl unfinished finds)
 
   -- some held lock below n has no held lock above it below n, or none below n is held
@@ -170,7 +172,7 @@ module _ {H O G E R C : Type 0} (m : Means H O G E R C) (law : MovesLittle m) (p
 
   -- is moving: some worker moves
   abbrev pub SomeMoves : Type 0
-  SomeMoves = (v : ℕ) × (v < length s.seats) × StepsNext m s v
+  SomeMoves = (v : ℕ) × (v < length s.seats) × StepsNext m orders s v
 
   some_pending : (w : ℕ) (c : WordChange) → pending s w ≡ Some c → SomeMoves
   some_pending w c is = let z = pending_there w c is in (w, there s.seats w z.0 z.1, pending_moves w z.0 z.1 c z.2)
@@ -182,7 +184,7 @@ module _ {H O G E R C : Type 0} (m : Means H O G E R C) (law : MovesLittle m) (p
     there s.seats w z.0 z.1,
     free_moves w z.0 z.1 free
         (λ fin. true≢false (sym z.2 ∙ (k.agreement.finished w z.0 z.1 fin).empty t dec))
-        (λ e u here needs _. true≢false (sym z.2 ∙ (programs.seeks s.history s.values (courses s) w (course_of_seat z.0) e u k.play (seat_course_at s.seats w z.0 z.0 z.1) (ap standing_of_phase here) needs).1 t dec)),
+        (λ e u here needs _. true≢false (sym z.2 ∙ (laws.sound.seeks w (own_entries w s.history) (m.hand z.0.own) e u (asked_for m orders laws lists k.play w (course_of_seat z.0) (seat_course_at s.seats w z.0 z.0 z.1) e (ap standing_of_phase here)) needs).1 t dec)),
   )
 
   -- behind a blocked word stands a worker that moves, where no lock is held
@@ -202,7 +204,7 @@ module _ {H O G E R C : Type 0} (m : Means H O G E R C) (law : MovesLittle m) (p
     moves_so finds = (w, there s.seats w p at, free_moves w p at free unfinished (λ e' t is needs. let y : phase.Event e progress.Open ≡ phase.Event e' progress.Open = sym here ∙ is in let same : e ≡ e' = cc in finds t (ap m.needs same ∙ needs)))
 
     by_word : (t : ℕ) → m.needs e ≡ lock_of t → (x : Word) → word_of s t ≡ x → SomeMoves
-    by_word t needs Blocked is = blocked_moves free t (programs.seeks s.history s.values (courses s) w (course_of_seat p) e t k.play (seat_course_at s.seats w p p at) (ap standing_of_phase here) needs).0 is
+    by_word t needs Blocked is = blocked_moves free t (sought_declared m orders s k w p at laws lists e progress.Open t here needs) is
     by_word t needs (Lock l) is = moves_so (λ u other. let y : lock_of t ≡ lock_of u = sym needs ∙ other in let same : t ≡ u = cc in λ b. lock_not_blocked l (sym is ∙ (ap (word_of s) same ∙ b)))
 
     by : (n : Needs) → m.needs e ≡ n → SomeMoves
@@ -220,7 +222,7 @@ module _ {H O G E R C : Type 0} (m : Means H O G E R C) (law : MovesLittle m) (p
   free_some free w p at unfinished (phase.Event e (progress.Timed held now)) here = (w, there s.seats w p at, free_moves w p at free unfinished (λ e' u is needs. absurd (let y : phase.Event e (progress.Timed held now) ≡ phase.Event e' progress.Open = sym here ∙ is in cc)))
 
   -- no state is stuck
-  pub not_stuck : IsNotStuck m s
+  pub not_stuck : IsNotStuck m orders s
   not_stuck w p at unfinished = ⊎_elim
       (λ (z : (l : ℕ) × (v : ℕ) × (lock_holder s l ≡ Some v) × ((b u : ℕ) → l < b → lock_holder s b ≡ Some u → ⊥)).
       let q = holder_there z.1 z.0 ((k.agreement.locks z.0).held z.1 z.2) in (z.1, there s.seats z.1 q.0 q.1, holder_moves z.1 q.0 q.1 z.0 z.3 q.2))

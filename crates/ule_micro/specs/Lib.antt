@@ -1,3 +1,4 @@
+pub mod Standings
 pub mod Means
 pub mod Histories
 pub mod Courses

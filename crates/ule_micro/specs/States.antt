@@ -12,7 +12,9 @@ use Rattle.ule_micro.specs.declared.word.Word.TheVariants.{Lock}
 use Rattle.ule_micro.specs.declared.word.WordChange.{WordChange}
 use Rattle.ule_micro.specs.Means.{Means}
 use Rattle.ule_micro.specs.Histories.{ValuesAndHands, is_lock_among}
-use Rattle.ule_micro.specs.Courses.{WorkerCourse, Standing, asks, has, rests}
+use Rattle.ule_micro.specs.Courses.{WorkerCourse}
+use Rattle.ule_micro.specs.Standings.{Standing, asks, has, rests}
+use Rattle.ule_micro.specs.declared.locks.TheConstants.{LIMBO}
 
 -- state: a step state, with the newest entry of its history first
 pub record State (O G E R : Type 0) : Type 0 where
@@ -68,9 +70,9 @@ module _ {O G E R : Type 0} where
   abbrev pub lock_holder : State O G E R → ℕ → Option ℕ
   lock_holder s l = slice_index_or s.locks l None
 
-  -- word of: the thread's word
+  -- word of: the thread's word, which is limbo's for a number past those that there are
   abbrev pub word_of : State O G E R → ℕ → Word
-  word_of s t = slice_index_or s.words t (Lock 24)
+  word_of s t = slice_index_or s.words t (Lock LIMBO)
 
   -- holds: whether the worker took the lock and did not give it back
   abbrev pub holds : State O G E R → ℕ → ℕ → Bool
