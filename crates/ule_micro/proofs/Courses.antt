@@ -9,7 +9,7 @@ use Rattle.ule_micro.specs.Histories.{Follows, own_entries}
 use Rattle.ule_micro.specs.Courses.{WorkerCourse, unbegun, answered, ordered, advanced_by, done_by, LegalPlay, opens, answers, begins, advances, performs}
 use Rattle.ule_micro.specs.Laws.{IsLawful, AreOrders, AreValid, IsEmpty, total}
 use Rattle.ule_micro.proofs.Lists.{get_set, map_get, drop_get, there}
-use Rattle.ule_micro.proofs.Effects.{effect_so, its_locks}
+use Rattle.ule_micro.proofs.Effects.{effect_so, guarded_many, its_locks}
 
 module _ {E R : Type 0} where
   -- a worker's entries with one more of its own
@@ -83,7 +83,7 @@ module _ {H O G E R C : Type 0} (m : Means H O G E R C) (orders : ℕ → List C
         let so = effect_so m x.worker x.event x.now (m.hand c.own) x.locks vs follows.guarded follows.under after follows.effect in
         let j = journal r.given x.worker h in
         let z = laws.standing.performs j c.own x follows.guarded (stands_at h x.worker c r (has (Event x.event)) is) (sym r.number) follows.may
-        (its_locks m vs follows.guarded x.locks (m.needs x.event) follows.under follows.locks) (sym follows.reply ∙ ap (λ (y : Acted H G R). y.reply) so) in
+        (its_locks m vs follows.guarded x.locks (m.needs x.event) follows.under follows.locks) (guarded_many x.locks vs follows.guarded follows.under) (sym follows.reply ∙ ap (λ (y : Acted H G R). y.reply) so) in
         let hand : after.hand ≡ (m.act x.worker x.event x.now (m.hand c.own) follows.guarded).hand = ap (λ (y : Acted H G R). y.hand) so in
         let now = asks (Some (x.reply, x.now)) in record {
           number = laws.hands.put_number c.own after.hand ∙ r.number;

@@ -9,10 +9,12 @@ pub mod Fetches
 pub mod Courses
 pub mod Numbers
 pub mod Seats
+pub mod SharedSteps
+pub mod SharedCommit
+pub mod Showing
 pub mod Steps
 pub mod Fresh
 pub mod Goings
-pub mod Stores
 pub mod Commits
 pub mod Turning
 pub mod Unstuck

@@ -75,6 +75,10 @@ module _ {H O G E R C : Type 0} (m : Means H O G E R C) where
     pub reply : after.reply ≡ x.reply
 
 module _ {E R : Type 0} where
+  -- entry made: the entry that an event of the worker makes
+  abbrev pub entry_made : ℕ → E → HeldLocks → ℕ → R → Entry E R
+  entry_made w e held now reply = record { worker = w; locks = held; now = now; event = e; reply = reply }
+
   -- shares: an entry is of this worker, or under one of these locks
   abbrev pub Shares : ℕ → HeldLocks → Entry E R → Type 0
   Shares w held x = (x.worker ≡ w) ⊎ ((l : ℕ) × (is_lock_among held l ≡ true) × (is_lock_among x.locks l ≡ true))

@@ -127,7 +127,7 @@ module _ {H O G E R C : Type 0} (m : Means H O G E R C) where
     -- an event that is performed where it may be is one item
     pub performs : (j : Journal E R C) (o : O) (x : Entry E R) (guarded : List G) → m.stands j o (has (Event x.event)) → x.worker ≡ m.number o
         → m.may x.worker x.event x.now (m.hand o) guarded → AreItsLocks x.locks guarded (m.needs x.event)
-        → x.reply ≡ (m.act x.worker x.event x.now (m.hand o) guarded).reply
+        → length guarded ≡ lock_count x.locks → x.reply ≡ (m.act x.worker x.event x.now (m.hand o) guarded).reply
         → m.stands (with_made x j) (m.with_hand o (m.act x.worker x.event x.now (m.hand o) guarded).hand) (asks (Some (x.reply, x.now)))
         × (m.left (m.with_hand o (m.act x.worker x.event x.now (m.hand o) guarded).hand) (asks (Some (x.reply, x.now))) + 1 ≤ m.left o (has (Event x.event)))
     -- between two commands the hand is empty

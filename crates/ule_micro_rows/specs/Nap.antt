@@ -1,5 +1,5 @@
 -- What the scheduler of one napping thread means.
-use Rattle.std.specs.Prelude.{◌≡◌, ℕ, ◌^◌, ◌<◌, ◌==◌, Bool, true, false, List, [], ◌∷◌, length, replicate, Option, Some, None, if◌then◌else◌}
+use Rattle.std.specs.Prelude.{◌≡◌, ℕ, ◌^◌, ◌<◌, ◌==◌, Bool, true, false, List, [], ◌∷◌, replicate, Option, Some, None, if◌then◌else◌}
 use Rattle.ule_micro.specs.declared.todo.Todo.{Todo}
 use Rattle.ule_micro.specs.declared.todo.Todo.TheVariants as todo
 use Rattle.ule_micro.specs.declared.word.WordChange.{WordChange}
@@ -165,7 +165,7 @@ nap_means = record {
   with_hand = λ own hand. napper own.number own.stage hand;
   needs = nap_needs;
   asks = λ w mine hand e. hand ≡ needs_hand e;
-  may = λ w e now hand guarded. (hand ≡ needs_hand e) × (now < 2 ^ 36) × (length guarded ≡ 1);
+  may = λ w e now hand guarded. (hand ≡ needs_hand e) × (now < 2 ^ 36);
   act = λ w e now hand guarded. nap_act e hand guarded;
   change = change;
   valid = λ w given order. Unit {0};

@@ -12,9 +12,7 @@ use Rattle.ule_micro.specs.declared.word.WordChange.{WordChange}
 use Rattle.ule_micro.specs.declared.word.WordChange.TheVariants.{Block, Point}
 use Rattle.ule_micro.specs.Standings.{asks, has, rests, standing_with}
 use Rattle.ule_micro.specs.Means.{lock_of, stands_under, thread_of_change}
-use Rattle.ule_micro.specs.Histories.{AreLocksFor}
 use Rattle.ule_micro.specs.Laws.{AreItsLocks, AreOrders, AreRising, AreValid, AsksSoundly, IsEmpty, IsLawful, KeepsHands, KeepsStanding, Moves, MovesLittle, ReadiesEvents, StartsSettled, StartsSmall, lock_count, total}
-use Rattle.ule_micro.proofs.Effects.{guarded_many}
 use Rattle.ule_micro_rows.specs.declared.nap.Act.{Act}
 use Rattle.ule_micro_rows.specs.declared.nap.Act.TheVariants.{Doze, Bed, Rouse, Land}
 use Rattle.ule_micro_rows.specs.declared.nap.Answer.{Answer}
@@ -148,11 +146,13 @@ moves Rouse h a Asleep hand its = leaves h a Asleep at_zero
 moves Land h a v hand its = comes h a 0 v Awake hand (lock_is a 0 its) at_zero
 
 moves_little : MovesLittle nap_means
-moves_little w e now h held [] may rise many its = absurd (let z = may.2 in omega arith)
-moves_little w e now h held (v ∷ []) may rise many its = let z = held_one e held (v ∷ []) its in
-    subst (λ k. Moves nap_means k h (v ∷ []) (change e (acted e h v).2) (acted e h v).0 ((acted e h v).1 ∷ [])) (sym z.1)
-    (moves e h z.0 v may.0 (subst (λ k. AreItsLocks nap_means k (v ∷ []) (nap_needs e)) z.1 its))
-moves_little w e now h held (v ∷ u ∷ us) may rise many its = absurd (let z = may.2 in omega arith)
+moves_little w e now h held guarded may rise many its = by guarded held (held_one e held guarded its) many its where
+  by : (vs : List Spot) (k : HeldLocks) → (a : ℕ) × (k ≡ One a) → length vs ≡ lock_count k → AreItsLocks nap_means k vs (nap_needs e)
+      → Moves nap_means k h vs (change e (nap_act e h vs).reply) (nap_act e h vs).hand (nap_act e h vs).values
+  by [] k z len lock = absurd (let y = ap lock_count z.1 in omega arith)
+  by (v ∷ []) k z len lock = subst (λ i. Moves nap_means i h (v ∷ []) (change e (acted e h v).2) (acted e h v).0 ((acted e h v).1 ∷ [])) (sym z.1)
+      (moves e h z.0 v may.0 (subst (λ i. AreItsLocks nap_means i (v ∷ []) (nap_needs e)) z.1 lock))
+  by (v ∷ u ∷ us) k z len lock = absurd (let y = ap lock_count z.1 in omega arith)
 
 keeps_hands : KeepsHands nap_means
 keeps_hands = record { put = λ o h. refl; put_own = λ o. refl; put_twice = λ o h k. refl; put_number = λ o h. refl; begin = λ o c. refl; begin_number = λ o c. refl; next = λ o told. refl; next_number = λ o told. refl }
@@ -250,17 +250,12 @@ keeps_standing = record {
   advances = λ j o k stands. let five = stands.1.1 in let stage = stands.1.0 in
       (omega arith, omega arith, (stands.0 ∙ ap (λ s. full s (asks None)) (sym stage), tt), let d : most o.stage (asks None) ≡ 0 = ap (λ s. most s (asks None)) stage in omega arith);
   asks_for = λ j o e stands. stands.0;
-  performs = λ j o x guarded stands who may its reply. ((performed o.stage o.hand x.event x.reply x.now guarded stands.0 stands.1 may.2 reply, tt), most_done x.event o.stage (Some (x.reply, x.now)) stands.1);
+  performs = λ j o x guarded stands who may its many reply. ((performed o.stage o.hand x.event x.reply x.now guarded stands.0 stands.1 (many ∙ ap lock_count (held_one x.event x.locks guarded its).1) reply, tt), most_done x.event o.stage (Some (x.reply, x.now)) stands.1);
   ends = λ j o stands. empty_hand o.hand stands.0;
 }
 
 readies : ReadiesEvents nap_means
-readies h y w e now hand held guarded leads at asked locks under early small = (asked, small, one_value e held locks (guarded_many held y.values guarded under)) where
-  one_value : (f : Act) (k : HeldLocks) → AreLocksFor nap_means y.values k (nap_needs f) → length guarded ≡ lock_count k → length guarded ≡ 1
-  one_value Doze k is many = many ∙ ap lock_count is
-  one_value Bed k is many = many ∙ ap lock_count is
-  one_value Rouse k is many = many ∙ ap lock_count is.1
-  one_value Land k is many = many ∙ ap lock_count is
+readies h y w e now hand held guarded leads at asked locks under early small = (asked, small)
 
 -- the laws of the napping thread
 pub lawful : IsLawful nap_means
