@@ -99,18 +99,12 @@ module _ {H O G E R C : Type 0} (m : Means H O G E R C) (orders : ℕ → List C
           past = let a = times.past in let b = now_is m orders s k in omega arith;
         })
 
-  -- there is still an item to perform, so the history is short
-  pub few_entries : length s.history < 65536
-  few_entries = let a = effect_now in let z = play_small m orders laws lists (entry_made w e held now a.0.reply ∷ s.history) a.0.values (map course_of_seat (set s.seats w (seat_leaving m p e held now a.0))) (play_after a.0 a.1) in let y = z.1 in omega arith
-
-  -- its worker performed few items so far
-  pub few_items : p.items < 65536
-  few_items = let a = effect_now in let q = seat_leaving m p e held now a.0 in
-      let z = items_small m orders laws lists (entry_made w e held now a.0.reply ∷ s.history) a.0.values (map course_of_seat (set s.seats w q)) w (course_of_seat q) (play_after a.0 a.1) (get_map course_of_seat (set s.seats w q) w q (seat_here s.seats w p q at)) in omega arith
-
-  -- there is room for its entry
-  pub entry_has_room : length s.history < budgets m.budget (length m.owns)
-  entry_has_room = let a = effect_now in let z = play_small m orders laws lists (entry_made w e held now a.0.reply ∷ s.history) a.0.values (map course_of_seat (set s.seats w (seat_leaving m p e held now a.0))) (play_after a.0 a.1) in let y = z.0 in omega arith
+  -- there is still an item to perform, so the numbers of the worker and of the history are small
+  pub still_small : (p.items < 65536) × (length s.history < 65536) × (length s.history < budgets m.budget (length m.owns))
+  still_small = let a = effect_now in let q = seat_leaving m p e held now a.0 in let h = entry_made w e held now a.0.reply ∷ s.history in let cs = map course_of_seat (set s.seats w q) in
+      let z = play_small m orders laws lists h a.0.values cs (play_after a.0 a.1) in let room = z.0 in let few = z.1 in
+      let items = items_small m orders laws lists h a.0.values cs w (course_of_seat q) (play_after a.0 a.1) (get_map course_of_seat (set s.seats w q) w q (seat_here s.seats w p q at)) in
+      (omega arith, omega arith, omega arith)
 
   module _ (after : Acted H G R) (effect : effect_under m w e now (m.hand p.own) held s.values ≡ Some after) where
     abbrev p' : Seat O E R

@@ -12,7 +12,7 @@ use Rattle.ule_micro.specs.Standings.{asks, standing_with}
 use Rattle.ule_micro.specs.Courses.{LegalPlay, advances}
 use Rattle.ule_micro.specs.Laws.{AreOrders, IsEmpty, IsLawful}
 use Rattle.ule_micro.specs.Programs.{CanGoOn}
-use Rattle.ule_micro.specs.Shared.{Agrees, put, raised, released}
+use Rattle.ule_micro.specs.Shared.{Agrees, updated, now_advanced, lock_released}
 use Rattle.ule_micro.specs.States.{State, holds, time_read, read_by, course_of_seat, courses, shared_of, took, standing_of_phase}
 use Rattle.ule_micro.specs.Turns.{Fetched, fetch, seat_going_on}
 use Rattle.ule_micro.specs.Theorem.{HasWhatItNeeds}
@@ -99,7 +99,7 @@ module _ {H O G E R C : Type 0} (m : Means H O G E R C) (orders : ℕ → List C
     advance_kept = let q = seat_going_on m orders w p.own p.begun None (p.items + 1) (p.advanced + n) in
         let f = fetch m p.own p.begun None (drop p.begun (orders w)) in
         goes_on None (p.items + 1) (p.advanced + n) quiet_advance asking_advance s.locks (s.now + n) k.locks
-        (subst (Agrees m) (sym (alike_same _ (raised (shared_of m s k.agreement.history) w p.advanced n) (record {
+        (subst (Agrees m) (sym (alike_same _ (now_advanced (shared_of m s k.agreement.history) w p.advanced n) (record {
           locks = λ l. refl;
           words = λ t. refl;
           ticket = refl;
@@ -108,7 +108,7 @@ module _ {H O G E R C : Type 0} (m : Means H O G E R C) (orders : ℕ → List C
           hands = hands_same m s.seats w p q at (well None (p.items + 1) (p.advanced + n) quiet_advance asking_advance).1.hand;
           holds = λ v l. held_same s.seats w p q at l (took_nothing f.item q.phase l refl ∙ sym (ap (λ g. took g l) here)) v;
           pending = pending_same s.seats w p q at (sym quiet_advance);
-          read = λ v. put_seat s.seats w p q at read_by v ∙ ap (λ r. put (time_read s) w r v) (read_nothing f.item q.phase refl);
+          read = λ v. put_seat s.seats w p q at read_by v ∙ ap (λ r. updated (time_read s) w r v) (read_nothing f.item q.phase refl);
           advanced = map_set (λ (y : Seat O E R). y.advanced) s.seats w q;
           history = refl;
         }))) (advancing_agrees m (shared_of m s k.agreement.history) w p.advanced n k.agreement.shared (advanced_there s.seats w p q at)))
@@ -135,7 +135,7 @@ module _ {H O G E R C : Type 0} (m : Means H O G E R C) (orders : ℕ → List C
         let gone : (l : ℕ) → took q.phase l ≡ false = λ l. took_nothing f.item q.phase l refl in
         let had : holds s w a ≡ true = held_before s.seats w p q at a ∙ (ap (λ g. took g a) here ∙ among_this a) in
         goes_on (Some (reply, now)) p.items p.advanced quiet asking_leave (set s.locks a None) s.now (length-set s.locks a None ∙ k.locks)
-        (subst (Agrees m) (sym (alike_same _ (released (shared_of m s k.agreement.history) w a) (record {
+        (subst (Agrees m) (sym (alike_same _ (lock_released (shared_of m s k.agreement.history) w a) (record {
           locks = index_put s.locks a None None (held_low s k.agreement.shared.locks w a had);
           words = λ t. refl;
           ticket = refl;
@@ -144,7 +144,7 @@ module _ {H O G E R C : Type 0} (m : Means H O G E R C) (orders : ℕ → List C
           hands = hands_same m s.seats w p q at (well (Some (reply, now)) p.items p.advanced quiet asking_leave).1.hand;
           holds = held_with s.seats w p q at a false (gone a) (λ l n. gone l ∙ sym (ap (λ g. took g l) here ∙ not_among_one a l n));
           pending = pending_same s.seats w p q at (sym quiet);
-          read = λ v. put_seat s.seats w p q at read_by v ∙ ap (λ r. put (time_read s) w r v) (read_nothing f.item q.phase refl);
+          read = λ v. put_seat s.seats w p q at read_by v ∙ ap (λ r. updated (time_read s) w r v) (read_nothing f.item q.phase refl);
           advanced = advanced_same s.seats w p q at refl;
           history = refl;
         }))) (releasing_agrees m (shared_of m s k.agreement.history) w a k.agreement.shared had (pending_before s.seats w p q at ∙ quiet)))

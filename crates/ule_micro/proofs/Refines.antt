@@ -38,7 +38,7 @@ use Rattle.ule_micro.proofs.Numbers.{play_small, items_small, advanced_set, adva
 use Rattle.ule_micro.proofs.Showing.{now_is, ticket_is}
 use Rattle.ule_micro.proofs.Goings.{can_go_on, quiet_advance, asking_advance, asking_leave}
 use Rattle.ule_micro.proofs.Effects.{apart_for}
-use Rattle.ule_micro.proofs.Commits.{performable, few_entries, few_items, entry_has_room, rises}
+use Rattle.ule_micro.proofs.Commits.{performable, rises, still_small}
 use Rattle.ule_micro.specs.Theorem.{WordTellsPlace, HasLegalPlay, IsNoStep, IsNotStuck}
 use Rattle.ule_micro.proofs.Turning.{rises_at, worker_turn_kept, tells_place}
 use Rattle.ule_micro.proofs.Unstuck.{not_stuck}
@@ -312,12 +312,9 @@ module _ {P H O G E R C : Type 0} (means : P → Means H O G E R C) (orders : P 
           -- the numbers of a worker that commits are small
           pub commit_small : WorkerStandsAt s w (phase.Event e (progress.Timed held now))
               → (q.items < 65536) × (s.ticket < 65536) × (length s.history < budgets (means parts).budget (length (means parts).owns))
-          commit_small (p, at, here) = let seat = seat_now s.seats w p q at is in let here' = phase_now (phase.Event e (progress.Timed held now)) (p, at, here) in
-              let few = few_entries (means parts) (orders parts) (laws parts) (lists parts) s k w q seat e held now here' in (
-                few_items (means parts) (orders parts) (laws parts) (lists parts) s k w q seat e held now here',
-                (let t = ticket_is (means parts) (orders parts) s k in omega arith),
-                entry_has_room (means parts) (orders parts) (laws parts) (lists parts) s k w q seat e held now here',
-              )
+          commit_small (p, at, here) = let seat = seat_now s.seats w p q at is in
+              let z = still_small (means parts) (orders parts) (laws parts) (lists parts) s k w q seat e held now (phase_now (phase.Event e (progress.Timed held now)) (p, at, here)) in
+              let few = z.1 in let t = ticket_is (means parts) (orders parts) s k in (z.0, omega arith, z.2)
 
       -- the locks of an event on the way rise
       pub open_rises : (e : E) (way : Progress) → WorkerStandsAt s w (phase.Event e way) → AreRising ((means parts).needs e)

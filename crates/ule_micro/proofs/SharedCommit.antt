@@ -12,7 +12,7 @@ use Rattle.ule_micro.specs.Means.{Means, carried_by, stands_under, thread_of_cha
 use Rattle.ule_micro.specs.Histories.{Follows, IsNoEarlierThanShared, Shares, effect_on, effect_under, entry_made, is_lock_among, latest_of, own_entries, values_under}
 use Rattle.ule_micro.specs.Laws.{AreInRisingOrder, AreRising, IsLawful, Moves, lock_count}
 use Rattle.ule_micro.specs.Agreement.{ThreadAgrees}
-use Rattle.ule_micro.specs.Shared.{Agrees, CanCommit, HoldsItsLocks, IsTimely, Shared, Stamped, TimeRead, as_it_stands, committed, entries}
+use Rattle.ule_micro.specs.Shared.{Agrees, CanCommit, HoldsItsLocks, IsTimely, Shared, Stamped, TimeRead, as_it_stands, committed, unstamped}
 use Rattle.ule_micro.specs.SharedLaws.{CommittingAgrees, CommittingMay}
 use Rattle.ule_micro.proofs.Lists.{get_here, get_else, there}
 use Rattle.ule_micro.proofs.Effects.{apart_for, effect_so, guarded_many, guarded_there, its_locks, laid_many}
@@ -44,7 +44,7 @@ module _ {H O G E R C : Type 0} (m : Means H O G E R C) (law : IsLawful m) (s : 
   timely = k.times w (record { locks = held; now = now }) can.read
 
   rises : AreRising (m.needs e)
-  rises = law.sound.rising w (own_entries w (entries s.history)) hand e can.asks
+  rises = law.sound.rising w (own_entries w (unstamped s.history)) hand e can.asks
 
   -- the values under the event's locks are there
   there_are : (guarded : List G) × (values_under held s.values ≡ Some guarded)
@@ -52,7 +52,7 @@ module _ {H O G E R C : Type 0} (m : Means H O G E R C) (law : IsLawful m) (s : 
 
   -- the event may be performed on them
   may_act : m.may w e now hand there_are.0
-  may_act = law.ready (entries s.history) (as_it_stands s) w e now hand held there_are.0 k.history can.hand_is can.asks can.needs there_are.1 timely.no_earlier (let a = timely.past in omega arith)
+  may_act = law.ready (unstamped s.history) (as_it_stands s) w e now hand held there_are.0 k.history can.hand_is can.asks can.needs there_are.1 timely.no_earlier (let a = timely.past in omega arith)
 
   module _ (after : Acted H G R) (effect : effect_under m w e now hand held s.values ≡ Some after) where
     abbrev s' : Shared H G E R
@@ -106,20 +106,33 @@ module _ {H O G E R C : Type 0} (m : Means H O G E R C) (law : IsLawful m) (s : 
     abbrev AgreesAt : Shared H G E R → ℕ → Type 0
     AgreesAt y t = ThreadAgrees y.holds y.pending (λ l. stands_under m y.values l t) (λ v. carried_by m y.hands v t) t (y.words t)
 
+    -- where a thread stood and was carried before the event, and after it
+    abbrev stood_under : ℕ → ℕ → Bool
+    stood_under t l = stands_under m s.values l t
+
+    abbrev is_under : ℕ → ℕ → Bool
+    is_under t l = stands_under m after.values l t
+
+    abbrev was_carried : ℕ → ℕ → Bool
+    was_carried t v = carried_by m s.hands v t
+
+    abbrev is_carried : ℕ → ℕ → Bool
+    is_carried t v = carried_by m s'.hands v t
+
     thread_after : (t : ℕ) → m.declared t ≡ true → AgreesAt s' t
     thread_after t dec = by (moved_to t dec) where
       was : AgreesAt s t
       was = k.threads t dec
 
       by : Moved m held hand after.hand s.values after.values t (m.change e after.reply) → AgreesAt s' t
-      by (stays far stand carry) = thread_kept s.holds s.holds s.pending s'.pending (λ l. stands_under m s.values l t) (λ l. stands_under m after.values l t) (λ v. carried_by m s.hands v t) (λ v. carried_by m s'.hands v t) t (s.words t) (s.words t)
+      by (stays far stand carry) = thread_kept s.holds s.holds s.pending s'.pending (stood_under t) (is_under t) (was_carried t) (is_carried t) t (s.words t) (s.words t)
           refl stand
           (λ v. dite (ℕ_discrete v w) (λ z. subst (λ i. carried_by m s'.hands i t ≡ carried_by m s.hands i t) (sym z) (carried_w t ∙ (carry ∙ sym (carried_was t)))) (carried_others t v))
           (λ v c is a. dite (ℕ_discrete v w) (λ z. absurd (far c (sym pends ∙ (ap s'.pending (sym z) ∙ is)) a)) (λ o. sym (others v o) ∙ is))
           (λ v c is a. dite (ℕ_discrete v w) (λ z. absurd (none-some c (sym can.calm ∙ (ap s.pending (sym z) ∙ is)))) (λ o. others v o ∙ is))
           (λ v l c is a h. h) was
-      by (left a is among stood gone carry) = let z = under_calm s.holds s.pending (λ l. stands_under m s.values l t) (λ v. carried_by m s.hands v t) t (s.words t) w can.calm was a (alone_in a among) stood in
-          thread_left s.holds s.holds s.pending s'.pending (λ l. stands_under m s.values l t) (λ l. stands_under m after.values l t) (λ v. carried_by m s.hands v t) (λ v. carried_by m s'.hands v t) t (s.words t) (s.words t) w was refl z.2 others (carried_others t)
+      by (left a is among stood gone carry) = let z = under_calm s.holds s.pending (stood_under t) (was_carried t) t (s.words t) w can.calm was a (alone_in a among) stood in
+          thread_left s.holds s.holds s.pending s'.pending (stood_under t) (is_under t) (was_carried t) (is_carried t) t (s.words t) (s.words t) w was refl z.2 others (carried_others t)
           a z.0 z.1 (timely.holds a among) (pends ∙ is) (carried_w t ∙ carry)
           (λ l st. let g = gone l st in let same : a ≡ l = under_injective a l (sym z.0 ∙ was.only_under l g.0) in true≢false (sym among ∙ (ap (is_lock_among held) same ∙ g.1)))
       by (came c is from among st only carry) = by_place from where
@@ -127,27 +140,27 @@ module _ {H O G E R C : Type 0} (m : Means H O G E R C) (law : IsLawful m) (s : 
         no_hand_else none v ca = dite (ℕ_discrete v w) (λ z. true≢false (sym ca ∙ (ap (λ i. carried_by m s'.hands i t) z ∙ (carried_w t ∙ carry)))) (λ o. none v o (sym (carried_others t v o) ∙ ca))
 
         by_place : ((m.carried_in hand t ≡ true) ⊎ ((a : ℕ) × (is_lock_among held a ≡ true) × (stands_under m s.values a t ≡ true))) → AgreesAt s' t
-        by_place (inl ca) = let z = hand_calm s.holds s.pending (λ l. stands_under m s.values l t) (λ v. carried_by m s.hands v t) t (s.words t) w can.calm was (carried_was t ∙ ca) in
-            thread_came s.holds s.holds s.pending s'.pending (λ l. stands_under m s.values l t) (λ l. stands_under m after.values l t) (λ v. carried_by m s.hands v t) (λ v. carried_by m s'.hands v t) t (s.words t) (s.words t) w was refl z.2 others (carried_others t)
+        by_place (inl ca) = let z = hand_calm s.holds s.pending (stood_under t) (was_carried t) t (s.words t) w can.calm was (carried_was t ∙ ca) in
+            thread_came s.holds s.holds s.pending s'.pending (stood_under t) (is_under t) (was_carried t) (is_carried t) t (s.words t) (s.words t) w was refl z.2 others (carried_others t)
             c (timely.holds c among) (pends ∙ is) st (λ l stl. ⊎_elim (λ y. y) (λ (y : (stands_under m s.values l t ≡ true) × (is_lock_among held l ≡ false)). absurd (under_no_hand l w (sym (was.only_under l y.0) ∙ z.0))) (only l stl))
             (no_hand_else (λ v o h. o (hand_injective v w (sym (was.only_hand v h) ∙ z.0)))) (inl z.1)
-        by_place (inr (a, took_it, stood)) = let z = under_calm s.holds s.pending (λ l. stands_under m s.values l t) (λ v. carried_by m s.hands v t) t (s.words t) w can.calm was a (alone_in a took_it) stood in
-            thread_came s.holds s.holds s.pending s'.pending (λ l. stands_under m s.values l t) (λ l. stands_under m after.values l t) (λ v. carried_by m s.hands v t) (λ v. carried_by m s'.hands v t) t (s.words t) (s.words t) w was refl z.2 others (carried_others t)
+        by_place (inr (a, took_it, stood)) = let z = under_calm s.holds s.pending (stood_under t) (was_carried t) t (s.words t) w can.calm was a (alone_in a took_it) stood in
+            thread_came s.holds s.holds s.pending s'.pending (stood_under t) (is_under t) (was_carried t) (is_carried t) t (s.words t) (s.words t) w was refl z.2 others (carried_others t)
             c (timely.holds c among) (pends ∙ is) st
             (λ l stl. ⊎_elim (λ y. y) (λ (y : (stands_under m s.values l t ≡ true) × (is_lock_among held l ≡ false)). absurd (let same : a ≡ l = under_injective a l (sym z.0 ∙ was.only_under l y.0) in true≢false (sym took_it ∙ (ap (is_lock_among held) same ∙ y.1)))) (only l stl))
             (no_hand_else (λ v o h. under_no_hand a v (sym z.0 ∙ was.only_hand v h))) (inr (a, z.1, timely.holds a took_it))
 
     changes_after : (v : ℕ) (c : WordChange) → s'.pending v ≡ Some c → (m.declared (thread_of_change c) ≡ true) × HoldsItsLocks s' v
     changes_after v c is = dite (ℕ_discrete v w)
-        (λ z. (of_declared c (sym pends ∙ (ap s'.pending (sym z) ∙ is)), (x, latest_here v x (entries s.history) (sym z), λ l among. subst (λ i. s.holds i l ≡ true) (sym z) (timely.holds l among))))
-        (λ far. let r = k.changes v c (sym (others v far) ∙ is) in (r.0, (r.1.0, latest_else v x (entries s.history) (λ same. far (sym same)) ∙ r.1.1, r.1.2)))
+        (λ z. (of_declared c (sym pends ∙ (ap s'.pending (sym z) ∙ is)), (x, latest_here v x (unstamped s.history) (sym z), λ l among. subst (λ i. s.holds i l ≡ true) (sym z) (timely.holds l among))))
+        (λ far. let r = k.changes v c (sym (others v far) ∙ is) in (r.0, (r.1.0, latest_else v x (unstamped s.history) (λ same. far (sym same)) ∙ r.1.1, r.1.2)))
 
     other_timely : (v : ℕ) (r : TimeRead) → v ≢ w → IsTimely s v r → IsTimely s' v r
     other_timely v r far t = record {
       holds = t.holds;
       past = t.past;
       own = t.own;
-      no_earlier = no_earlier_more (entries s.history) x v r.locks r.now t.no_earlier (λ sh. absurd (⊎_elim (λ (same : w ≡ v). far (sym same))
+      no_earlier = no_earlier_more (unstamped s.history) x v r.locks r.now t.no_earlier (λ sh. absurd (⊎_elim (λ (same : w ≡ v). far (sym same))
           (λ (z : (l : ℕ) × (is_lock_among r.locks l ≡ true) × (is_lock_among held l ≡ true)). far (alone_in z.0 z.2 v (t.holds z.0 z.1))) sh));
     }
 

@@ -13,7 +13,7 @@ use Rattle.ule_micro.specs.declared.word.WordChange.TheVariants.{Block, Point}
 use Rattle.ule_micro.specs.Means.{Means, carried_by, stands_under, thread_of_change}
 use Rattle.ule_micro.specs.Histories.{IsNoEarlierThanShared, is_lock_among}
 use Rattle.ule_micro.specs.Agreement.{NamesOneHolder, ThreadAgrees}
-use Rattle.ule_micro.specs.Shared.{Agrees, IsTimely, Shared, Stamped, TimeRead, entries, put, raised, read_at, released, stored, taken, together, with_hold}
+use Rattle.ule_micro.specs.Shared.{Agrees, IsTimely, Shared, Stamped, TimeRead, unstamped, updated, now_advanced, now_read, lock_released, word_stored, lock_taken, together, with_hold}
 use Rattle.ule_micro.specs.SharedLaws.{AdvancingAgrees, BlockingAgrees, PointingAgrees, ReadingAgrees, ReleasingAgrees, TakingAgrees}
 use Rattle.ule_micro.proofs.Lists.{get_else, map_get}
 use Rattle.ule_micro.proofs.Threads.{thread_kept, thread_blocked, thread_pointed}
@@ -21,26 +21,26 @@ use Rattle.ule_micro.proofs.Words.{names_kept, names_taken, names_freed, one_hol
 
 module _ {X : Type 0} (f : ℕ → X) (w : ℕ) (x : X) where
   -- the number that was put has what was put
-  pub put_here : put f w x w ≡ x
+  pub put_here : updated f w x w ≡ x
   put_here = ap (λ b. if b then x else f w) (eq-eqb w w refl)
 
   -- every other number has what it had
-  pub put_else : (v : ℕ) → v ≢ w → put f w x v ≡ f v
+  pub put_else : (v : ℕ) → v ≢ w → updated f w x v ≡ f v
   put_else v far = ap (λ b. if b then x else f v) (ne_eqb v w far)
 
 -- who holds what after one worker took a lock, or gave it back
 module _ (holds : ℕ → ℕ → Bool) (w l : ℕ) (b : Bool) where
   -- the worker holds the lock, or does not
   pub hold_here : with_hold holds w l b w l ≡ b
-  hold_here = ap (λ f. f l) (put_here holds w (put (holds w) l b)) ∙ put_here (holds w) l b
+  hold_here = ap (λ f. f l) (put_here holds w (updated (holds w) l b)) ∙ put_here (holds w) l b
 
   -- it holds every other lock as before
   pub hold_more : (i : ℕ) → i ≢ l → with_hold holds w l b w i ≡ holds w i
-  hold_more i far = ap (λ f. f i) (put_here holds w (put (holds w) l b)) ∙ put_else (holds w) l b i far
+  hold_more i far = ap (λ f. f i) (put_here holds w (updated (holds w) l b)) ∙ put_else (holds w) l b i far
 
   -- another worker holds what it held
   pub hold_other : (v i : ℕ) → v ≢ w → with_hold holds w l b v i ≡ holds v i
-  hold_other v i far = ap (λ f. f i) (put_else holds w (put (holds w) l b) v far)
+  hold_other v i far = ap (λ f. f i) (put_else holds w (updated (holds w) l b) v far)
 
   -- every other lock is held as before
   pub hold_else : (v i : ℕ) → i ≢ l → with_hold holds w l b v i ≡ holds v i
@@ -70,7 +70,7 @@ timely_kept {E} {R} s s' w r locks later own same t = record {
   holds = λ l a. locks l a (t.holds l a);
   past = let a = t.past in omega arith;
   own = λ a at. t.own a (own a at);
-  no_earlier = subst (λ h. IsNoEarlierThanShared (entries h) w r.locks r.now) (sym same) t.no_earlier;
+  no_earlier = subst (λ h. IsNoEarlierThanShared (unstamped h) w r.locks r.now) (sym same) t.no_earlier;
 }
 
 module _ {H O G E R C : Type 0} (m : Means H O G E R C) (s : Shared H G E R) (w : ℕ) (k : Agrees m s) where
@@ -81,23 +81,23 @@ module _ {H O G E R C : Type 0} (m : Means H O G E R C) (s : Shared H G E R) (w 
   carries t v = carried_by m s.hands v t
 
   -- the times that the other workers read are timely where this one forgets its own
-  pub others_timely : (s' : Shared H G E R) → ((v : ℕ) (r : TimeRead) → v ≢ w → IsTimely s v r → IsTimely s' v r) → (v : ℕ) (r : TimeRead) → put s.read w None v ≡ Some r → IsTimely s' v r
-  others_timely s' each v r is = dite (ℕ_discrete v w) (λ z. absurd (none-some r (sym (put_here s.read w None) ∙ (ap (put s.read w None) (sym z) ∙ is))))
+  pub others_timely : (s' : Shared H G E R) → ((v : ℕ) (r : TimeRead) → v ≢ w → IsTimely s v r → IsTimely s' v r) → (v : ℕ) (r : TimeRead) → updated s.read w None v ≡ Some r → IsTimely s' v r
+  others_timely s' each v r is = dite (ℕ_discrete v w) (λ z. absurd (none-some r (sym (put_here s.read w None) ∙ (ap (updated s.read w None) (sym z) ∙ is))))
       (λ far. each v r far (k.times v r (sym (put_else s.read w None v far) ∙ is)))
 
   module _ (l : ℕ) (free : s.locks l ≡ None) where
-    take_agrees : Agrees m (taken s w l)
+    take_agrees : Agrees m (lock_taken s w l)
     take_agrees = record {
       values = k.values;
       locks = λ i. dite (ℕ_discrete i l)
-          (λ z. subst (λ j. NamesOneHolder ((taken s w l).locks j) (λ v. (taken s w l).holds v j)) (sym z)
-          (names_taken (s.locks l) ((taken s w l).locks l) (λ v. s.holds v l) (λ v. (taken s w l).holds v l) (k.locks l) w (λ v far. hold_other s.holds w l true v l far) free (put_here s.locks l (Some w)) (hold_here s.holds w l true)))
-          (λ far. names_kept (s.locks i) ((taken s w l).locks i) (λ v. s.holds v i) (λ v. (taken s w l).holds v i) (k.locks i) (put_else s.locks l (Some w) i far) (λ v. hold_else s.holds w l true v i far));
-      threads = λ t dec. thread_kept s.holds (taken s w l).holds s.pending s.pending (stands t) (stands t) (carries t) (carries t) t (s.words t) (s.words t) refl (λ i. refl) (λ v. refl) (λ v c is a. is) (λ v c is a. is)
+          (λ z. subst (λ j. NamesOneHolder ((lock_taken s w l).locks j) (λ v. (lock_taken s w l).holds v j)) (sym z)
+          (names_taken (s.locks l) ((lock_taken s w l).locks l) (λ v. s.holds v l) (λ v. (lock_taken s w l).holds v l) (k.locks l) w (λ v far. hold_other s.holds w l true v l far) free (put_here s.locks l (Some w)) (hold_here s.holds w l true)))
+          (λ far. names_kept (s.locks i) ((lock_taken s w l).locks i) (λ v. s.holds v i) (λ v. (lock_taken s w l).holds v i) (k.locks i) (put_else s.locks l (Some w) i far) (λ v. hold_else s.holds w l true v i far));
+      threads = λ t dec. thread_kept s.holds (lock_taken s w l).holds s.pending s.pending (stands t) (stands t) (carries t) (carries t) t (s.words t) (s.words t) refl (λ i. refl) (λ v. refl) (λ v c is a. is) (λ v c is a. is)
           (λ v i c is a h. hold_still s.holds w l v i h) (k.threads t dec);
       undeclared = k.undeclared;
       changes = λ v c is. let r = k.changes v c is in (r.0, (r.1.0, r.1.1, λ i a. hold_still s.holds w l v i (r.1.2 i a)));
-      times = others_timely (taken s w l) (λ v r far. timely_kept s (taken s w l) v r (λ i a h. hold_still s.holds w l v i h) (omega arith) (λ a at. at) refl);
+      times = others_timely (lock_taken s w l) (λ v r far. timely_kept s (lock_taken s w l) v r (λ i a h. hold_still s.holds w l v i h) (omega arith) (λ a at. at) refl);
       past = k.past;
       now = k.now;
       ticket = k.ticket;
@@ -108,18 +108,18 @@ module _ {H O G E R C : Type 0} (m : Means H O G E R C) (s : Shared H G E R) (w 
     busy : (v : ℕ) (c : WordChange) → s.pending v ≡ Some c → v ≢ w
     busy v c is z = none-some c (sym calm ∙ (ap s.pending (sym z) ∙ is))
 
-    release_agrees : Agrees m (released s w l)
+    release_agrees : Agrees m (lock_released s w l)
     release_agrees = record {
       values = k.values;
       locks = λ i. dite (ℕ_discrete i l)
-          (λ z. subst (λ j. NamesOneHolder ((released s w l).locks j) (λ v. (released s w l).holds v j)) (sym z)
-          (names_freed (s.locks l) ((released s w l).locks l) (λ v. s.holds v l) (λ v. (released s w l).holds v l) (k.locks l) w (λ v far. hold_other s.holds w l false v l far) has (put_here s.locks l None) (hold_here s.holds w l false)))
-          (λ far. names_kept (s.locks i) ((released s w l).locks i) (λ v. s.holds v i) (λ v. (released s w l).holds v i) (k.locks i) (put_else s.locks l None i far) (λ v. hold_else s.holds w l false v i far));
-      threads = λ t dec. thread_kept s.holds (released s w l).holds s.pending s.pending (stands t) (stands t) (carries t) (carries t) t (s.words t) (s.words t) refl (λ i. refl) (λ v. refl) (λ v c is a. is) (λ v c is a. is)
+          (λ z. subst (λ j. NamesOneHolder ((lock_released s w l).locks j) (λ v. (lock_released s w l).holds v j)) (sym z)
+          (names_freed (s.locks l) ((lock_released s w l).locks l) (λ v. s.holds v l) (λ v. (lock_released s w l).holds v l) (k.locks l) w (λ v far. hold_other s.holds w l false v l far) has (put_here s.locks l None) (hold_here s.holds w l false)))
+          (λ far. names_kept (s.locks i) ((lock_released s w l).locks i) (λ v. s.holds v i) (λ v. (lock_released s w l).holds v i) (k.locks i) (put_else s.locks l None i far) (λ v. hold_else s.holds w l false v i far));
+      threads = λ t dec. thread_kept s.holds (lock_released s w l).holds s.pending s.pending (stands t) (stands t) (carries t) (carries t) t (s.words t) (s.words t) refl (λ i. refl) (λ v. refl) (λ v c is a. is) (λ v c is a. is)
           (λ v i c is a h. hold_other s.holds w l false v i (busy v c is) ∙ h) (k.threads t dec);
       undeclared = k.undeclared;
       changes = λ v c is. let r = k.changes v c is in (r.0, (r.1.0, r.1.1, λ i a. hold_other s.holds w l false v i (busy v c is) ∙ r.1.2 i a));
-      times = others_timely (released s w l) (λ v r far. timely_kept s (released s w l) v r (λ i a h. hold_other s.holds w l false v i far ∙ h) (omega arith) (λ a at. at) refl);
+      times = others_timely (lock_released s w l) (λ v r far. timely_kept s (lock_released s w l) v r (λ i a h. hold_other s.holds w l false v i far ∙ h) (omega arith) (λ a at. at) refl);
       past = k.past;
       now = k.now;
       ticket = k.ticket;
@@ -128,27 +128,27 @@ module _ {H O G E R C : Type 0} (m : Means H O G E R C) (s : Shared H G E R) (w 
 
   -- a pending change of a thread is stored in its word
   module _ (t : ℕ) (c : WordChange) (word : Word) (is : s.pending w ≡ Some c) (about : thread_of_change c ≡ t)
-      (fits : m.declared t ≡ true → ThreadAgrees s.holds (put s.pending w None) (stands t) (carries t) t word) where
-    still : (v : ℕ) (d : WordChange) → put s.pending w None v ≡ Some d → s.pending v ≡ Some d
-    still v d has = dite (ℕ_discrete v w) (λ z. absurd (none-some d (sym (put_here s.pending w None) ∙ (ap (put s.pending w None) (sym z) ∙ has)))) (λ far. sym (put_else s.pending w None v far) ∙ has)
+      (fits : m.declared t ≡ true → ThreadAgrees s.holds (updated s.pending w None) (stands t) (carries t) t word) where
+    still : (v : ℕ) (d : WordChange) → updated s.pending w None v ≡ Some d → s.pending v ≡ Some d
+    still v d has = dite (ℕ_discrete v w) (λ z. absurd (none-some d (sym (put_here s.pending w None) ∙ (ap (updated s.pending w None) (sym z) ∙ has)))) (λ far. sym (put_else s.pending w None v far) ∙ has)
 
     this : m.declared t ≡ true
     this = ap m.declared (sym about) ∙ (k.changes w c is).0
 
-    store_agrees : Agrees m (stored s w t word)
+    store_agrees : Agrees m (word_stored s w t word)
     store_agrees = record {
       values = k.values;
       locks = k.locks;
       threads = λ u dec. dite (ℕ_discrete u t)
-          (λ z. subst (λ i. ThreadAgrees s.holds (put s.pending w None) (stands i) (carries i) i ((stored s w t word).words i)) (sym z)
-          (subst (ThreadAgrees s.holds (put s.pending w None) (stands t) (carries t) t) (sym (put_here s.words t word)) (fits this)))
-          (λ far. thread_kept s.holds s.holds s.pending (put s.pending w None) (stands u) (stands u) (carries u) (carries u) u (s.words u) ((stored s w t word).words u) (put_else s.words t word u far) (λ i. refl) (λ v. refl)
+          (λ z. subst (λ i. ThreadAgrees s.holds (updated s.pending w None) (stands i) (carries i) i ((word_stored s w t word).words i)) (sym z)
+          (subst (ThreadAgrees s.holds (updated s.pending w None) (stands t) (carries t) t) (sym (put_here s.words t word)) (fits this)))
+          (λ far. thread_kept s.holds s.holds s.pending (updated s.pending w None) (stands u) (stands u) (carries u) (carries u) u (s.words u) ((word_stored s w t word).words u) (put_else s.words t word u far) (λ i. refl) (λ v. refl)
           (λ v d has a. still v d has)
           (λ v d has a. dite (ℕ_discrete v w) (λ z. absurd (far (sym a ∙ (ap thread_of_change (same_Some d c (sym has ∙ (ap s.pending z ∙ is))) ∙ about)))) (λ o. put_else s.pending w None v o ∙ has))
           (λ v i d has a h. h) (k.threads u dec));
       undeclared = λ u none. dite (ℕ_discrete u t) (λ z. absurd (true≢false (sym this ∙ (ap m.declared (sym z) ∙ none)))) (λ far. put_else s.words t word u far ∙ k.undeclared u none);
       changes = λ v d has. k.changes v d (still v d has);
-      times = λ v r at. timely_kept s (stored s w t word) v r (λ i a h. h) (omega arith) (λ a e. e) refl (k.times v r at);
+      times = λ v r at. timely_kept s (word_stored s w t word) v r (λ i a h. h) (omega arith) (λ a e. e) refl (k.times v r at);
       past = k.past;
       now = k.now;
       ticket = k.ticket;
@@ -158,19 +158,19 @@ module _ {H O G E R C : Type 0} (m : Means H O G E R C) (s : Shared H G E R) (w 
   alone : (l v u : ℕ) → s.holds v l ≡ true → s.holds u l ≡ true → v ≡ u
   alone l v u a b = one_holder (s.locks l) (λ i. s.holds i l) (k.locks l) v u a b
 
-  block_agrees : (t : ℕ) → s.pending w ≡ Some (Block t) → Agrees m (stored s w t Blocked)
+  block_agrees : (t : ℕ) → s.pending w ≡ Some (Block t) → Agrees m (word_stored s w t Blocked)
   block_agrees t is = store_agrees t (Block t) Blocked is refl
-      (λ dec. thread_blocked s.holds s.pending (put s.pending w None) (stands t) (carries t) t (s.words t) w (k.threads t dec) (put_here s.pending w None) (put_else s.pending w None) alone is)
+      (λ dec. thread_blocked s.holds s.pending (updated s.pending w None) (stands t) (carries t) t (s.words t) w (k.threads t dec) (put_here s.pending w None) (put_else s.pending w None) alone is)
 
-  point_agrees : (t l : ℕ) → s.pending w ≡ Some (Point t l) → Agrees m (stored s w t (Lock l))
+  point_agrees : (t l : ℕ) → s.pending w ≡ Some (Point t l) → Agrees m (word_stored s w t (Lock l))
   point_agrees t l is = store_agrees t (Point t l) (Lock l) is refl
-      (λ dec. thread_pointed s.holds s.pending (put s.pending w None) (stands t) (carries t) t (s.words t) w (k.threads t dec) (put_here s.pending w None) (put_else s.pending w None) alone l is)
+      (λ dec. thread_pointed s.holds s.pending (updated s.pending w None) (stands t) (carries t) t (s.words t) w (k.threads t dec) (put_here s.pending w None) (put_else s.pending w None) alone l is)
 
   module _ (held : HeldLocks) (has : (l : ℕ) → is_lock_among held l ≡ true → s.holds w l ≡ true) where
     abbrev r : TimeRead
     r = record { locks = held; now = s.now }
 
-    timely_now : IsTimely (read_at s w held) w r
+    timely_now : IsTimely (now_read s w held) w r
     timely_now = record {
       holds = has;
       past = omega arith;
@@ -178,7 +178,7 @@ module _ {H O G E R C : Type 0} (m : Means H O G E R C) (s : Shared H G E R) (w 
       no_earlier = record { begun = (let b = k.now in omega arith); after = λ i x at sh. let y = map_get (λ (x : Stamped E R). x.entry) s.history i x at in subst (λ (e : Entry E R). e.now ≤ s.now) y.2 (k.past i y.0 y.1).1 };
     }
 
-    read_agrees : Agrees m (read_at s w held)
+    read_agrees : Agrees m (now_read s w held)
     read_agrees = record {
       values = k.values;
       locks = k.locks;
@@ -186,22 +186,22 @@ module _ {H O G E R C : Type 0} (m : Means H O G E R C) (s : Shared H G E R) (w 
       undeclared = k.undeclared;
       changes = k.changes;
       times = λ v q is. dite (ℕ_discrete v w)
-          (λ z. subst (λ i. IsTimely (read_at s w held) i q) (sym z) (subst (IsTimely (read_at s w held) w) (same_Some r q (sym (put_here s.read w (Some r)) ∙ (ap (read_at s w held).read (sym z) ∙ is))) timely_now))
-          (λ far. timely_kept s (read_at s w held) v q (λ i a h. h) (omega arith) (λ a e. e) refl (k.times v q (sym (put_else s.read w (Some r) v far) ∙ is)));
+          (λ z. subst (λ i. IsTimely (now_read s w held) i q) (sym z) (subst (IsTimely (now_read s w held) w) (same_Some r q (sym (put_here s.read w (Some r)) ∙ (ap (now_read s w held).read (sym z) ∙ is))) timely_now))
+          (λ far. timely_kept s (now_read s w held) v q (λ i a h. h) (omega arith) (λ a e. e) refl (k.times v q (sym (put_else s.read w (Some r) v far) ∙ is)));
       past = k.past;
       now = k.now;
       ticket = k.ticket;
       history = k.history;
     }
 
-  advance_agrees : (a n : ℕ) → slice_get s.advanced w ≡ Some a → Agrees m (raised s w a n)
+  advance_agrees : (a n : ℕ) → slice_get s.advanced w ≡ Some a → Agrees m (now_advanced s w a n)
   advance_agrees a n at = record {
     values = k.values;
     locks = k.locks;
     threads = k.threads;
     undeclared = k.undeclared;
     changes = k.changes;
-    times = others_timely (raised s w a n) (λ v r far. timely_kept s (raised s w a n) v r (λ i b h. h) (omega arith) (λ b e. sym (get_else s.advanced w v (a + n) far) ∙ e) refl);
+    times = others_timely (now_advanced s w a n) (λ v r far. timely_kept s (now_advanced s w a n) v r (λ i b h. h) (omega arith) (λ b e. sym (get_else s.advanced w v (a + n) far) ∙ e) refl);
     past = λ i x e. let z = k.past i x e in (z.0, let b = z.1 in omega arith);
     now = let b = k.now in let d = sum_more s.advanced w a n at in omega arith;
     ticket = k.ticket;

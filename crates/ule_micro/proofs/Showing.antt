@@ -15,7 +15,7 @@ use Rattle.ule_micro.specs.Means.{Means}
 use Rattle.ule_micro.specs.Histories.{latest_of}
 use Rattle.ule_micro.specs.Courses.{LegalPlay, all_advanced}
 use Rattle.ule_micro.specs.Laws.{IsEmpty}
-use Rattle.ule_micro.specs.Shared.{Agrees, Shared, Stamped, TimeRead, entries, put, together, with_hold}
+use Rattle.ule_micro.specs.Shared.{Agrees, Shared, Stamped, TimeRead, unstamped, updated, together, with_hold}
 use Rattle.ule_micro.specs.States.{State, course_of_seat, courses, hand_of_seat, lock_held_by, pending, pending_by, read_by, shared_of, took, word_of}
 use Rattle.ule_micro.specs.Turns.{at as placed}
 use Rattle.ule_micro.specs.Theorem.{HasWhatItNeeds, WorkerAgrees}
@@ -56,20 +56,20 @@ module _ {H G E R : Type 0} where
   }
 
 -- a list that was written reads as a function with another value at one number
-pub index_put : {X : Type 0} (xs : List X) (i : ℕ) (d x : X) → i < length xs → (j : ℕ) → slice_index_or (set xs i x) j d ≡ put (λ k. slice_index_or xs k d) i x j
+pub index_put : {X : Type 0} (xs : List X) (i : ℕ) (d x : X) → i < length xs → (j : ℕ) → slice_index_or (set xs i x) j d ≡ updated (λ k. slice_index_or xs k d) i x j
 index_put xs i d x low j = dite (ℕ_discrete j i)
-    (λ z. ap (λ k. slice_index_or (set xs i x) k d) z ∙ (index_here xs i d x low ∙ (sym (put_here (λ k. slice_index_or xs k d) i x) ∙ ap (put (λ k. slice_index_or xs k d) i x) (sym z))))
+    (λ z. ap (λ k. slice_index_or (set xs i x) k d) z ∙ (index_here xs i d x low ∙ (sym (put_here (λ k. slice_index_or xs k d) i x) ∙ ap (updated (λ k. slice_index_or xs k d) i x) (sym z))))
     (λ far. index_else xs i j d x far ∙ sym (put_else (λ k. slice_index_or xs k d) i x j far))
 
 -- putting what is there changes nothing
-pub put_same : {X : Type 0} (f : ℕ → X) (w : ℕ) (x : X) → f w ≡ x → (v : ℕ) → f v ≡ put f w x v
-put_same f w x is v = dite (ℕ_discrete v w) (λ z. ap f z ∙ (is ∙ (sym (put_here f w x) ∙ ap (put f w x) (sym z)))) (λ far. sym (put_else f w x v far))
+pub put_same : {X : Type 0} (f : ℕ → X) (w : ℕ) (x : X) → f w ≡ x → (v : ℕ) → f v ≡ updated f w x v
+put_same f w x is v = dite (ℕ_discrete v w) (λ z. ap f z ∙ (is ∙ (sym (put_here f w x) ∙ ap (updated f w x) (sym z)))) (λ far. sym (put_else f w x v far))
 
 module _ {O E R : Type 0} (seats : List (Seat O E R)) (w : ℕ) (p p' : Seat O E R) (at : slice_get seats w ≡ Some p) where
   -- what is told of each worker, where one changed
-  pub put_seat : {X : Type 0} (f : Option (Seat O E R) → X) (v : ℕ) → f (slice_get (set seats w p') v) ≡ put (λ u. f (slice_get seats u)) w (f (Some p')) v
+  pub put_seat : {X : Type 0} (f : Option (Seat O E R) → X) (v : ℕ) → f (slice_get (set seats w p') v) ≡ updated (λ u. f (slice_get seats u)) w (f (Some p')) v
   put_seat f v = dite (ℕ_discrete v w)
-      (λ z. ap (λ i. f (slice_get (set seats w p') i)) z ∙ (ap f (seat_here seats w p p' at) ∙ (sym (put_here (λ u. f (slice_get seats u)) w (f (Some p'))) ∙ ap (put (λ u. f (slice_get seats u)) w (f (Some p'))) (sym z))))
+      (λ z. ap (λ i. f (slice_get (set seats w p') i)) z ∙ (ap f (seat_here seats w p p' at) ∙ (sym (put_here (λ u. f (slice_get seats u)) w (f (Some p'))) ∙ ap (updated (λ u. f (slice_get seats u)) w (f (Some p'))) (sym z))))
       (λ far. ap f (seat_else seats w p p' at v far) ∙ sym (put_else (λ u. f (slice_get seats u)) w (f (Some p')) v far))
 
   -- a worker took a lock, or gave it back
@@ -149,7 +149,7 @@ module _ {H O G E R C : Type 0} (m : Means H O G E R C) (orders : ℕ → List C
       abbrev pub afterwards : State O G E R
       afterwards = record { locks = locks'; words = words'; ticket = ticket'; now = now'; values = values'; seats = set s.seats w p'; history = history' }
 
-      module _ (stamped : List (Stamped E R)) (same : entries stamped ≡ history') (agrees : Agrees m (shared_of m afterwards stamped)) (seat : IsKeptSeat m orders w p')
+      module _ (stamped : List (Stamped E R)) (same : unstamped stamped ≡ history') (agrees : Agrees m (shared_of m afterwards stamped)) (seat : IsKeptSeat m orders w p')
           (leaving : (c : WordChange) → p'.pending ≡ Some c → (x : Entry E R) × (latest_of w history' ≡ Some x) × (p'.phase ≡ phase.Leaving x.reply x.now x.locks))
           (way : (e : E) (on : Progress) → p'.phase ≡ phase.Event e on → HasWhatItNeeds m afterwards e on)
           (rests : p'.phase ≡ phase.Finished → (slice_get (orders w) p'.begun ≡ None) × (p'.pending ≡ None) × IsEmpty m (m.hand p'.own))

@@ -16,7 +16,7 @@ use Rattle.ule_micro.specs.Means.{Means}
 use Rattle.ule_micro.specs.Histories.{is_lock_among}
 use Rattle.ule_micro.specs.Courses.{LegalPlay}
 use Rattle.ule_micro.specs.Laws.{AreInRisingOrder}
-use Rattle.ule_micro.specs.Shared.{Agrees, put, stored}
+use Rattle.ule_micro.specs.Shared.{Agrees, updated, word_stored}
 use Rattle.ule_micro.specs.States.{State, course_of_seat, holds, lock_holder, pending, pending_by, read_by, read_in, shared_of, standing_of_phase, time_read, took}
 use Rattle.ule_micro.specs.Turns.{at as placed, calm}
 use Rattle.ule_micro.specs.Theorem.{HasWhatItNeeds}
@@ -45,49 +45,49 @@ module _ {H O G E R C : Type 0} (m : Means H O G E R C) (orders : ℕ → List C
         (subst (LegalPlay m orders s.history s.values) (sym (courses_same s.seats w p p' at same_course)) k.play)
 
     module _ (untimed : read_in there ≡ None) where
-      read_gone : (v : ℕ) → read_by (slice_get (set s.seats w p') v) ≡ put (time_read s) w None v
-      read_gone v = put_seat s.seats w p p' at read_by v ∙ ap (λ r. put (time_read s) w r v) untimed
+      read_gone : (v : ℕ) → read_by (slice_get (set s.seats w p') v) ≡ updated (time_read s) w None v
+      read_gone v = put_seat s.seats w p p' at read_by v ∙ ap (λ r. updated (time_read s) w r v) untimed
 
       -- a worker that had read no time reads a word
-      pub reads_on : ((l : ℕ) → took there l ≡ took p.phase l) → read_in p.phase ≡ None
+      pub read_keeps : ((l : ℕ) → took there l ≡ took p.phase l) → read_in p.phase ≡ None
           → IsKeptState m orders (on_its_way m orders s k w p at there s.locks (lock_holder s) (holds s) (time_read s))
-      reads_on same none = steps_on s.locks k.locks (stays_shown m orders s k w p at there s.locks (lock_holder s) (holds s) (time_read s) (λ l. refl) (λ v l. held_same s.seats w p p' at l (same l) v)
+      read_keeps same none = steps_on s.locks k.locks (stays_shown m orders s k w p at there s.locks (lock_holder s) (holds s) (time_read s) (λ l. refl) (λ v l. held_same s.seats w p p' at l (same l) v)
           (λ v. read_gone v ∙ sym (put_same (time_read s) w None (ap read_by at ∙ none) v)) k.agreement.shared)
 
       -- it takes a free lock
-      pub takes_on : (l : ℕ) → l < LOCKS → took there l ≡ true → ((i : ℕ) → i ≢ l → took there i ≡ took p.phase i) → lock_holder s l ≡ None
+      pub take_keeps : (l : ℕ) → l < LOCKS → took there l ≡ true → ((i : ℕ) → i ≢ l → took there i ≡ took p.phase i) → lock_holder s l ≡ None
           → IsKeptState m orders (on_its_way m orders s k w p at there (set s.locks l (Some w)) (lock_holder s) (holds s) (time_read s))
-      takes_on l low has rest free = steps_on (set s.locks l (Some w)) (length-set s.locks l (Some w) ∙ k.locks)
-          (stays_shown m orders s k w p at there (set s.locks l (Some w)) (put (lock_holder s) l (Some w)) _ (put (time_read s) w None)
+      take_keeps l low has rest free = steps_on (set s.locks l (Some w)) (length-set s.locks l (Some w) ∙ k.locks)
+          (stays_shown m orders s k w p at there (set s.locks l (Some w)) (updated (lock_holder s) l (Some w)) _ (updated (time_read s) w None)
           (index_put s.locks l None (Some w) (subst (λ n. l < n) (sym k.locks) low)) (held_with s.seats w p p' at l true has rest) read_gone
           (taking_agrees m (shared_of m s k.agreement.history) w l k.agreement.shared free))
 
       -- it gives a lock back
-      pub frees_on : (l : ℕ) → took p.phase l ≡ true → took there l ≡ false → ((i : ℕ) → i ≢ l → took there i ≡ took p.phase i)
+      pub release_keeps : (l : ℕ) → took p.phase l ≡ true → took there l ≡ false → ((i : ℕ) → i ≢ l → took there i ≡ took p.phase i)
           → IsKeptState m orders (on_its_way m orders s k w p at there (set s.locks l None) (lock_holder s) (holds s) (time_read s))
-      frees_on l had gone rest = let has : holds s w l ≡ true = held_before s.seats w p p' at l ∙ had in
+      release_keeps l had gone rest = let has : holds s w l ≡ true = held_before s.seats w p p' at l ∙ had in
           steps_on (set s.locks l None) (length-set s.locks l None ∙ k.locks)
-          (stays_shown m orders s k w p at there (set s.locks l None) (put (lock_holder s) l None) _ (put (time_read s) w None)
+          (stays_shown m orders s k w p at there (set s.locks l None) (updated (lock_holder s) l None) _ (updated (time_read s) w None)
           (index_put s.locks l None None (held_low s k.agreement.shared.locks w l has)) (held_with s.seats w p p' at l false gone rest) read_gone
           (releasing_agrees m (shared_of m s k.agreement.history) w l k.agreement.shared has (pending_before s.seats w p p' at ∙ quiet)))
 
     -- it reads now under its locks
-    pub reads_now : (held : HeldLocks) → read_in there ≡ Some (record { locks = held; now = s.now }) → ((l : ℕ) → took there l ≡ took p.phase l) → ((l : ℕ) → is_lock_among held l ≡ true → took p.phase l ≡ true)
+    pub read_now_keeps : (held : HeldLocks) → read_in there ≡ Some (record { locks = held; now = s.now }) → ((l : ℕ) → took there l ≡ took p.phase l) → ((l : ℕ) → is_lock_among held l ≡ true → took p.phase l ≡ true)
         → IsKeptState m orders (on_its_way m orders s k w p at there s.locks (lock_holder s) (holds s) (time_read s))
-    reads_now held is same has = steps_on s.locks k.locks
-        (stays_shown m orders s k w p at there s.locks (lock_holder s) (holds s) (put (time_read s) w (Some (record { locks = held; now = s.now }))) (λ l. refl) (λ v l. held_same s.seats w p p' at l (same l) v)
-        (λ v. put_seat s.seats w p p' at read_by v ∙ ap (λ r. put (time_read s) w r v) is)
+    read_now_keeps held is same has = steps_on s.locks k.locks
+        (stays_shown m orders s k w p at there s.locks (lock_holder s) (holds s) (updated (time_read s) w (Some (record { locks = held; now = s.now }))) (λ l. refl) (λ v l. held_same s.seats w p p' at l (same l) v)
+        (λ v. put_seat s.seats w p p' at read_by v ∙ ap (λ r. updated (time_read s) w r v) is)
         (reading_agrees m (shared_of m s k.agreement.history) w held k.agreement.shared (λ l a. held_before s.seats w p p' at l ∙ has l a)))
 
   -- a worker stores its pending change in the thread's word
-  module _ (t : ℕ) (word : Word) (change : WordChange) (is : p.pending ≡ Some change) (low : t < THREADS) (agrees : Agrees m (stored (shared_of m s k.agreement.history) w t word)) where
+  module _ (t : ℕ) (word : Word) (change : WordChange) (is : p.pending ≡ Some change) (low : t < THREADS) (agrees : Agrees m (word_stored (shared_of m s k.agreement.history) w t word)) where
     abbrev q : Seat O E R
     q = calm p
 
     -- the state with the word stored is kept
     stores_on : IsKeptState m orders (afterwards m orders s k w p at q s.locks (set s.words t word) s.ticket s.now s.values s.history)
     stores_on = kept_by m orders s k w p at q s.locks (set s.words t word) s.ticket s.now s.values s.history k.agreement.history k.agreement.same_entries
-        (subst (Agrees m) (sym (alike_same (shared_of m (afterwards m orders s k w p at q s.locks (set s.words t word) s.ticket s.now s.values s.history) k.agreement.history) (stored (shared_of m s k.agreement.history) w t word) (record {
+        (subst (Agrees m) (sym (alike_same (shared_of m (afterwards m orders s k w p at q s.locks (set s.words t word) s.ticket s.now s.values s.history) k.agreement.history) (word_stored (shared_of m s k.agreement.history) w t word) (record {
           locks = λ l. refl;
           words = index_put s.words t (Lock LIMBO) word (subst (λ n. t < n) (sym k.words) low);
           ticket = refl;

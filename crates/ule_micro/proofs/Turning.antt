@@ -31,7 +31,7 @@ use Rattle.ule_micro.proofs.Words.{one_holder}
 use Rattle.ule_micro.proofs.Among.{among_this, among_first, among_second, not_among_one, not_among_two}
 use Rattle.ule_micro.proofs.Courses.{asked_for}
 use Rattle.ule_micro.proofs.Effects.{stands_value}
-use Rattle.ule_micro.proofs.Steps.{block_kept, frees_on, point_kept, reads_now, reads_on, takes_on}
+use Rattle.ule_micro.proofs.Steps.{block_kept, release_keeps, point_kept, read_now_keeps, read_keeps, take_keeps}
 use Rattle.ule_micro.proofs.Goings.{advance_kept, leave_kept}
 use Rattle.ule_micro.proofs.Commits.{commit_kept}
 
@@ -93,19 +93,19 @@ module _ {H O G E R C : Type 0} (m : Means H O G E R C) (orders : ℕ → List C
     taken_on : (l : ℕ) → l < LOCKS → read_on_the_way to ≡ None → took (on_way e to) l ≡ true → ((i : ℕ) → i ≢ l → took (on_way e to) i ≡ took_on_the_way way i)
         → (o : Option ℕ) → lock_holder s l ≡ o → IsKeptState m orders (take s w p l (phase.Event e to) o).1
     taken_on l low untimed has_l rest (Some holder) is = k
-    taken_on l low untimed has_l rest None is = takes_on m orders s k w p at (on_way e to) (quiet_event e way here) same_item unfinished no_leaving (way_is e to needs) untimed l low has_l
+    taken_on l low untimed has_l rest None is = take_keeps m orders s k w p at (on_way e to) (quiet_event e way here) same_item unfinished no_leaving (way_is e to needs) untimed l low has_l
         (λ i n. rest i n ∙ sym (ap (λ f. took f i) here)) is
 
     -- the worker reads a word on its way
     read_on : read_on_the_way to ≡ None → read_on_the_way way ≡ None → ((i : ℕ) → took (on_way e to) i ≡ took_on_the_way way i)
         → IsKeptState m orders record { locks = s.locks; words = s.words; ticket = s.ticket; now = s.now; values = s.values; seats = set s.seats w (placed p (phase.Event e to)); history = s.history }
-    read_on untimed none rest = reads_on m orders s k w p at (on_way e to) (quiet_event e way here) same_item unfinished no_leaving (way_is e to needs) untimed
+    read_on untimed none rest = read_keeps m orders s k w p at (on_way e to) (quiet_event e way here) same_item unfinished no_leaving (way_is e to needs) untimed
         (λ i. rest i ∙ sym (ap (λ f. took f i) here)) (ap read_in here ∙ none)
 
     -- the worker gives a lock back on its way
     freed_on : (l : ℕ) → read_on_the_way to ≡ None → took_on_the_way way l ≡ true → took (on_way e to) l ≡ false → ((i : ℕ) → i ≢ l → took (on_way e to) i ≡ took_on_the_way way i)
         → IsKeptState m orders record { locks = set s.locks l None; words = s.words; ticket = s.ticket; now = s.now; values = s.values; seats = set s.seats w (placed p (phase.Event e to)); history = s.history }
-    freed_on l untimed had gone rest = frees_on m orders s k w p at (on_way e to) (quiet_event e way here) same_item unfinished no_leaving (way_is e to needs) untimed l
+    freed_on l untimed had gone rest = release_keeps m orders s k w p at (on_way e to) (quiet_event e way here) same_item unfinished no_leaving (way_is e to needs) untimed l
         (ap (λ f. took f l) here ∙ had) gone (λ i n. rest i n ∙ sym (ap (λ f. took f i) here))
 
   module _ (laws : IsLawful m) (lists : AreOrders m orders) where
@@ -155,7 +155,7 @@ module _ {H O G E R C : Type 0} (m : Means H O G E R C) (orders : ℕ → List C
     approach_kept e (progress.Stale l) here = freed_on e (progress.Stale l) progress.Open here tt l refl (among_this l) refl (λ i n. sym (not_among_one l i n))
     approach_kept e (progress.Half a b) here = let needs = (k.agreement.workers w p at).way e (progress.Half a b) here in let low = subst AreRising needs (rises_at e (progress.Half a b) here) in
         taken_on e (progress.Half a b) (progress.Locked (Two a b)) here (subst (AreLocksFor m s.values (Two a b)) (sym needs) refl) b low.1 refl (among_second a b) (λ i n. only_first i a b n) (lock_holder s b) refl
-    approach_kept e (progress.Locked held) here = reads_now m orders s k w p at (phase.Event e (progress.Timed held s.now)) (quiet_event e (progress.Locked held) here) (sym (ap standing_of_phase here)) (λ z. cc)
+    approach_kept e (progress.Locked held) here = read_now_keeps m orders s k w p at (phase.Event e (progress.Timed held s.now)) (quiet_event e (progress.Locked held) here) (sym (ap standing_of_phase here)) (λ z. cc)
         (λ r n h z. absurd (cc)) (way_is e (progress.Timed held s.now) ((k.agreement.workers w p at).way e (progress.Locked held) here)) held refl (λ i. sym (ap (λ f. took f i) here)) (λ l a. ap (λ f. took f l) here ∙ a)
     approach_kept e (progress.Timed held now) here = by (effect_under m w e now (m.hand p.own) held s.values) refl where
       by : (o : Option (Acted H G R)) → effect_under m w e now (m.hand p.own) held s.values ≡ o → IsKeptState m orders (commit m s w p e held now o).1
@@ -173,7 +173,7 @@ module _ {H O G E R C : Type 0} (m : Means H O G E R C) (orders : ℕ → List C
           history = s.history;
         }
     leave_two reply now a b here quiet = let apart : a < b = (k.seats w p at).apart reply now (Two a b) here in
-        frees_on m orders s k w p at (phase.Leaving reply now (One a)) quiet (sym (ap standing_of_phase here)) (λ z. cc) (λ r n held z. let same : One a ≡ held = cc in subst AreInRisingOrder same tt) (λ e way z. absurd (cc)) refl
+        release_keeps m orders s k w p at (phase.Leaving reply now (One a)) quiet (sym (ap standing_of_phase here)) (λ z. cc) (λ r n held z. let same : One a ≡ held = cc in subst AreInRisingOrder same tt) (λ e way z. absurd (cc)) refl
         b (ap (λ f. took f b) here ∙ among_second a b) (not_among_one a b (λ z. omega arith)) (λ i n. sym (ap (λ f. took f i) here ∙ only_first i a b n))
 
     leave_kept_all : (reply : R) (now : ℕ) (held : HeldLocks) → p.phase ≡ phase.Leaving reply now held → (o : Option WordChange) → p.pending ≡ o

@@ -37,17 +37,17 @@ module _ {G : Type 0} where
   values_under (One a) values = alone (slice_get values a)
   values_under (Two a b) values = with_first (slice_get values a) (slice_get values b)
 
-  -- laid: the values under all locks, with these under the locks that are held
-  abbrev pub laid : HeldLocks → List G → List G → List G
-  laid (One a) values [] = values
-  laid (One a) values (v ∷ vs) = slice_set values a v
-  laid (Two a b) values [] = values
-  laid (Two a b) values (v ∷ []) = values
-  laid (Two a b) values (v ∷ u ∷ us) = slice_set (slice_set values a v) b u
+  -- laid under: the values under all locks, with these under the locks that are held
+  abbrev pub laid_under : HeldLocks → List G → List G → List G
+  laid_under (One a) values [] = values
+  laid_under (One a) values (v ∷ vs) = slice_set values a v
+  laid_under (Two a b) values [] = values
+  laid_under (Two a b) values (v ∷ []) = values
+  laid_under (Two a b) values (v ∷ u ∷ us) = slice_set (slice_set values a v) b u
 
   -- effect on: an act on the values under these locks, as what it leaves of the values under all locks
   abbrev pub effect_on : {H R : Type 0} → HeldLocks → List G → Acted H G R → Acted H G R
-  effect_on held values acted = record { hand = acted.hand; values = laid held values acted.values; reply = acted.reply }
+  effect_on held values acted = record { hand = acted.hand; values = laid_under held values acted.values; reply = acted.reply }
 
 module _ {H O G E R C : Type 0} (m : Means H O G E R C) where
   -- effect of: what an event of a worker does at a time, with the worker's hand, to the values under its locks, of which there is no such effect where a value is missing

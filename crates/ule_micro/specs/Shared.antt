@@ -22,13 +22,13 @@ pub record TimeRead : Type 0 where
   pub locks : HeldLocks
   pub now : ℕ
 
--- put: a function with another value at one number
-abbrev pub put : {X : Type 0} → (ℕ → X) → ℕ → X → ℕ → X
-put f w x v = (if v == w then x else f v)
+-- updated: a function with another value at one number
+abbrev pub updated : {X : Type 0} → (ℕ → X) → ℕ → X → ℕ → X
+updated f w x v = (if v == w then x else f v)
 
 -- with hold: who holds what, where this worker now holds the lock or does not
 abbrev pub with_hold : (ℕ → ℕ → Bool) → ℕ → ℕ → Bool → ℕ → ℕ → Bool
-with_hold holds w l b = put holds w (put (holds w) l b)
+with_hold holds w l b = updated holds w (updated (holds w) l b)
 
 -- together: the sum of these amounts
 abbrev pub together : List ℕ → ℕ
@@ -49,9 +49,9 @@ pub record Shared (H G E R : Type 0) : Type 0 where
   pub advanced : List ℕ
   pub history : List (Stamped E R)
 
--- entries: the entries of a stamped history
-abbrev pub entries : {E R : Type 0} → List (Stamped E R) → List (Entry E R)
-entries history = map (λ x. x.entry) history
+-- unstamped: the entries of a stamped history
+abbrev pub unstamped : {E R : Type 0} → List (Stamped E R) → List (Entry E R)
+unstamped history = map (λ x. x.entry) history
 
 module _ {H G E R : Type 0} (s : Shared H G E R) where
   -- as it stands: the values and the hands
@@ -63,11 +63,11 @@ module _ {H G E R : Type 0} (s : Shared H G E R) where
     pub holds : (l : ℕ) → is_lock_among r.locks l ≡ true → s.holds w l ≡ true
     pub past : r.now ≤ s.now
     pub own : (a : ℕ) → slice_get s.advanced w ≡ Some a → 20000 + a ≤ r.now
-    pub no_earlier : IsNoEarlierThanShared (entries s.history) w r.locks r.now
+    pub no_earlier : IsNoEarlierThanShared (unstamped s.history) w r.locks r.now
 
   -- holds its locks: a worker holds every lock of its last entry
   abbrev pub HoldsItsLocks : ℕ → Type 0
-  HoldsItsLocks w = (x : Entry E R) × (latest_of w (entries s.history) ≡ Some x) × ((l : ℕ) → is_lock_among x.locks l ≡ true → s.holds w l ≡ true)
+  HoldsItsLocks w = (x : Entry E R) × (latest_of w (unstamped s.history) ≡ Some x) × ((l : ℕ) → is_lock_among x.locks l ≡ true → s.holds w l ≡ true)
 
 module _ {H O G E R C : Type 0} (m : Means H O G E R C) where
   -- agrees: what the workers share agrees
@@ -89,7 +89,7 @@ module _ {H O G E R C : Type 0} (m : Means H O G E R C) where
     pub now : s.now ≡ 20000 + together s.advanced
     -- the ticket is the length of the history, each entry was asked for and follows from the values before it and the hand of its worker, and what the history leaves is what stands
     pub ticket : s.ticket ≡ length s.history
-    pub history : Leads m (values_and_hands_at_start m) (entries s.history) (as_it_stands s)
+    pub history : Leads m (values_and_hands_at_start m) (unstamped s.history) (as_it_stands s)
 
   -- can commit: a worker without a pending change read a time under the locks of an event that it asks for
   pub record CanCommit (s : Shared H G E R) (w : ℕ) (e : E) (hand : H) (held : HeldLocks) (now amount : ℕ) : Type 0 where
@@ -97,7 +97,7 @@ module _ {H O G E R C : Type 0} (m : Means H O G E R C) where
     pub read : s.read w ≡ Some (record { locks = held; now = now })
     pub hand_is : slice_get s.hands w ≡ Some hand
     pub advanced : slice_get s.advanced w ≡ Some amount
-    pub asks : m.asks w (own_entries w (entries s.history)) hand e
+    pub asks : m.asks w (own_entries w (unstamped s.history)) hand e
     pub needs : AreLocksFor m s.values held (m.needs e)
 
   -- committed: the worker's event took effect, and its entry is the newest
@@ -110,16 +110,16 @@ module _ {H O G E R C : Type 0} (m : Means H O G E R C) where
     values = after.values;
     hands = slice_set s.hands w after.hand;
     holds = s.holds;
-    pending = put s.pending w (m.change e after.reply);
-    read = put s.read w None;
+    pending = updated s.pending w (m.change e after.reply);
+    read = updated s.read w None;
     advanced = s.advanced;
     history = record { entry = entry_made w e held now after.reply; amount = amount } ∷ s.history;
   }
 
 module _ {H G E R : Type 0} (s : Shared H G E R) (w : ℕ) where
-  -- changed: with these lock words, threads' words, time, holders, pending changes, times read and amounts advanced
-  abbrev pub changed : (ℕ → Option ℕ) → (ℕ → Word) → ℕ → (ℕ → ℕ → Bool) → (ℕ → Option WordChange) → (ℕ → Option TimeRead) → List ℕ → Shared H G E R
-  changed locks words now holds pending read advanced = record {
+  -- shared with: with these lock words, threads' words, time, holders, pending changes, times read and amounts advanced
+  abbrev pub shared_with : (ℕ → Option ℕ) → (ℕ → Word) → ℕ → (ℕ → ℕ → Bool) → (ℕ → Option WordChange) → (ℕ → Option TimeRead) → List ℕ → Shared H G E R
+  shared_with locks words now holds pending read advanced = record {
     locks = locks;
     words = words;
     ticket = s.ticket;
@@ -133,22 +133,22 @@ module _ {H G E R : Type 0} (s : Shared H G E R) (w : ℕ) where
     history = s.history;
   }
 
-  -- taken: the worker took the lock, and forgets the time that it read
-  abbrev pub taken : ℕ → Shared H G E R
-  taken l = changed (put s.locks l (Some w)) s.words s.now (with_hold s.holds w l true) s.pending (put s.read w None) s.advanced
+  -- lock taken: the worker took the lock, and forgets the time that it read
+  abbrev pub lock_taken : ℕ → Shared H G E R
+  lock_taken l = shared_with (updated s.locks l (Some w)) s.words s.now (with_hold s.holds w l true) s.pending (updated s.read w None) s.advanced
 
-  -- released: the worker gave the lock back, and forgets the time that it read
-  abbrev pub released : ℕ → Shared H G E R
-  released l = changed (put s.locks l None) s.words s.now (with_hold s.holds w l false) s.pending (put s.read w None) s.advanced
+  -- lock released: the worker gave the lock back, and forgets the time that it read
+  abbrev pub lock_released : ℕ → Shared H G E R
+  lock_released l = shared_with (updated s.locks l None) s.words s.now (with_hold s.holds w l false) s.pending (updated s.read w None) s.advanced
 
-  -- stored: the worker stored its pending change of the thread's word, which is now this
-  abbrev pub stored : ℕ → Word → Shared H G E R
-  stored t word = changed s.locks (put s.words t word) s.now s.holds (put s.pending w None) s.read s.advanced
+  -- word stored: the worker stored its pending change of the thread's word, which is now this
+  abbrev pub word_stored : ℕ → Word → Shared H G E R
+  word_stored t word = shared_with s.locks (updated s.words t word) s.now s.holds (updated s.pending w None) s.read s.advanced
 
-  -- read at: the worker read now under these locks
-  abbrev pub read_at : HeldLocks → Shared H G E R
-  read_at held = changed s.locks s.words s.now s.holds s.pending (put s.read w (Some (record { locks = held; now = s.now }))) s.advanced
+  -- now read: the worker read now under these locks
+  abbrev pub now_read : HeldLocks → Shared H G E R
+  now_read held = shared_with s.locks s.words s.now s.holds s.pending (updated s.read w (Some (record { locks = held; now = s.now }))) s.advanced
 
-  -- raised: the worker, which had advanced this amount, advanced now by k hz ticks, and forgets the time that it read
-  abbrev pub raised : ℕ → ℕ → Shared H G E R
-  raised amount k = changed s.locks s.words (s.now + k) s.holds s.pending (put s.read w None) (slice_set s.advanced w (amount + k))
+  -- now advanced: the worker, which had advanced this amount, advanced now by k hz ticks, and forgets the time that it read
+  abbrev pub now_advanced : ℕ → ℕ → Shared H G E R
+  now_advanced amount k = shared_with s.locks s.words (s.now + k) s.holds s.pending (updated s.read w None) (slice_set s.advanced w (amount + k))

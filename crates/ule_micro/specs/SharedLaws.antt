@@ -6,32 +6,32 @@ use Rattle.ule_micro.specs.declared.word.WordChange.TheVariants.{Block, Point}
 use Rattle.ule_micro.specs.Standings.{Acted}
 use Rattle.ule_micro.specs.Means.{Means}
 use Rattle.ule_micro.specs.Histories.{effect_under, is_lock_among, values_under}
-use Rattle.ule_micro.specs.Shared.{Agrees, CanCommit, Shared, committed, raised, read_at, released, stored, taken}
+use Rattle.ule_micro.specs.Shared.{Agrees, CanCommit, Shared, committed, now_advanced, now_read, lock_released, word_stored, lock_taken}
 
 module _ {H O G E R C : Type 0} (m : Means H O G E R C) where
   -- taking agrees: a worker that takes a free lock keeps agreement
   abbrev pub TakingAgrees : Type 0
-  TakingAgrees = (s : Shared H G E R) (w l : ℕ) → Agrees m s → s.locks l ≡ None → Agrees m (taken s w l)
+  TakingAgrees = (s : Shared H G E R) (w l : ℕ) → Agrees m s → s.locks l ≡ None → Agrees m (lock_taken s w l)
 
   -- releasing agrees: a worker that gives a lock back, and has no change pending, keeps agreement
   abbrev pub ReleasingAgrees : Type 0
-  ReleasingAgrees = (s : Shared H G E R) (w l : ℕ) → Agrees m s → s.holds w l ≡ true → s.pending w ≡ None → Agrees m (released s w l)
+  ReleasingAgrees = (s : Shared H G E R) (w l : ℕ) → Agrees m s → s.holds w l ≡ true → s.pending w ≡ None → Agrees m (lock_released s w l)
 
   -- blocking agrees: a worker that blocks a word as it has pending keeps agreement
   abbrev pub BlockingAgrees : Type 0
-  BlockingAgrees = (s : Shared H G E R) (w t : ℕ) → Agrees m s → s.pending w ≡ Some (Block t) → Agrees m (stored s w t Blocked)
+  BlockingAgrees = (s : Shared H G E R) (w t : ℕ) → Agrees m s → s.pending w ≡ Some (Block t) → Agrees m (word_stored s w t Blocked)
 
   -- pointing agrees: a worker that points a word as it has pending keeps agreement
   abbrev pub PointingAgrees : Type 0
-  PointingAgrees = (s : Shared H G E R) (w t l : ℕ) → Agrees m s → s.pending w ≡ Some (Point t l) → Agrees m (stored s w t (Lock l))
+  PointingAgrees = (s : Shared H G E R) (w t l : ℕ) → Agrees m s → s.pending w ≡ Some (Point t l) → Agrees m (word_stored s w t (Lock l))
 
   -- reading agrees: a worker that reads now under locks that it holds keeps agreement
   abbrev pub ReadingAgrees : Type 0
-  ReadingAgrees = (s : Shared H G E R) (w : ℕ) (held : HeldLocks) → Agrees m s → ((l : ℕ) → is_lock_among held l ≡ true → s.holds w l ≡ true) → Agrees m (read_at s w held)
+  ReadingAgrees = (s : Shared H G E R) (w : ℕ) (held : HeldLocks) → Agrees m s → ((l : ℕ) → is_lock_among held l ≡ true → s.holds w l ≡ true) → Agrees m (now_read s w held)
 
   -- advancing agrees: a worker that advances now keeps agreement
   abbrev pub AdvancingAgrees : Type 0
-  AdvancingAgrees = (s : Shared H G E R) (w amount k : ℕ) → Agrees m s → slice_get s.advanced w ≡ Some amount → Agrees m (raised s w amount k)
+  AdvancingAgrees = (s : Shared H G E R) (w amount k : ℕ) → Agrees m s → slice_get s.advanced w ≡ Some amount → Agrees m (now_advanced s w amount k)
 
   -- committing may: an event that a worker can commit may be performed on the values under its locks
   abbrev pub CommittingMay : Type 0

@@ -15,7 +15,7 @@ use Rattle.ule_micro.specs.Means.{Means, both, lock_of, stands_under}
 use Rattle.ule_micro.specs.Histories.{AreLocksFor, latest_of}
 use Rattle.ule_micro.specs.Courses.{LegalPlay}
 use Rattle.ule_micro.specs.Laws.{IsEmpty}
-use Rattle.ule_micro.specs.Shared.{Agrees, Stamped, entries}
+use Rattle.ule_micro.specs.Shared.{Agrees, Stamped, unstamped}
 use Rattle.ule_micro.specs.States.{State, courses, holds, lock_holder, pending, shared_of, word_of}
 use Rattle.ule_micro.specs.Turns.{turn_of_worker, seated, next_command}
 
@@ -56,7 +56,7 @@ module _ {H O G E R C : Type 0} (m : Means H O G E R C) where
     pub record LockAgreement (s : State O G E R) : Type 0 where
       -- the history, stamped with what each entry's worker had advanced before it
       pub history : List (Stamped E R)
-      pub same_entries : entries history ≡ s.history
+      pub same_entries : unstamped history ≡ s.history
       pub shared : Agrees m (shared_of m s history)
       pub workers : (w : ℕ) (p : Seat O E R) → slice_get s.seats w ≡ Some p → WorkerAgrees s w p
 
