@@ -17,8 +17,7 @@ pub mod Fresh
 pub mod Goings
 pub mod Commits
 pub mod Turning
+pub mod Outcomes
 pub mod Unstuck
-pub mod Finishes
 pub mod Refines
-pub mod Workers
 pub mod Starting

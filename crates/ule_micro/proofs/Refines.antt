@@ -41,9 +41,8 @@ use Rattle.ule_micro.proofs.Effects.{apart_for}
 use Rattle.ule_micro.proofs.Commits.{performable, rises, still_small}
 use Rattle.ule_micro.specs.Theorem.{WordTellsPlace, HasLegalPlay, IsNoStep, IsNotStuck}
 use Rattle.ule_micro.proofs.Turning.{rises_at, worker_turn_kept, tells_place}
-use Rattle.ule_micro.proofs.Unstuck.{not_stuck}
-use Rattle.ule_micro.proofs.Finishes.{ends_there}
-use Rattle.ule_micro.proofs.Workers.{same_workers, unmoved}
+use Rattle.ule_micro.proofs.Unstuck.{ends_there, not_stuck}
+use Rattle.ule_micro.proofs.Outcomes.{same_workers, unmoved}
 
 module _ {O E R : Type 0} where
   -- the worker that the code reads is the one that stands there
