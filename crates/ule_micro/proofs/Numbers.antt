@@ -7,8 +7,9 @@ use native.Mathlib.Decide.{ℕ_discrete}
 use Rattle.ule_micro.specs.declared.entry.Entry.{Entry}
 use Rattle.ule_micro.specs.Means.{Means, budgets}
 use Rattle.ule_micro.specs.Courses.{WorkerCourse, all_advanced, unbegun, answered, ordered, advanced_by, done_by, LegalPlay, opens, answers, begins, advances, performs}
-use Rattle.ule_micro.specs.Laws.{KeepsPrograms, StartsSmall}
+use Rattle.ule_micro.specs.Laws.{AreOrders, IsLawful}
 use Rattle.ule_micro.proofs.Lists.{length_map, there}
+use Rattle.ule_micro.proofs.Courses.{advances_little, in_budget}
 
 -- budgets from the front
 budgets_first : (b : ℕ → ℕ) (n : ℕ) → budgets b (suc n) ≡ b 0 + budgets (λ i. b (suc i)) n
@@ -61,7 +62,7 @@ module _ {O E R : Type 0} where
   within_budgets b [] small = omega arith
   within_budgets b (c ∷ cs) small = let first = small 0 c refl in let rest = within_budgets (λ i. b (suc i)) cs (λ w d e. small (suc w) d e) in let z = budgets_first b (length cs) in omega arith
 
-module _ {H O G E R C : Type 0} (m : Means H O G E R C) (programs : KeepsPrograms m) where
+module _ {H O G E R C : Type 0} (m : Means H O G E R C) (orders : ℕ → List C) (laws : IsLawful m) (lists : AreOrders m orders) where
   -- is counted: entries and hz ticks advanced are bounded by the items performed, and no worker comes or goes
   pub record IsCounted (h : List (Entry E R)) (cs : List (WorkerCourse O E R)) : Type 0 where
     pub entries : length h ≤ all_items cs
@@ -78,12 +79,12 @@ module _ {H O G E R C : Type 0} (m : Means H O G E R C) (programs : KeepsProgram
   }
 
   -- each play is counted
-  pub play_counted : {h : List (Entry E R)} {vs : List G} {cs : List (WorkerCourse O E R)} → LegalPlay m h vs cs → IsCounted h cs
+  pub play_counted : {h : List (Entry E R)} {vs : List G} {cs : List (WorkerCourse O E R)} → LegalPlay m orders h vs cs → IsCounted h cs
   play_counted opens = let z = none_yet {O = O} {E = E} {R = R} m.owns (map unbegun m.owns) refl in record { entries = omega arith; ticks = omega arith; workers = length_map unbegun m.owns }
   play_counted (answers {h} {vs} {cs} w c told play at is) = counted_same h cs w c (answered m c told) at refl refl (play_counted play)
   play_counted (begins {h} {vs} {cs} w c order play at is next) = counted_same h cs w c (ordered m c order) at refl refl (play_counted play)
   play_counted (advances {h} {vs} {cs} w c k play at is) = let r = play_counted play in let i = items_set cs w c (advanced_by m c k) at in let a = advanced_set cs w c (advanced_by m c k) at in
-      let small = (programs.advances h vs cs w c k play at is).1 in record {
+      let small = (advances_little m orders laws lists play w c at k is).1 in record {
         entries = let e = r.entries in omega arith;
         ticks = let t = r.ticks in let e : all_items (set cs w (advanced_by m c k)) ≡ all_items cs + 1 = omega arith in omega arith;
         workers = length-set cs w (advanced_by m c k) ∙ r.workers;
@@ -95,15 +96,15 @@ module _ {H O G E R C : Type 0} (m : Means H O G E R C) (programs : KeepsProgram
   }
 
   -- is small: the entries are within the budgets, and the time is small
-  pub play_small : (small : StartsSmall m) (h : List (Entry E R)) (vs : List G) (cs : List (WorkerCourse O E R)) → LegalPlay m h vs cs
+  pub play_small : (h : List (Entry E R)) (vs : List G) (cs : List (WorkerCourse O E R)) → LegalPlay m orders h vs cs
       → (length h ≤ budgets m.budget (length m.owns)) × (length h ≤ 65536) × (20000 + all_advanced cs < 2 ^ 36)
-  play_small small h vs cs play = let r = play_counted play in
-      let within = within_budgets m.budget cs (λ w c e. programs.budget h vs cs w c play e) in
+  play_small h vs cs play = let r = play_counted play in
+      let within = within_budgets m.budget cs (λ w c e. in_budget m orders laws lists play w c e) in
       let all : all_items cs ≤ budgets m.budget (length m.owns) = subst (λ n. all_items cs ≤ budgets m.budget n) r.workers within in
-      let few = small.small in let e = r.entries in let t = r.ticks in (omega arith, omega arith, omega arith)
+      let few = laws.small.small in let e = r.entries in let t = r.ticks in (omega arith, omega arith, omega arith)
 
   -- a worker performed at most 65,536 items
-  pub items_small : (small : StartsSmall m) (h : List (Entry E R)) (vs : List G) (cs : List (WorkerCourse O E R)) (w : ℕ) (c : WorkerCourse O E R) → LegalPlay m h vs cs
+  pub items_small : (h : List (Entry E R)) (vs : List G) (cs : List (WorkerCourse O E R)) (w : ℕ) (c : WorkerCourse O E R) → LegalPlay m orders h vs cs
       → slice_get cs w ≡ Some c → c.items ≤ 65536
-  items_small small h vs cs w c play at = let a = programs.budget h vs cs w c play at in let r = play_counted play in let n = there cs w c at in let l = r.workers in
-      let b = budget_in m.budget (length m.owns) w (omega arith) in let k = small.small in omega arith
+  items_small h vs cs w c play at = let a = in_budget m orders laws lists play w c at in let r = play_counted play in let n = there cs w c at in let l = r.workers in
+      let b = budget_in m.budget (length m.owns) w (omega arith) in let k = laws.small.small in omega arith

@@ -3,26 +3,28 @@ use Rattle.std.proofs.Common.{◌≡◌, ℕ, zero, suc, ◌+◌, ◌≤◌, ◌
 use Rattle.std.specs.Prelude.{Option, Some, None, Result, Ok, Err, is_ok, is_err, if◌then◌else◌, slice_get, slice_index_or}
 use Rattle.std.proofs.lemmas.Option.{none-some, same_Some}
 use mathlib.Core.Logic.{dite}
-use native.Mathlib.Decide.{ℕ_discrete}
-use Rattle.ule_micro.specs.declared.seat.Progress.TheVariants as progress
+use native.Mathlib.Decide.{dec_lt, ℕ_discrete}
 use Rattle.ule_micro.specs.declared.seat.Seat.{Seat}
 use Rattle.ule_micro.specs.declared.word.Word.TheVariants.{Lock}
-use Rattle.ule_micro.specs.Means.{Means, stands_under}
-use Rattle.ule_micro.specs.Histories.{Leads}
-use Rattle.ule_micro.specs.Courses.{WorkerCourse, standing_with, all_advanced, unbegun, LegalPlay, opens}
-use Rattle.ule_micro.specs.Laws.{StartsSmall, StartsSettled, KeepsHands, KeepsPrograms, values_and_hands_at_start}
-use Rattle.ule_micro.specs.Agreement.{under}
+use Rattle.ule_micro.specs.Means.{Means, carried_by, stands_under}
+use Rattle.ule_micro.specs.declared.locks.TheConstants.{LIMBO, LOCKS, THREADS}
+use Rattle.ule_micro.specs.Standings.{standing_with}
+use Rattle.ule_micro.specs.Courses.{WorkerCourse, all_advanced, unbegun, LegalPlay, opens}
+use Rattle.ule_micro.specs.Laws.{AreOrders, IsLawful}
+use Rattle.ule_micro.specs.Agreement.{ThreadAgrees, under}
 use Rattle.ule_micro.specs.Programs.{CanBegin}
-use Rattle.ule_micro.specs.States.{State, holds, lock_held_by, pending, pending_by, carried_at, course_of_seat, hand_of_seat, courses, values_and_hands}
+use Rattle.ule_micro.specs.Shared.{Agrees}
+use Rattle.ule_micro.specs.States.{State, holds, lock_held_by, pending, pending_by, read_by, time_read, course_of_seat, hand_of_seat, courses, shared_of, word_of}
 use Rattle.ule_micro.specs.Turns.{Fetched, next_command, seated, phase_with}
-use Rattle.ule_micro.specs.Theorem.{IsStart, HasWhatItNeeds, ThreadAgreesIn}
+use Rattle.ule_micro.specs.Theorem.{IsStart, HasWhatItNeeds, WorkerAgrees}
 use Rattle.ule_micro.specs.Kept.{IsKeptState}
 use Rattle.ule_micro.specs.declared.entry.Entry.{Entry}
 use Rattle.ule_micro.specs.declared.word.Word.{Word}
 use Rattle.ule_micro.specs.Opening.{AreFreeLocks, AreFirstWords, AreFirstValues, AreFirstSeats, IsFirstSeat}
-use Rattle.ule_micro.proofs.Lists.{set_same, there, something, get_map, length_map, index_get}
+use Rattle.ule_micro.proofs.Lists.{set_same, there, something, get_map, map_get, length_map, index_get, index_past}
 use Rattle.ule_micro.proofs.Fetches.{IsFetchedWell, commands_well}
-use Rattle.ule_micro.proofs.Fresh.{took_nothing, standing_given, given_none, given_open, given_not_leaving, open_not_timed}
+use Rattle.ule_micro.proofs.Fresh.{took_nothing, read_nothing, standing_given, given_none, given_open, given_not_leaving}
+use Rattle.ule_micro.proofs.Showing.{advanced_all}
 
 module _ {X : Type 0} where
   -- mixed: the first n of one list, and the rest of another
@@ -77,45 +79,45 @@ module _ {X : Type 0} where
   snoc_default (y ∷ ys) d zero all = all 0
   snoc_default (y ∷ ys) d (suc k) all = snoc_default ys d k (λ i. all (suc i))
 
-module _ {H O G E R C : Type 0} (m : Means H O G E R C) (hands : KeepsHands m) (programs : KeepsPrograms m) where
+module _ {H O G E R C : Type 0} (m : Means H O G E R C) (orders : ℕ → List C) (laws : IsLawful m) (lists : AreOrders m orders) where
   -- the first command of a worker may begin, and so on up to its first item
-  module _ (cs : List (WorkerCourse O E R)) (play : LegalPlay m [] m.values cs) (w : ℕ) (o : O) (at : slice_get cs w ≡ Some (unbegun o)) where
-    first_fetch : CanBegin m o (m.orders w) × IsFetchedWell m hands programs [] m.values cs w 0 0 o (there cs w (unbegun o) at) (next_command m o 0 (m.orders w))
-    first_fetch = commands_well m hands programs [] m.values cs w 0 0 o (there cs w (unbegun o) at) (m.orders w) o 0 refl (omega arith) (subst (LegalPlay m [] m.values) (sym (set_same cs w (unbegun o) at)) play) refl refl
+  module _ (cs : List (WorkerCourse O E R)) (play : LegalPlay m orders [] m.values cs) (w : ℕ) (o : O) (at : slice_get cs w ≡ Some (unbegun o)) where
+    first_fetch : CanBegin m o (orders w) × IsFetchedWell m orders laws lists [] m.values cs w 0 0 o (there cs w (unbegun o) at) (next_command m o 0 (orders w))
+    first_fetch = commands_well m orders laws lists [] m.values cs w 0 0 o (there cs w (unbegun o) at) (orders w) o 0 refl (omega arith) (subst (LegalPlay m orders [] m.values) (sym (set_same cs w (unbegun o) at)) play) refl refl
 
   -- at the start the commands of a worker may begin, up to its first item
-  pub start_can : (w : ℕ) (o : O) → slice_get m.owns w ≡ Some o → CanBegin m o (m.orders w)
+  pub start_can : (w : ℕ) (o : O) → slice_get m.owns w ≡ Some o → CanBegin m o (orders w)
   start_can w o at = (first_fetch (map unbegun m.owns) opens w o (get_map unbegun m.owns w o at)).0
 
-module _ {H O G E R C : Type 0} (m : Means H O G E R C) (small : StartsSmall m) (settled : StartsSettled m) (hands : KeepsHands m) (programs : KeepsPrograms m) (s : State O G E R) (st : IsStart m s) (locks : length s.locks ≡ 25) (words : length s.words ≡ 256) where
+module _ {H O G E R C : Type 0} (m : Means H O G E R C) (orders : ℕ → List C) (laws : IsLawful m) (lists : AreOrders m orders) (s : State O G E R) (st : IsStart m orders s) (locks : length s.locks ≡ LOCKS) (words : length s.words ≡ THREADS) where
   many : length (courses s) ≡ length (map (unbegun {O = O} {E = E} {R = R}) m.owns)
   many = length_map course_of_seat s.seats ∙ (st.workers ∙ sym (length_map unbegun m.owns))
 
   abbrev first_item : ℕ → O → Fetched O E
-  first_item w o = next_command m o 0 (m.orders w)
+  first_item w o = next_command m o 0 (orders w)
 
   -- a worker at the start is the one that its own part leads to
   each_start : (w : ℕ) (p : Seat O E R) → slice_get s.seats w ≡ Some p → (o : O) × (slice_get m.owns w ≡ Some o) × (p ≡ seated m (first_item w o) 0 0)
   each_start w p at = let h = there s.seats w p at in let o = something m.owns w (let a = st.workers in omega arith) in (o.0, o.1, same_Some p _ (sym at ∙ st.seats w o.0 o.1))
 
   -- the first n workers came to their first items
-  play_mixed : (n : ℕ) → n ≤ length m.owns → LegalPlay m [] m.values (mixed n (courses s) (map unbegun m.owns))
+  play_mixed : (n : ℕ) → n ≤ length m.owns → LegalPlay m orders [] m.values (mixed n (courses s) (map unbegun m.owns))
   play_mixed zero h = opens
   play_mixed (suc n) h = let o = something m.owns n (omega arith) in
       let before = play_mixed n (omega arith) in
       let at = mixed_rest n (courses s) (map unbegun m.owns) many ∙ get_map unbegun m.owns n o.0 o.1 in
-      let well = (first_fetch m hands programs (mixed n (courses s) (map unbegun m.owns)) before n o.0 at).1 in
+      let well = (first_fetch m orders laws lists (mixed n (courses s) (map unbegun m.owns)) before n o.0 at).1 in
       let f = first_item n o.0 in
       let here = get_map course_of_seat s.seats n _ (st.seats n o.0 o.1) in
       let same : course_of_seat (seated m f 0 0) ≡ record { own = f.own; begun = f.begun; items = 0; advanced = 0; standing = standing_with f.item } = λ i. record { own = f.own; begun = f.begun; items = 0; advanced = 0; standing = standing_given f.item (phase_with f.item) refl i } in
-      subst (LegalPlay m [] m.values) (mixed_next n (courses s) (map unbegun m.owns) _ many (here ∙ ap Some same)) well.play
+      subst (LegalPlay m orders [] m.values) (mixed_next n (courses s) (map unbegun m.owns) _ many (here ∙ ap Some same)) well.play
 
-  start_play : LegalPlay m [] m.values (courses s)
-  start_play = subst (LegalPlay m [] m.values) (mixed_all (courses s) (map unbegun m.owns) many) (play_mixed (length (courses s)) (let a = length_map course_of_seat s.seats in let b = st.workers in omega arith))
+  start_play : LegalPlay m orders [] m.values (courses s)
+  start_play = subst (LegalPlay m orders [] m.values) (mixed_all (courses s) (map unbegun m.owns) many) (play_mixed (length (courses s)) (let a = length_map course_of_seat s.seats in let b = st.workers in omega arith))
 
   fetched : (w : ℕ) (o : O) (at : slice_get m.owns w ≡ Some o)
-      → IsFetchedWell m hands programs [] m.values (map unbegun m.owns) w 0 0 o (there (map unbegun m.owns) w (unbegun o) (get_map unbegun m.owns w o at)) (first_item w o)
-  fetched w o at = (first_fetch m hands programs (map unbegun m.owns) opens w o (get_map unbegun m.owns w o at)).1
+      → IsFetchedWell m orders laws lists [] m.values (map unbegun m.owns) w 0 0 o (there (map unbegun m.owns) w (unbegun o) (get_map unbegun m.owns w o at)) (first_item w o)
+  fetched w o at = (first_fetch m orders laws lists (map unbegun m.owns) opens w o (get_map unbegun m.owns w o at)).1
 
   hand_start : (w : ℕ) (p : Seat O E R) → slice_get s.seats w ≡ Some p → (o : O) × (slice_get m.owns w ≡ Some o) × (m.hand p.own ≡ m.hand o)
   hand_start w p at = let z = each_start w p at in (z.0, z.1, ap (λ (y : Seat O E R). m.hand y.own) z.2 ∙ (fetched w z.0 z.1).hand)
@@ -137,22 +139,22 @@ module _ {H O G E R C : Type 0} (m : Means H O G E R C) (small : StartsSmall m) 
     by None e = ap (λ i. lock_held_by i l) e
     by (Some p) e = let z = each_start w p e in ap (λ i. lock_held_by i l) e ∙ took_nothing (first_item w z.0).item p.phase l (ap (λ (y : Seat O E R). y.phase) z.2)
 
-  no_thread : (t w : ℕ) → m.declared t ≡ true → carried_at m (slice_get s.seats w) t ≡ false
-  no_thread t w dec = by (slice_get s.seats w) refl where
-    by : (o : Option (Seat O E R)) → slice_get s.seats w ≡ o → carried_at m (slice_get s.seats w) t ≡ false
-    by None e = ap (λ i. carried_at m i t) e
-    by (Some p) e = let z = hand_start w p e in ap (λ i. carried_at m i t) e ∙ (ap (λ h. m.carried_in h t) z.2 ∙ settled.empty t w z.0 dec z.1)
+  no_thread : (t w : ℕ) → m.declared t ≡ true → carried_by m (map (hand_of_seat m) s.seats) w t ≡ false
+  no_thread t w dec = ap (λ hs. carried_by m hs w t) hands_start ∙ by (slice_get (map m.hand m.owns) w) refl where
+    by : (o : Option H) → slice_get (map m.hand m.owns) w ≡ o → carried_by m (map m.hand m.owns) w t ≡ false
+    by None e = ap (λ i. elim i as (λ _. Bool) [ None ↦ false | Some h ↦ m.carried_in h t ]) e
+    by (Some h) e = let o = map_get m.hand m.owns w h e in ap (λ i. elim i as (λ _. Bool) [ None ↦ false | Some h ↦ m.carried_in h t ]) e ∙ (ap (λ i. m.carried_in i t) (sym o.2) ∙ laws.settled.empty t w o.0 dec o.1)
 
   stands_start : (l t : ℕ) → stands_under m s.values l t ≡ stands_under m m.values l t
   stands_start l t = ap (λ vs. stands_under m vs l t) st.values
 
-  thread_start : (t : ℕ) → m.declared t ≡ true → ThreadAgreesIn m s t
+  thread_start : (t : ℕ) → m.declared t ≡ true → ThreadAgrees (holds s) (pending s) (λ l. stands_under m s.values l t) (λ w. carried_by m (map (hand_of_seat m) s.seats) w t) t (word_of s t)
   thread_start t dec = record {
     place = under (m.word t);
-    there = stands_start (m.word t) t ∙ settled.stands t dec;
-    only_under = λ l e. ap under (sym (settled.once t l dec (sym (stands_start l t) ∙ e)));
+    there = stands_start (m.word t) t ∙ laws.settled.stands t dec;
+    only_under = λ l e. ap under (sym (laws.settled.once t l dec (sym (stands_start l t) ∙ e)));
     only_hand = λ w e. absurd (true≢false (sym e ∙ no_thread t w dec));
-    word_agrees = inl (st.words t (settled.few t dec), λ w c e _. none-some c (sym (no_change w) ∙ e));
+    word_agrees = inl (st.words t (laws.settled.few t dec), λ w c e _. none-some c (sym (no_change w) ∙ e));
     change_agrees = λ w c e _. absurd (none-some c (sym (no_change w) ∙ e));
   }
 
@@ -160,34 +162,55 @@ module _ {H O G E R C : Type 0} (m : Means H O G E R C) (small : StartsSmall m) 
   none_advanced [] each = refl
   none_advanced (p ∷ ps) each = let a = each 0 p refl in let b = none_advanced ps (λ w q e. each (suc w) q e) in omega arith
 
+  no_time : (w : ℕ) → time_read s w ≡ None
+  no_time w = by (slice_get s.seats w) refl where
+    by : (o : Option (Seat O E R)) → slice_get s.seats w ≡ o → time_read s w ≡ None
+    by None e = ap read_by e
+    by (Some p) e = let z = each_start w p e in ap read_by e ∙ read_nothing (first_item w z.0).item p.phase (ap (λ (y : Seat O E R). y.phase) z.2)
+
+  word_low : (t : ℕ) → m.declared t ≡ false → word_of s t ≡ Lock LIMBO
+  word_low t none = dite (dec_lt t THREADS) (λ h. st.words t h ∙ ap Lock (laws.settled.limbo t none)) (λ far. index_past s.words t (Lock LIMBO) (let a = words in let b = far in omega arith))
+
+  -- what the state at the start shows agrees
+  start_agrees : Agrees m (shared_of m s [])
+  start_agrees = record {
+    values = ap length st.values ∙ laws.small.locks;
+    locks = λ l. record { named = λ w h. absurd (true≢false (sym h ∙ no_lock w l)); held = λ w e. absurd (none-some w (sym (st.locks l) ∙ e)) };
+    threads = thread_start;
+    undeclared = word_low;
+    changes = λ w c is. absurd (none-some c (sym (no_change w) ∙ is));
+    times = λ w r is. absurd (none-some r (sym (no_time w) ∙ is));
+    past = λ j x e. absurd (none-some x e);
+    now = let a = none_advanced s.seats (λ w p e. ap (λ (y : Seat O E R). y.advanced) (each_start w p e).2) in let b = st.now in let c = advanced_all s.seats in omega arith;
+    ticket = st.ticket;
+    history = λ i. record { values = st.values i; hands = hands_start i };
+  }
+
+  worker_start : (w : ℕ) (p : Seat O E R) → slice_get s.seats w ≡ Some p → WorkerAgrees m orders s w p
+  worker_start w p e = let z = each_start w p e in let given = ap (λ (y : Seat O E R). y.phase) z.2 in record {
+    leaving = λ c is. absurd (none-some c (sym (no_change w) ∙ (ap pending_by e ∙ is)));
+    way = λ a on is. subst (HasWhatItNeeds m s a) (sym (given_open (first_item w z.0).item p.phase a on given is)) tt;
+    finished = λ fin. record {
+      ended = subst (λ (y : Seat O E R). slice_get (orders w) y.begun ≡ None) (sym z.2) ((fetched w z.0 z.1).ended (given_none (first_item w z.0).item p.phase given fin));
+      free = λ l is. none-some w (sym (st.locks l) ∙ is);
+      calm = ap (λ (y : Seat O E R). y.pending) z.2;
+      empty = λ t dec. let h = hand_start w p e in ap (λ i. m.carried_in i t) h.2 ∙ laws.settled.empty t w h.0 dec h.1;
+    };
+  }
+
   -- the state at the start is kept
-  pub start_kept : IsKeptState m s
+  pub start_kept : IsKeptState m orders s
   start_kept = record {
     locks = locks;
     words = words;
-    values = ap length st.values ∙ small.locks;
     workers = st.workers;
-    numbers = λ w p e. let z = each_start w p e in ap (λ (y : Seat O E R). m.number y.own) z.2 ∙ ((fetched w z.0 z.1).number ∙ small.numbered w z.0 z.1);
-    begun = λ w p e. let z = each_start w p e in subst (λ (y : Seat O E R). y.begun ≤ length (m.orders w)) (sym z.2) (fetched w z.0 z.1).low;
-    ended = λ w p e fin. let z = each_start w p e in subst (λ (y : Seat O E R). slice_get (m.orders w) y.begun ≡ None) (sym z.2) ((fetched w z.0 z.1).ended (given_none (first_item w z.0).item p.phase (ap (λ (y : Seat O E R). y.phase) z.2) fin));
-    apart = λ w p reply now held e is. absurd (let z = each_start w p e in given_not_leaving (first_item w z.0).item p.phase reply now held (ap (λ (y : Seat O E R). y.phase) z.2) is);
-    agreement = record {
-      locks = λ l. record { named = λ w h. absurd (true≢false (sym h ∙ no_lock w l)); held = λ w e. absurd (none-some w (sym (st.locks l) ∙ e)) };
-      threads = thread_start;
-      changes = λ w p e c is. absurd (none-some c (sym (no_change w) ∙ (ap pending_by e ∙ is)));
-      ways = λ w p e on at is. let z = each_start w p at in subst (HasWhatItNeeds m s e) (sym (given_open (first_item w z.0).item p.phase e on (ap (λ (y : Seat O E R). y.phase) z.2) is)) tt;
-      times = λ w p e held now at is. absurd (let z = each_start w p at in open_not_timed held now (sym (given_open (first_item w z.0).item p.phase e (progress.Timed held now) (ap (λ (y : Seat O E R). y.phase) z.2) is)));
-      past = λ j x e. absurd (none-some x (ap (λ h. slice_get h j) (sym st.history) ∙ e));
-      now = let a = none_advanced s.seats (λ w p e. ap (λ (y : Seat O E R). y.advanced) (each_start w p e).2) in let b = st.now in omega arith;
-      finished = λ w p e fin. record {
-        free = λ l is. none-some w (sym (st.locks l) ∙ is);
-        calm = ap (λ (y : Seat O E R). y.pending) (each_start w p e).2;
-        empty = λ t dec. let z = hand_start w p e in ap (λ h. m.carried_in h t) z.2 ∙ settled.empty t w z.0 dec z.1;
-      };
-      ticket = st.ticket ∙ sym (ap length st.history);
-      history = subst (λ h. Leads m (values_and_hands_at_start m) h (values_and_hands m s)) (sym st.history) (λ i. record { values = st.values i; hands = hands_start i });
+    seats = λ w p e. let z = each_start w p e in record {
+      number = ap (λ (y : Seat O E R). m.number y.own) z.2 ∙ ((fetched w z.0 z.1).number ∙ laws.small.numbered w z.0 z.1);
+      begun = subst (λ (y : Seat O E R). y.begun ≤ length (orders w)) (sym z.2) (fetched w z.0 z.1).low;
+      apart = λ reply now held is. absurd (given_not_leaving (first_item w z.0).item p.phase reply now held (ap (λ (y : Seat O E R). y.phase) z.2) is);
     };
-    play = subst (λ h. LegalPlay m h s.values (courses s)) (sym st.history) (subst (λ vs. LegalPlay m [] vs (courses s)) (sym st.values) start_play);
+    agreement = record { history = []; same_entries = sym st.history; shared = start_agrees; workers = worker_start };
+    play = subst (λ h. LegalPlay m orders h s.values (courses s)) (sym st.history) (subst (λ vs. LegalPlay m orders [] vs (courses s)) (sym st.values) start_play);
   }
 
 -- a push that was no error added what was pushed
@@ -205,38 +228,38 @@ one_more_said say n xs xs' x old new is = let c = old.0 in (
       (λ far. snoc_get xs x k (omega arith) ∙ old.1 k (omega arith)),
 )
 
-module _ {H O G E R C : Type 0} (m : Means H O G E R C) where
+module _ {H O G E R C : Type 0} (m : Means H O G E R C) (orders : ℕ → List C) where
   -- one more worker
-  pub more_seats : (n : ℕ) (seats seats' : List (Seat O E R)) (p : Seat O E R) → AreFirstSeats m n seats → IsFirstSeat m n p → seats' ≡ seats ++ p ∷ []
-      → AreFirstSeats m (n + 1) seats'
+  pub more_seats : (n : ℕ) (seats seats' : List (Seat O E R)) (p : Seat O E R) → AreFirstSeats m orders n seats → IsFirstSeat m orders n p → seats' ≡ seats ++ p ∷ []
+      → AreFirstSeats m orders (n + 1) seats'
   more_seats n seats seats' p old new is = (
     (let a : length seats' ≡ length (seats ++ p ∷ []) = ap length is in let b = length-append seats (p ∷ []) in let c = old.0 in omega arith),
     λ w q at. dite (ℕ_discrete w n)
-        (λ z. let same : p ≡ q = same_Some p q (sym (snoc_last seats p w (z ∙ sym old.0)) ∙ (ap (λ l. slice_get l w) (sym is) ∙ at)) in subst (λ (y : Seat O E R). IsFirstSeat m w y) same (subst (λ i. IsFirstSeat m i p) (sym z) new))
+        (λ z. let same : p ≡ q = same_Some p q (sym (snoc_last seats p w (z ∙ sym old.0)) ∙ (ap (λ l. slice_get l w) (sym is) ∙ at)) in subst (λ (y : Seat O E R). IsFirstSeat m orders w y) same (subst (λ i. IsFirstSeat m orders i p) (sym z) new))
         (λ far. let h : w < length seats' = there seats' w q at in let a : length seats' ≡ length (seats ++ p ∷ []) = ap length is in let b = length-append seats (p ∷ []) in let c = old.0 in
         old.1 w q (sym (snoc_get seats p w (omega arith)) ∙ (ap (λ l. slice_get l w) (sym is) ∙ at))),
   )
 
-  module _ (n : ℕ) (locks : List (Option ℕ)) (words : List Word) (values : List G) (seats : List (Seat O E R)) (history : List (Entry E R)) (small : StartsSmall m) (many : n ≡ length m.owns)
-      (free : AreFreeLocks 25 locks) (first_words : AreFirstWords m 256 words) (first_values : AreFirstValues m 25 values) (first_seats : AreFirstSeats m n seats) (none : history ≡ []) where
+  module _ (n : ℕ) (locks : List (Option ℕ)) (words : List Word) (values : List G) (seats : List (Seat O E R)) (history : List (Entry E R)) (laws : IsLawful m) (lists : AreOrders m orders) (many : n ≡ length m.owns)
+      (free : AreFreeLocks LOCKS locks) (first_words : AreFirstWords m THREADS words) (first_values : AreFirstValues m LOCKS values) (first_seats : AreFirstSeats m orders n seats) (none : history ≡ []) where
     -- opening state: the state of these parts
     abbrev pub opening_state : State O G E R
     opening_state = record { locks = locks; words = words; ticket = 0; now = 20000; values = values; seats = seats; history = history }
 
     -- these parts are a start
-    pub opening_start : IsStart m opening_state
+    pub opening_start : IsStart m orders opening_state
     opening_start = record {
       locks = free.1;
-      words = λ t h. index_get words t (Lock 24) (Lock (m.word t)) (first_words.1 t h);
+      words = λ t h. index_get words t (Lock LIMBO) (Lock (m.word t)) (first_words.1 t h);
       ticket = refl;
       now = refl;
-      values = same_list values m.values (first_values.0 ∙ sym small.locks) (λ i h. first_values.1 i (let a = first_values.0 in omega arith));
+      values = same_list values m.values (first_values.0 ∙ sym laws.small.locks) (λ i h. first_values.1 i (let a = first_values.0 in omega arith));
       history = none;
       workers = first_seats.0 ∙ many;
       seats = λ w o at. let h = there m.owns w o at in let p = something seats w (let a = first_seats.0 in omega arith) in let z = first_seats.1 w p.0 p.1 in
-          let same : z.0 ≡ o = same_Some z.0 o (sym z.1 ∙ at) in p.1 ∙ ap Some (z.2 ∙ ap (λ i. seated m (next_command m i 0 (m.orders w)) 0 0) same);
+          let same : z.0 ≡ o = same_Some z.0 o (sym z.1 ∙ at) in p.1 ∙ ap Some (z.2 ∙ ap (λ i. seated m (next_command m i 0 (orders w)) 0 0) same);
     }
 
     -- the state of these parts is kept
-    pub opening_kept : StartsSettled m → KeepsHands m → KeepsPrograms m → IsKeptState m opening_state
-    opening_kept settled hands programs = start_kept m small settled hands programs opening_state opening_start free.0 first_words.0
+    pub opening_kept : IsKeptState m orders opening_state
+    opening_kept = start_kept m orders laws lists opening_state opening_start free.0 first_words.0

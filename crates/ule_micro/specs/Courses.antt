@@ -1,16 +1,10 @@
 -- Where the workers stand in their programs, and the legal plays: every course of entries, advances and commands that the programs and the rules of time allow.
 use Rattle.std.specs.Prelude.{◌≡◌, ℕ, ◌+◌, ◌≤◌, List, [], ◌∷◌, map, Option, Some, None, slice_get, slice_set}
 use Rattle.ule_micro.specs.declared.entry.Entry.{Entry}
-use Rattle.ule_micro.specs.declared.todo.Todo.{Todo}
 use Rattle.ule_micro.specs.declared.todo.Todo.TheVariants.{Event, Advance}
 use Rattle.ule_micro.specs.Means.{Means}
-use Rattle.ule_micro.specs.Histories.{Effect, Follows, IsNoEarlierThanShared}
-
--- standing: a worker is to ask for its next item, telling the reply and the time of the event before it if it was one, or it has an item, or the command that it began last has no further item
-pub data Standing (E R : Type 0) : Type 0 where
-  asks : Option (R × ℕ) → Standing E R
-  has : Todo E → Standing E R
-  rests : Standing E R
+use Rattle.ule_micro.specs.Standings.{Standing, asks, has, rests, standing_with, Acted}
+use Rattle.ule_micro.specs.Histories.{Follows, IsNoEarlierThanShared}
 
 -- worker course: where a worker stands in its program, with the commands begun, the items performed and the hz ticks advanced so far
 pub record WorkerCourse (O E R : Type 0) : Type 0 where
@@ -29,11 +23,6 @@ module _ {O E R : Type 0} where
   abbrev pub all_advanced : List (WorkerCourse O E R) → ℕ
   all_advanced [] = 0
   all_advanced (c ∷ cs) = c.advanced + all_advanced cs
-
--- standing with: where a worker stands that was given this item, if any
-abbrev pub standing_with : {E R : Type 0} → Option (Todo E) → Standing E R
-standing_with None = rests
-standing_with (Some x) = has x
 
 module _ {H O G E R C : Type 0} (m : Means H O G E R C) where
   -- answered: the worker was told its next item
@@ -58,15 +47,15 @@ module _ {H O G E R C : Type 0} (m : Means H O G E R C) where
     pub own : 20000 + c.advanced ≤ x.now
     pub past : x.now ≤ 20000 + all_advanced cs
 
-  -- legal play: a legal play so far, with its history, the values under the locks, and where each worker stands
-  pub data LegalPlay : List (Entry E R) → List G → List (WorkerCourse O E R) → Type 0 where
-    opens : LegalPlay [] m.values (map unbegun m.owns)
+  -- legal play: a legal play so far of workers with these commands, with its history, the values under the locks, and where each worker stands
+  pub data LegalPlay (orders : ℕ → List C) : List (Entry E R) → List G → List (WorkerCourse O E R) → Type 0 where
+    opens : LegalPlay orders [] m.values (map unbegun m.owns)
     answers : {h : List (Entry E R)} {vs : List G} {cs : List (WorkerCourse O E R)} (w : ℕ) (c : WorkerCourse O E R) (told : Option (R × ℕ))
-        → LegalPlay h vs cs → slice_get cs w ≡ Some c → c.standing ≡ asks told → LegalPlay h vs (slice_set cs w (answered c told))
+        → LegalPlay orders h vs cs → slice_get cs w ≡ Some c → c.standing ≡ asks told → LegalPlay orders h vs (slice_set cs w (answered c told))
     begins : {h : List (Entry E R)} {vs : List G} {cs : List (WorkerCourse O E R)} (w : ℕ) (c : WorkerCourse O E R) (order : C)
-        → LegalPlay h vs cs → slice_get cs w ≡ Some c → c.standing ≡ rests → slice_get (m.orders w) c.begun ≡ Some order → LegalPlay h vs (slice_set cs w (ordered c order))
+        → LegalPlay orders h vs cs → slice_get cs w ≡ Some c → c.standing ≡ rests → slice_get (orders w) c.begun ≡ Some order → LegalPlay orders h vs (slice_set cs w (ordered c order))
     advances : {h : List (Entry E R)} {vs : List G} {cs : List (WorkerCourse O E R)} (w : ℕ) (c : WorkerCourse O E R) (k : ℕ)
-        → LegalPlay h vs cs → slice_get cs w ≡ Some c → c.standing ≡ has (Advance k) → LegalPlay h vs (slice_set cs w (advanced_by c k))
-    performs : {h : List (Entry E R)} {vs : List G} {cs : List (WorkerCourse O E R)} (c : WorkerCourse O E R) (x : Entry E R) (after : Effect H G R)
-        → LegalPlay h vs cs → slice_get cs x.worker ≡ Some c → c.standing ≡ has (Event x.event) → Follows m vs (m.hand c.own) x after → KeepsTimeRules h cs c x
-        → LegalPlay (x ∷ h) after.values (slice_set cs x.worker (done_by c after.hand x.reply x.now))
+        → LegalPlay orders h vs cs → slice_get cs w ≡ Some c → c.standing ≡ has (Advance k) → LegalPlay orders h vs (slice_set cs w (advanced_by c k))
+    performs : {h : List (Entry E R)} {vs : List G} {cs : List (WorkerCourse O E R)} (c : WorkerCourse O E R) (x : Entry E R) (after : Acted H G R)
+        → LegalPlay orders h vs cs → slice_get cs x.worker ≡ Some c → c.standing ≡ has (Event x.event) → Follows m vs (m.hand c.own) x after → KeepsTimeRules h cs c x
+        → LegalPlay orders (x ∷ h) after.values (slice_set cs x.worker (done_by c after.hand x.reply x.now))

@@ -1,10 +1,12 @@
 -- What the parts of a scheduler mean: the values under its locks, its workers' own parts, its events and its programs.
 use Rattle.std.specs.Prelude.{ℕ, zero, suc, ◌+◌, Bool, false, List, Option, Some, None, slice_get}
+use Rattle.ule_micro.specs.declared.entry.Entry.{Entry}
 use Rattle.ule_micro.specs.declared.entry.HeldLocks.{HeldLocks}
 use Rattle.ule_micro.specs.declared.entry.HeldLocks.TheVariants.{One, Two}
 use Rattle.ule_micro.specs.declared.todo.Todo.{Todo}
 use Rattle.ule_micro.specs.declared.word.WordChange.{WordChange}
 use Rattle.ule_micro.specs.declared.word.WordChange.TheVariants.{Block, Point}
+use Rattle.ule_micro.specs.Standings.{Standing, Acted, Journal}
 
 -- needs: what has to be held before an event is performed, which is one lock, two locks, or the lock of the place where a thread stands
 pub data Needs : Type 0 where
@@ -33,28 +35,32 @@ thread_of_change (Point t l) = t
 pub record Means (H O G E R C : Type 0) : Type 1 where
   -- the threads that there are
   pub declared : ℕ → Bool
-  -- whether a thread stands under the lock of this value, and whether a hand has it
+  -- whether a thread stands under the lock of a value, and whether a hand has it
   pub stands_in : G → ℕ → Bool
   pub carried_in : H → ℕ → Bool
   -- the start: the value under each lock, each worker's own part, the lock that each thread's word names
   pub values : List G
   pub owns : List O
   pub word : ℕ → ℕ
-  -- the greatest number of items of each worker, and its list of commands
+  -- the greatest number of items of each worker
   pub budget : ℕ → ℕ
-  pub orders : ℕ → List C
   -- an own part: the number of its worker, its hand, and the same part with another hand
   pub number : O → ℕ
   pub hand : O → H
   pub with_hand : O → H → O
-  -- an event: what it needs, whether it fits its worker's hand and the values under its locks, and whether it may be performed at this time
+  -- an event: what it needs, and whether a worker with these own entries, the newest first, and with this hand may ask for it
   pub needs : E → Needs
-  pub fits : ℕ → E → H → List G → Type 0
+  pub asks : ℕ → List (Entry E R) → H → E → Type 0
+  -- whether a worker may perform an event at a time with this hand on the values under its locks, and what it leaves then
   pub may : ℕ → E → ℕ → H → List G → Type 0
-  -- the step of an event of a worker at a time, on the hand and the value under its lock, or under both its locks
-  pub step : ℕ → E → ℕ → H → G → H × G × R
-  pub pair : ℕ → E → ℕ → H → G → G → H × G × G × R
+  pub act : ℕ → E → ℕ → H → List G → Acted H G R
   pub change : E → R → Option WordChange
+  -- a command: whether it is valid for a worker behind those begun before, the newest first, and its greatest number of items
+  pub valid : ℕ → List C → C → Type 0
+  pub charge : ℕ → C → ℕ
+  -- what an own part keeps where its worker stands, and the greatest number of items that are left of the command
+  pub stands : Journal E R C → O → Standing E R → Type 0
+  pub left : O → Standing E R → ℕ
   -- a program: whether a command may begin, what beginning it leaves, whether the next item may be asked for, and what it is and leaves
   pub begins : O → C → Type 0
   pub begin : O → C → O

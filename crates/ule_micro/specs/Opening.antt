@@ -19,10 +19,12 @@ module _ {H O G E R C : Type 0} (m : Means H O G E R C) where
   abbrev pub AreFirstValues : ℕ → List G → Type 0
   AreFirstValues n values = (length values ≡ n) × ((l : ℕ) → l < n → slice_get values l ≡ slice_get m.values l)
 
-  -- is first seat: the worker has the first item of its program
-  abbrev pub IsFirstSeat : ℕ → Seat O E R → Type 0
-  IsFirstSeat w p = (o : O) × (slice_get m.owns w ≡ Some o) × (p ≡ seated m (next_command m o 0 (m.orders w)) 0 0)
+  -- with these commands of the workers
+  module _ (orders : ℕ → List C) where
+    -- is first seat: the worker has the first item of its program
+    abbrev pub IsFirstSeat : ℕ → Seat O E R → Type 0
+    IsFirstSeat w p = (o : O) × (slice_get m.owns w ≡ Some o) × (p ≡ seated m (next_command m o 0 (orders w)) 0 0)
 
-  -- are first seats: the first n workers, each with the first item of its program
-  abbrev pub AreFirstSeats : ℕ → List (Seat O E R) → Type 0
-  AreFirstSeats n seats = (length seats ≡ n) × ((w : ℕ) (p : Seat O E R) → slice_get seats w ≡ Some p → IsFirstSeat w p)
+    -- are first seats: the first n workers, each with the first item of its program
+    abbrev pub AreFirstSeats : ℕ → List (Seat O E R) → Type 0
+    AreFirstSeats n seats = (length seats ≡ n) × ((w : ℕ) (p : Seat O E R) → slice_get seats w ≡ Some p → IsFirstSeat w p)

@@ -1,6 +1,5 @@
 -- One turn of the step model, as a function of the state: each kind of step, and which one a worker makes next.
 use Rattle.std.specs.Prelude.{ℕ, ◌+◌, ◌==◌, Bool, false, List, [], ◌∷◌, drop, Option, Some, None, slice_get, slice_set, if◌then◌else◌}
-use Rattle.ule_micro.specs.declared.entry.Entry.{Entry}
 use Rattle.ule_micro.specs.declared.entry.HeldLocks.{HeldLocks}
 use Rattle.ule_micro.specs.declared.entry.HeldLocks.TheVariants.{One, Two}
 use Rattle.ule_micro.specs.declared.seat.Phase.{Phase}
@@ -18,7 +17,8 @@ use Rattle.ule_micro.specs.declared.word.Word.TheVariants.{Lock, Blocked}
 use Rattle.ule_micro.specs.declared.word.WordChange.{WordChange}
 use Rattle.ule_micro.specs.declared.word.WordChange.TheVariants.{Block, Point}
 use Rattle.ule_micro.specs.Means.{Means, Needs, one, both, lock_of}
-use Rattle.ule_micro.specs.Histories.{Effect, effect_under}
+use Rattle.ule_micro.specs.Standings.{Acted}
+use Rattle.ule_micro.specs.Histories.{effect_under, entry_made}
 use Rattle.ule_micro.specs.States.{State, lock_holder, word_of}
 
 -- fetched: a worker's next item, or none at the end of its program, with its own part and the count of commands begun by then
@@ -111,31 +111,8 @@ module _ {H O G E R C : Type 0} (m : Means H O G E R C) where
   abbrev pub seated : Fetched O E → ℕ → ℕ → Seat O E R
   seated f items advanced = record { own = f.own; begun = f.begun; items = items; advanced = advanced; pending = None; phase = phase_with f.item }
 
-  -- seat going on: the worker with its next item
-  abbrev pub seat_going_on : ℕ → O → ℕ → Option (R × ℕ) → ℕ → ℕ → Seat O E R
-  seat_going_on w own k told items advanced = seated (fetch own k told (drop k (m.orders w))) items advanced
-
-  -- advance: a worker raises the time, and goes on
-  abbrev pub advance : State O G E R → ℕ → Seat O E R → ℕ → Turn × State O G E R
-  advance s w p k = (
-    turn.Moved (done.Advance k),
-    record {
-      locks = s.locks;
-      words = s.words;
-      ticket = s.ticket;
-      now = s.now + k;
-      values = s.values;
-      history = s.history;
-      seats = slice_set s.seats w (seat_going_on w p.own p.begun None (p.items + 1) (p.advanced + k));
-    },
-  )
-
-  -- entry made: the entry that an event of the worker makes
-  abbrev pub entry_made : ℕ → E → HeldLocks → ℕ → R → Entry E R
-  entry_made w e held now reply = record { worker = w; locks = held; now = now; event = e; reply = reply }
-
   -- seat leaving: a worker whose event had this effect
-  abbrev pub seat_leaving : Seat O E R → E → HeldLocks → ℕ → Effect H G R → Seat O E R
+  abbrev pub seat_leaving : Seat O E R → E → HeldLocks → ℕ → Acted H G R → Seat O E R
   seat_leaving p e held now after = record {
     own = m.with_hand p.own after.hand;
     begun = p.begun;
@@ -146,7 +123,7 @@ module _ {H O G E R C : Type 0} (m : Means H O G E R C) where
   }
 
   -- commit: an event of a worker takes effect; without an effect nothing changes
-  abbrev pub commit : State O G E R → ℕ → Seat O E R → E → HeldLocks → ℕ → Option (Effect H G R) → Turn × State O G E R
+  abbrev pub commit : State O G E R → ℕ → Seat O E R → E → HeldLocks → ℕ → Option (Acted H G R) → Turn × State O G E R
   commit s w p e held now None = (turn.Finished, s)
   commit s w p e held now (Some after) = (
     turn.Moved (done.Commit (s.ticket + 1)),
@@ -160,12 +137,6 @@ module _ {H O G E R C : Type 0} (m : Means H O G E R C) where
       history = entry_made w e held now after.reply ∷ s.history;
     },
   )
-
-  -- leave: a worker whose event took effect stores its pending change, or else gives back the lock that it took last, and goes on behind the last one
-  abbrev pub leave : State O G E R → ℕ → Seat O E R → R → ℕ → HeldLocks → Option WordChange → Turn × State O G E R
-  leave s w p reply now held (Some change) = store s w p change
-  leave s w p reply now (One a) None = release s a w (seat_going_on w p.own p.begun (Some (reply, now)) p.items p.advanced)
-  leave s w p reply now (Two a b) None = release s b w (at p (phase.Leaving reply now (One a)))
 
   -- open: the first step of an event, by what it needs
   abbrev pub open_event : State O G E R → ℕ → Seat O E R → E → Needs → Turn × State O G E R
@@ -183,23 +154,50 @@ module _ {H O G E R C : Type 0} (m : Means H O G E R C) where
   approach s w p e (progress.Locked held) = read_now s w p e held
   approach s w p e (progress.Timed held now) = commit s w p e held now (effect_under m w e now (m.hand p.own) held s.values)
 
-  -- step: the next step of a worker, by where it stands
-  abbrev pub step_of : State O G E R → ℕ → Seat O E R → Phase E R → Turn × State O G E R
-  step_of s w p phase.Finished = (turn.Finished, s)
-  step_of s w p (phase.Advance k) = advance s w p k
-  step_of s w p (phase.Event e way) = approach s w p e way
-  step_of s w p (phase.Leaving reply now held) = leave s w p reply now held p.pending
+  -- with these commands of the workers
+  module _ (orders : ℕ → List C) where
+    -- seat going on: the worker with its next item
+    abbrev pub seat_going_on : ℕ → O → ℕ → Option (R × ℕ) → ℕ → ℕ → Seat O E R
+    seat_going_on w own k told items advanced = seated (fetch own k told (drop k (orders w))) items advanced
 
-  -- turn by: the turn of a worker, which does nothing where there is no such worker
-  abbrev pub turn_by : State O G E R → ℕ → Option (Seat O E R) → Turn × State O G E R
-  turn_by s w None = (turn.Finished, s)
-  turn_by s w (Some p) = step_of s w p p.phase
+    -- advance: a worker raises the time, and goes on
+    abbrev pub advance : State O G E R → ℕ → Seat O E R → ℕ → Turn × State O G E R
+    advance s w p k = (
+      turn.Moved (done.Advance k),
+      record {
+        locks = s.locks;
+        words = s.words;
+        ticket = s.ticket;
+        now = s.now + k;
+        values = s.values;
+        history = s.history;
+        seats = slice_set s.seats w (seat_going_on w p.own p.begun None (p.items + 1) (p.advanced + k));
+      },
+    )
 
-  -- turn of worker: what one turn of a worker does, and the state after it
-  abbrev pub turn_of_worker : State O G E R → ℕ → Turn × State O G E R
-  turn_of_worker s w = turn_by s w (slice_get s.seats w)
+    -- leave: a worker whose event took effect stores its pending change, or else gives back the lock that it took last, and goes on behind the last one
+    abbrev pub leave : State O G E R → ℕ → Seat O E R → R → ℕ → HeldLocks → Option WordChange → Turn × State O G E R
+    leave s w p reply now held (Some change) = store s w p change
+    leave s w p reply now (One a) None = release s a w (seat_going_on w p.own p.begun (Some (reply, now)) p.items p.advanced)
+    leave s w p reply now (Two a b) None = release s b w (at p (phase.Leaving reply now (One a)))
 
-  -- played: the state after these turns, one after another
-  abbrev pub played : State O G E R → List ℕ → State O G E R
-  played s [] = s
-  played s (w ∷ ws) = played (turn_of_worker s w).1 ws
+    -- step: the next step of a worker, by where it stands
+    abbrev pub step_of : State O G E R → ℕ → Seat O E R → Phase E R → Turn × State O G E R
+    step_of s w p phase.Finished = (turn.Finished, s)
+    step_of s w p (phase.Advance k) = advance s w p k
+    step_of s w p (phase.Event e way) = approach s w p e way
+    step_of s w p (phase.Leaving reply now held) = leave s w p reply now held p.pending
+
+    -- turn by: the turn of a worker, which does nothing where there is no such worker
+    abbrev pub turn_by : State O G E R → ℕ → Option (Seat O E R) → Turn × State O G E R
+    turn_by s w None = (turn.Finished, s)
+    turn_by s w (Some p) = step_of s w p p.phase
+
+    -- turn of worker: what one turn of a worker does, and the state after it
+    abbrev pub turn_of_worker : State O G E R → ℕ → Turn × State O G E R
+    turn_of_worker s w = turn_by s w (slice_get s.seats w)
+
+    -- played: the state after these turns, one after another
+    abbrev pub played : State O G E R → List ℕ → State O G E R
+    played s [] = s
+    played s (w ∷ ws) = played (turn_of_worker s w).1 ws

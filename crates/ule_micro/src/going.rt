@@ -15,12 +15,12 @@ pub(crate) fn next_item<P: Parts>(
     begun: &mut u32,
 ) -> Option<Todo<P::Event>>
     requires worker { worker < length (P.means parts.now).owns }
-    requires few { length ((P.means parts.now).orders worker) + 1 < 2 ^ 32 }
-    requires begun { begun.old ≤ length ((P.means parts.now).orders worker) }
-    requires begins { CanBegin (P.means parts.now) own.old (drop begun.old ((P.means parts.now).orders worker)) }
-    ensures item { result ≡ (next_command (P.means parts.now) own.old begun.old (drop begun.old ((P.means parts.now).orders worker))).item }
-    ensures own { own.new ≡ (next_command (P.means parts.now) own.old begun.old (drop begun.old ((P.means parts.now).orders worker))).own }
-    ensures begun { begun.new ≡ (next_command (P.means parts.now) own.old begun.old (drop begun.old ((P.means parts.now).orders worker))).begun }
+    requires few { length (P.orders parts.now worker) + 1 < 2 ^ 32 }
+    requires begun { begun.old ≤ length (P.orders parts.now worker) }
+    requires begins { CanBegin (P.means parts.now) own.old (drop begun.old (P.orders parts.now worker)) }
+    ensures item { result ≡ (next_command (P.means parts.now) own.old begun.old (drop begun.old (P.orders parts.now worker))).item }
+    ensures own { own.new ≡ (next_command (P.means parts.now) own.old begun.old (drop begun.old (P.orders parts.now worker))).own }
+    ensures begun { begun.new ≡ (next_command (P.means parts.now) own.old begun.old (drop begun.old (P.orders parts.now worker))).begun }
 {
     loop {
         let Some(order) = parts.order(worker, *begun + 1) else {
@@ -45,12 +45,12 @@ fn fetch_item<P: Parts>(
     told: Option<(P::Reply, u64)>,
 ) -> Option<Todo<P::Event>>
     requires worker { worker < length (P.means parts.now).owns }
-    requires few { length ((P.means parts.now).orders worker) + 1 < 2 ^ 32 }
-    requires begun { begun.old ≤ length ((P.means parts.now).orders worker) }
-    requires goes_on { CanGoOn (P.means parts.now) own.old told (drop begun.old ((P.means parts.now).orders worker)) }
-    ensures item { result ≡ (fetch (P.means parts.now) own.old begun.old told (drop begun.old ((P.means parts.now).orders worker))).item }
-    ensures own { own.new ≡ (fetch (P.means parts.now) own.old begun.old told (drop begun.old ((P.means parts.now).orders worker))).own }
-    ensures begun { begun.new ≡ (fetch (P.means parts.now) own.old begun.old told (drop begun.old ((P.means parts.now).orders worker))).begun }
+    requires few { length (P.orders parts.now worker) + 1 < 2 ^ 32 }
+    requires begun { begun.old ≤ length (P.orders parts.now worker) }
+    requires goes_on { CanGoOn (P.means parts.now) own.old told (drop begun.old (P.orders parts.now worker)) }
+    ensures item { result ≡ (fetch (P.means parts.now) own.old begun.old told (drop begun.old (P.orders parts.now worker))).item }
+    ensures own { own.new ≡ (fetch (P.means parts.now) own.old begun.old told (drop begun.old (P.orders parts.now worker))).own }
+    ensures begun { begun.new ≡ (fetch (P.means parts.now) own.old begun.old told (drop begun.old (P.orders parts.now worker))).begun }
 {
     match parts.next(own, told) {
         Some(item) => Some(item),
@@ -78,11 +78,11 @@ pub(crate) fn go_on<P: Parts>(
     told: Option<(P::Reply, u64)>,
 )
     requires worker { worker < length (P.means parts.now).owns }
-    requires few { length ((P.means parts.now).orders worker) + 1 < 2 ^ 32 }
-    requires begun { seat.old.begun ≤ length ((P.means parts.now).orders worker) }
-    requires goes_on { CanGoOn (P.means parts.now) seat.old.own told (drop seat.old.begun ((P.means parts.now).orders worker)) }
+    requires few { length (P.orders parts.now worker) + 1 < 2 ^ 32 }
+    requires begun { seat.old.begun ≤ length (P.orders parts.now worker) }
+    requires goes_on { CanGoOn (P.means parts.now) seat.old.own told (drop seat.old.begun (P.orders parts.now worker)) }
     requires calm { seat.old.pending ≡ None }
-    ensures { seat.new ≡ seat_going_on (P.means parts.now) worker seat.old.own seat.old.begun told seat.old.items seat.old.advanced }
+    ensures { seat.new ≡ seat_going_on (P.means parts.now) (P.orders parts.now) worker seat.old.own seat.old.begun told seat.old.items seat.old.advanced }
 {
     let item = fetch_item(parts, worker, &mut seat.own, &mut seat.begun, told);
     seat.phase = phase_of(item);

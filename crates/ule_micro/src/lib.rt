@@ -4,6 +4,8 @@
 
 pub mod entry;
 mod going;
+pub mod laws;
+pub mod locks;
 pub mod micro;
 pub mod opening;
 pub mod parts;

@@ -44,21 +44,21 @@ impl<P: Parts> Model for Micro<P> {
 
     ghost view = { λ s. machine_of s.parts s.locks.items s.words.items s.ticket s.time s.values.items s.seats.items s.history.items };
 
-    ghost invariant = { λ s. IsKeptState (P.means s.parts) (machine_of s.parts s.locks.items s.words.items s.ticket s.time s.values.items s.seats.items s.history.items).state × (budgets (P.means s.parts).budget (length (P.means s.parts).owns) ≤ vec_capacity s.history) };
+    ghost invariant = { λ s. IsKeptState (P.means s.parts) (P.orders s.parts) (machine_of s.parts s.locks.items s.words.items s.ticket s.time s.values.items s.seats.items s.history.items).state × (budgets (P.means s.parts).budget (length (P.means s.parts).owns) ≤ vec_capacity s.history) };
 }
 
 impl<P: Parts> Micro<P> {
     /// One turn of a worker that there is: its next step, or what keeps it from stepping.
     pub fn advance(&mut self, worker: u8) -> Turn
         requires { worker < length self.old.state.seats }
-        ensures turned { IsTurned (P.means self.old.parts) self.old worker result self.new }
+        ensures turned { IsTurned (P.means self.old.parts) (P.orders self.old.parts) self.old worker result self.new }
         ensures workers { length self.new.state.seats ≡ length self.old.state.seats }
         ensures finished { result ≡ Turn.Finished → WorkerStandsAt self.old.state worker phase.Finished }
         ensures unmoved { IsNoStep result → self.new.state ≡ self.old.state }
-        ensures agrees { LockAgreement (P.means self.new.parts) self.new.state }
-        ensures legal { HasLegalPlay (P.means self.new.parts) self.new.state }
+        ensures agrees { LockAgreement (P.means self.new.parts) (P.orders self.new.parts) self.new.state }
+        ensures legal { HasLegalPlay (P.means self.new.parts) (P.orders self.new.parts) self.new.state }
         ensures tells { WordTellsPlace (P.means self.new.parts) self.new.state }
-        ensures goes_on { IsNotStuck (P.means self.new.parts) self.new.state }
+        ensures goes_on { IsNotStuck (P.means self.new.parts) (P.orders self.new.parts) self.new.state }
     {
         // The reads tell the proof what the state keeps, before the turn and after it.
         let _ = &self.ticket;
@@ -72,11 +72,11 @@ impl<P: Parts> Micro<P> {
         requires { All (λ w. w < length self.old.state.seats) turns.now }
         ensures parts { self.new.parts ≡ self.old.parts }
         ensures workers { length self.new.state.seats ≡ length self.old.state.seats }
-        ensures played { self.new.state ≡ played (P.means self.old.parts) self.old.state turns.now }
-        ensures agrees { LockAgreement (P.means self.new.parts) self.new.state }
-        ensures legal { HasLegalPlay (P.means self.new.parts) self.new.state }
+        ensures played { self.new.state ≡ played (P.means self.old.parts) (P.orders self.old.parts) self.old.state turns.now }
+        ensures agrees { LockAgreement (P.means self.new.parts) (P.orders self.new.parts) self.new.state }
+        ensures legal { HasLegalPlay (P.means self.new.parts) (P.orders self.new.parts) self.new.state }
         ensures tells { WordTellsPlace (P.means self.new.parts) self.new.state }
-        ensures goes_on { IsNotStuck (P.means self.new.parts) self.new.state }
+        ensures goes_on { IsNotStuck (P.means self.new.parts) (P.orders self.new.parts) self.new.state }
     {
         for worker in turns {
             let _ = self.advance(*worker);
@@ -134,7 +134,7 @@ impl<P: Parts> Micro<P> {
     /// The next step of a worker, by where it stands.
     fn turn(&mut self, worker: u8) -> Turn
         requires there { worker < length self.old.state.seats }
-        ensures { IsTurned (P.means self.old.parts) self.old worker result self.new }
+        ensures { IsTurned (P.means self.old.parts) (P.orders self.old.parts) self.old worker result self.new }
     {
         let phase = self.seats[worker as usize].phase;
         match phase {
@@ -148,7 +148,7 @@ impl<P: Parts> Micro<P> {
     /// Raises the time.
     fn raise(&mut self, worker: u8, k: u32) -> Turn
         requires at { WorkerStandsAt self.old.state worker (phase.Advance k) }
-        ensures { IsTurned (P.means self.old.parts) self.old worker result self.new }
+        ensures { IsTurned (P.means self.old.parts) (P.orders self.old.parts) self.old worker result self.new }
     {
         self.time += k as u64;
         let seat = &mut self.seats[worker as usize];
@@ -161,7 +161,7 @@ impl<P: Parts> Micro<P> {
     /// The next step of an event on the way to its commit.
     fn approach(&mut self, worker: u8, e: P::Event, way: Progress) -> Turn
         requires at { WorkerStandsAt self.old.state worker (phase.Event e way) }
-        ensures { IsTurned (P.means self.old.parts) self.old worker result self.new }
+        ensures { IsTurned (P.means self.old.parts) (P.orders self.old.parts) self.old worker result self.new }
     {
         match way {
             Progress::Open => self.open_event(worker, e),
@@ -180,7 +180,7 @@ impl<P: Parts> Micro<P> {
     /// The first step of an event: a seeker reads, any other takes its first lock.
     fn open_event(&mut self, worker: u8, e: P::Event) -> Turn
         requires at { WorkerStandsAt self.old.state worker (phase.Event e progress.Open) }
-        ensures { IsTurned (P.means self.old.parts) self.old worker result self.new }
+        ensures { IsTurned (P.means self.old.parts) (P.orders self.old.parts) self.old worker result self.new }
     {
         let Some(held) = self.parts.fixed(&e) else {
             return self.seek(worker, e);
@@ -192,7 +192,7 @@ impl<P: Parts> Micro<P> {
     fn take_first(&mut self, worker: u8, e: P::Event, held: &HeldLocks) -> Turn
         requires at { WorkerStandsAt self.old.state worker (phase.Event e progress.Open) }
         requires fixed { Some held.now ≡ fixed_by ((P.means self.old.parts).needs e) }
-        ensures { IsTurned (P.means self.old.parts) self.old worker result self.new }
+        ensures { IsTurned (P.means self.old.parts) (P.orders self.old.parts) self.old worker result self.new }
     {
         match held {
             HeldLocks::One(a) => {
@@ -209,7 +209,7 @@ impl<P: Parts> Micro<P> {
     fn seek(&mut self, worker: u8, e: P::Event) -> Turn
         requires at { WorkerStandsAt self.old.state worker (phase.Event e progress.Open) }
         requires seeks { None ≡ fixed_by ((P.means self.old.parts).needs e) }
-        ensures { IsTurned (P.means self.old.parts) self.old worker result self.new }
+        ensures { IsTurned (P.means self.old.parts) (P.orders self.old.parts) self.old worker result self.new }
     {
         let Some(t) = self.parts.sought(&e) else {
             unreachable!()
@@ -221,7 +221,7 @@ impl<P: Parts> Micro<P> {
     fn first_read(&mut self, worker: u8, e: P::Event, t: ThreadId) -> Turn
         requires at { WorkerStandsAt self.old.state worker (phase.Event e progress.Open) }
         requires sought { (P.means self.old.parts).needs e ≡ lock_of t }
-        ensures { IsTurned (P.means self.old.parts) self.old worker result self.new }
+        ensures { IsTurned (P.means self.old.parts) (P.orders self.old.parts) self.old worker result self.new }
     {
         let word = self.words[t.0 as usize];
         match word {
@@ -237,7 +237,7 @@ impl<P: Parts> Micro<P> {
     /// A seeker's second read of the thread's word, with the lock that the first read named.
     fn second_read(&mut self, worker: u8, e: P::Event, t: ThreadId, l: LockId) -> Turn
         requires at { WorkerStandsAt self.old.state worker (phase.Event e (progress.Taken t l)) }
-        ensures { IsTurned (P.means self.old.parts) self.old worker result self.new }
+        ensures { IsTurned (P.means self.old.parts) (P.orders self.old.parts) self.old worker result self.new }
     {
         let word = self.words[t.0 as usize];
         let there = after_second_read(e, &word, l);
@@ -248,8 +248,8 @@ impl<P: Parts> Micro<P> {
 
     /// Takes a lock, if it is free.
     fn take(&mut self, worker: u8, l: LockId, there: Phase<P::Event, P::Reply>) -> Turn
-        requires next { TakesNext (P.means self.old.parts) self.old.state worker l there }
-        ensures { IsTurned (P.means self.old.parts) self.old worker result self.new }
+        requires next { TakesNext (P.means self.old.parts) (P.orders self.old.parts) self.old.state worker l there }
+        ensures { IsTurned (P.means self.old.parts) (P.orders self.old.parts) self.old worker result self.new }
     {
         let word = self.locks[l.0 as usize];
         match word {
@@ -265,8 +265,8 @@ impl<P: Parts> Micro<P> {
 
     /// Gives a lock back.
     fn release(&mut self, worker: u8, l: LockId, there: Phase<P::Event, P::Reply>) -> Turn
-        requires next { ReleasesNext (P.means self.old.parts) self.old.state worker l there }
-        ensures { IsTurned (P.means self.old.parts) self.old worker result self.new }
+        requires next { ReleasesNext (P.means self.old.parts) (P.orders self.old.parts) self.old.state worker l there }
+        ensures { IsTurned (P.means self.old.parts) (P.orders self.old.parts) self.old worker result self.new }
     {
         self.locks[l.0 as usize] = None;
         let seat = &mut self.seats[worker as usize];
@@ -277,7 +277,7 @@ impl<P: Parts> Micro<P> {
     /// Reads now, under all locks of the event.
     fn read_now(&mut self, worker: u8, e: P::Event, held: HeldLocks) -> Turn
         requires at { WorkerStandsAt self.old.state worker (phase.Event e (progress.Locked held)) }
-        ensures { IsTurned (P.means self.old.parts) self.old worker result self.new }
+        ensures { IsTurned (P.means self.old.parts) (P.orders self.old.parts) self.old worker result self.new }
     {
         let now = self.time;
         let seat = &mut self.seats[worker as usize];
@@ -288,7 +288,7 @@ impl<P: Parts> Micro<P> {
     /// Lets the event take effect, at the time that was read.
     fn commit(&mut self, worker: u8, e: P::Event, held: HeldLocks, now: u64) -> Turn
         requires at { WorkerStandsAt self.old.state worker (phase.Event e (progress.Timed held now)) }
-        ensures { IsTurned (P.means self.old.parts) self.old worker result self.new }
+        ensures { IsTurned (P.means self.old.parts) (P.orders self.old.parts) self.old worker result self.new }
     {
         let seat = &mut self.seats[worker as usize];
         let reply = act(&self.parts, seat, &mut self.values, e, &held, now);
@@ -306,7 +306,7 @@ impl<P: Parts> Micro<P> {
     /// The next step behind a commit: the pending change, or else the lock that was taken last.
     fn leave(&mut self, worker: u8, reply: P::Reply, now: u64, held: HeldLocks) -> Turn
         requires at { WorkerStandsAt self.old.state worker (phase.Leaving reply now held) }
-        ensures { IsTurned (P.means self.old.parts) self.old worker result self.new }
+        ensures { IsTurned (P.means self.old.parts) (P.orders self.old.parts) self.old worker result self.new }
     {
         let pending = self.seats[worker as usize].pending;
         if let Some(change) = pending {
@@ -323,7 +323,7 @@ impl<P: Parts> Micro<P> {
     /// Stores the pending change in its thread's word.
     fn store(&mut self, worker: u8, change: WordChange) -> Turn
         requires pends { (p : Seat P.Own P.Event P.Reply) × (slice_get self.old.state.seats worker ≡ Some p) × (p.pending ≡ Some change) }
-        ensures { IsTurned (P.means self.old.parts) self.old worker result self.new }
+        ensures { IsTurned (P.means self.old.parts) (P.orders self.old.parts) self.old worker result self.new }
     {
         let seat = &mut self.seats[worker as usize];
         seat.pending = None;
@@ -343,7 +343,7 @@ impl<P: Parts> Micro<P> {
     fn release_last(&mut self, worker: u8, a: LockId, reply: P::Reply, now: u64) -> Turn
         requires at { WorkerStandsAt self.old.state worker (phase.Leaving reply now (One a)) }
         requires calm { pending self.old.state worker ≡ None }
-        ensures { IsTurned (P.means self.old.parts) self.old worker result self.new }
+        ensures { IsTurned (P.means self.old.parts) (P.orders self.old.parts) self.old worker result self.new }
     {
         self.locks[a.0 as usize] = None;
         let seat = &mut self.seats[worker as usize];

@@ -5,6 +5,7 @@ ghost use Rattle.ule_micro.specs.Opening.{AreFirstSeats, AreFirstValues, AreFirs
 ghost use Rattle.ule_micro.specs.Theorem.{HasLegalPlay, IsNotStuck, IsStart, LockAgreement, WordTellsPlace};
 
 use crate::going::{next_item, phase_of};
+use crate::locks::{LOCKS, THREADS};
 use crate::micro::Micro;
 use crate::parts::Parts;
 use crate::seat::Seat;
@@ -13,12 +14,6 @@ use std::alloc::Global;
 use ule_io::Memory;
 use ule_prio::{LockId, ThreadId};
 
-/// The number of locks.
-pub const LOCKS: u8 = 25;
-
-/// The number of thread numbers.
-pub const THREADS: u16 = 256;
-
 impl<P: Parts> Micro<P> {
     /// The workers of these parts at the start: all locks are free, each word names the lock of its
     /// thread's place, and now is 20000 hz ticks. It takes all the memory that it ever needs.
@@ -26,11 +21,11 @@ impl<P: Parts> Micro<P> {
     where
         P: Drop,
         ensures parts { IfOk result (λ m. m.parts ≡ parts) }
-        ensures start { IfOk result (λ m. IsStart (P.means parts) m.state) }
-        ensures agrees { IfOk result (λ m. LockAgreement (P.means parts) m.state) }
-        ensures legal { IfOk result (λ m. HasLegalPlay (P.means parts) m.state) }
+        ensures start { IfOk result (λ m. IsStart (P.means parts) (P.orders parts) m.state) }
+        ensures agrees { IfOk result (λ m. LockAgreement (P.means parts) (P.orders parts) m.state) }
+        ensures legal { IfOk result (λ m. HasLegalPlay (P.means parts) (P.orders parts) m.state) }
         ensures tells { IfOk result (λ m. WordTellsPlace (P.means parts) m.state) }
-        ensures goes_on { IfOk result (λ m. IsNotStuck (P.means parts) m.state) }
+        ensures goes_on { IfOk result (λ m. IsNotStuck (P.means parts) (P.orders parts) m.state) }
     {
         let workers = parts.workers();
         let room = all_budgets(&parts, workers);
@@ -66,7 +61,7 @@ fn all_budgets<P: Parts>(parts: &P, workers: u8) -> u32
 
 /// Free lock words.
 fn free_locks(alloc: Global) -> Result<Vec<Option<u8>>, Memory>
-    ensures { IfOk result (λ v. AreFreeLocks 25 v.items) }
+    ensures { IfOk result (λ v. AreFreeLocks LOCKS v.items) }
 {
     let mut locks: Vec<Option<u8>> = Vec::new(alloc);
     for _lock in 0..LOCKS {
@@ -79,7 +74,7 @@ fn free_locks(alloc: Global) -> Result<Vec<Option<u8>>, Memory>
 
 /// The threads' words.
 fn first_words<P: Parts>(alloc: Global, parts: &P) -> Result<Vec<Word>, Memory>
-    ensures { IfOk result (λ v. AreFirstWords (P.means parts.now) 256 v.items) }
+    ensures { IfOk result (λ v. AreFirstWords (P.means parts.now) THREADS v.items) }
 {
     let mut words = Vec::new(alloc);
     for t in 0..THREADS {
@@ -93,7 +88,7 @@ fn first_words<P: Parts>(alloc: Global, parts: &P) -> Result<Vec<Word>, Memory>
 
 /// The values under the locks.
 fn first_values<P: Parts>(alloc: Global, parts: &P) -> Result<Vec<P::Value>, Memory>
-    ensures { IfOk result (λ v. AreFirstValues (P.means parts.now) 25 v.items) }
+    ensures { IfOk result (λ v. AreFirstValues (P.means parts.now) LOCKS v.items) }
 {
     let mut values = Vec::new(alloc);
     for l in 0..LOCKS {
@@ -112,7 +107,7 @@ fn first_seats<P: Parts>(
     workers: u8,
 ) -> Result<Vec<Seat<P::Own, P::Event, P::Reply>>, Memory>
     requires { workers ≡ length (P.means parts.now).owns }
-    ensures { IfOk result (λ v. AreFirstSeats (P.means parts.now) workers v.items) }
+    ensures { IfOk result (λ v. AreFirstSeats (P.means parts.now) (P.orders parts.now) workers v.items) }
 {
     let mut seats = Vec::new(alloc);
     for worker in 0..workers {
@@ -127,7 +122,7 @@ fn first_seats<P: Parts>(
 /// One worker, with its first item.
 fn first_seat<P: Parts>(parts: &P, worker: u8) -> Seat<P::Own, P::Event, P::Reply>
     requires { worker < length (P.means parts.now).owns }
-    ensures { IsFirstSeat (P.means parts.now) worker result }
+    ensures { IsFirstSeat (P.means parts.now) (P.orders parts.now) worker result }
 {
     let mut own = parts.own_at_start(worker);
     let mut begun = 0;

@@ -30,9 +30,9 @@ pub trait OwnPart {
 /// The parts of a scheduler: the values under its 25 locks, its workers' own parts, its events and
 /// its programs. The members without code say what all of it means, and the laws that it keeps.
 pub trait Parts {
-    ghost use Rattle.std.specs.Prelude.{◌≡◌, ◌<◌, ◌∷◌, [], ◌-◌, length, slice_get, IfOk, Option, Some};
+    ghost use Rattle.std.specs.Prelude.{◌≡◌, ℕ, ◌<◌, ◌∷◌, [], ◌-◌, List, length, slice_get, IfOk, Option, Some};
     ghost use Rattle.ule_micro.specs.Means.{Means, thread_sought_by, fixed_by};
-    ghost use Rattle.ule_micro.specs.Laws.{StartsSmall, StartsSettled, MovesLittle, KeepsHands, KeepsPrograms, ReadiesEvents};
+    ghost use Rattle.ule_micro.specs.Laws.{AreOrders, AreRising, IsLawful};
 
     /// What a worker has in hand between two events.
     type Hand;
@@ -62,6 +62,9 @@ pub trait Parts {
     /// What all of it means.
     ghost means: { Self → Means Self.Hand Self.Own Self.Value Self.Event Self.Reply Self.Order };
 
+    /// The commands of each worker, one after another.
+    ghost orders: { Self → ℕ → List Self.Order };
+
     /// The number of workers.
     fn workers(&self) -> u8
         ensures { result ≡ length (means self.now).owns };
@@ -81,7 +84,7 @@ pub trait Parts {
         ensures { slice_get (means self.now).owns worker ≡ Some result };
 
     /// The lock of the place where a thread stands at the start; for a number that no thread has,
-    /// any lock.
+    /// limbo.
     fn word_at_start(&self, t: ThreadId) -> LockId
         ensures { result ≡ (means self.now).word t };
 
@@ -89,7 +92,7 @@ pub trait Parts {
     fn order(&self, worker: u8, k: u32) -> Option<Self::Order>
         requires worker { worker < length (means self.now).owns }
         requires from_one { 0 < k }
-        ensures { result ≡ slice_get ((means self.now).orders worker) (k - 1) };
+        ensures { result ≡ slice_get (orders self.now worker) (k - 1) };
 
     /// Begins a command, behind one that has no further item.
     fn begin(&self, own: &mut Self::Own, c: &Self::Order)
@@ -113,6 +116,7 @@ pub trait Parts {
 
     /// The rising locks of an event that doesn't seek; none exactly for one that does.
     fn fixed(&self, e: &Self::Event) -> Option<HeldLocks>
+        requires { AreRising ((means self.now).needs e.now) }
         ensures { result ≡ fixed_by ((means self.now).needs e.now) };
 
     /// Performs an event under one lock, on the value there and the worker's hand, at a time in hz
@@ -125,9 +129,9 @@ pub trait Parts {
         now: u64,
     ) -> Self::Reply
         requires { (means self.now).may ((means self.now).number own.old) e.now now ((means self.now).hand own.old) (value.old ∷ []) }
-        ensures own { own.new ≡ (means self.now).with_hand own.old ((means self.now).step ((means self.now).number own.old) e.now now ((means self.now).hand own.old) value.old).0 }
-        ensures value { value.new ≡ ((means self.now).step ((means self.now).number own.old) e.now now ((means self.now).hand own.old) value.old).1 }
-        ensures reply { result ≡ ((means self.now).step ((means self.now).number own.old) e.now now ((means self.now).hand own.old) value.old).2 };
+        ensures own { own.new ≡ (means self.now).with_hand own.old ((means self.now).act ((means self.now).number own.old) e.now now ((means self.now).hand own.old) (value.old ∷ [])).hand }
+        ensures value { ((means self.now).act ((means self.now).number own.old) e.now now ((means self.now).hand own.old) (value.old ∷ [])).values ≡ value.new ∷ [] }
+        ensures reply { result ≡ ((means self.now).act ((means self.now).number own.old) e.now now ((means self.now).hand own.old) (value.old ∷ [])).reply };
 
     /// Performs an event under two locks, on the values there, in rising order of their locks, and
     /// the worker's hand, at a time in hz ticks.
@@ -140,35 +144,23 @@ pub trait Parts {
         now: u64,
     ) -> Self::Reply
         requires { (means self.now).may ((means self.now).number own.old) e.now now ((means self.now).hand own.old) (first.old ∷ second.old ∷ []) }
-        ensures own { own.new ≡ (means self.now).with_hand own.old ((means self.now).pair ((means self.now).number own.old) e.now now ((means self.now).hand own.old) first.old second.old).0 }
-        ensures first { first.new ≡ ((means self.now).pair ((means self.now).number own.old) e.now now ((means self.now).hand own.old) first.old second.old).1 }
-        ensures second { second.new ≡ ((means self.now).pair ((means self.now).number own.old) e.now now ((means self.now).hand own.old) first.old second.old).2 }
-        ensures reply { result ≡ ((means self.now).pair ((means self.now).number own.old) e.now now ((means self.now).hand own.old) first.old second.old).3 };
+        ensures own { own.new ≡ (means self.now).with_hand own.old ((means self.now).act ((means self.now).number own.old) e.now now ((means self.now).hand own.old) (first.old ∷ second.old ∷ [])).hand }
+        ensures values { ((means self.now).act ((means self.now).number own.old) e.now now ((means self.now).hand own.old) (first.old ∷ second.old ∷ [])).values ≡ first.new ∷ second.new ∷ [] }
+        ensures reply { result ≡ ((means self.now).act ((means self.now).number own.old) e.now now ((means self.now).hand own.old) (first.old ∷ second.old ∷ [])).reply };
 
     /// What becomes of a thread's word after an event with this reply; none exactly where no thread
     /// moved from one lock to another.
     fn change(&self, e: &Self::Event, r: &Self::Reply) -> Option<WordChange>
+        requires { AreRising ((means self.now).needs e.now) }
         ensures { result ≡ (means self.now).change e.now r.now };
 
     /// The own part's hand is that of `OwnPart`.
     ghost same_hand: { (p : Self) (o : Self.Own) → (means p).hand o ≡ Self.Own.hand o };
 
-    /// The workers, locks and budgets are few.
-    ghost starts_small: { (p : Self) → StartsSmall (means p) };
+    /// The laws: of the start, of what an event moves, of what an own part keeps, of what a worker
+    /// asks for, and of when that may be performed.
+    ghost lawful: { (p : Self) → IsLawful (means p) };
 
-    /// At the start each thread stands under the lock that its word names, and no hand has any.
-    ghost starts_settled: { (p : Self) → StartsSettled (means p) };
-
-    /// An event has at most two locks, in rising order, and moves at most the thread of its word
-    /// change.
-    ghost moves_little: { (p : Self) → MovesLittle (means p) };
-
-    /// Commands and items leave the hand, and events leave all else of the own part.
-    ghost keeps_hands: { (p : Self) → KeepsHands (means p) };
-
-    /// After every legal play a worker's program goes on within its budget, and its next event fits.
-    ghost keeps_programs: { (p : Self) → KeepsPrograms (means p) };
-
-    /// After every history in order an event that fits may be performed.
-    ghost readies: { (p : Self) → ReadiesEvents (means p) };
+    /// The lists of commands are within the workers' budgets, and valid one behind the other.
+    ghost are_orders: { (p : Self) → AreOrders (means p) (orders p) };
 }

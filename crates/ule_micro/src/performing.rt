@@ -1,5 +1,6 @@
 //! How an event acts on the values under its locks.
 ghost use Rattle.std.specs.Prelude.{◌<◌};
+ghost use Rattle.ule_micro.specs.Laws.{AreRising};
 ghost use Rattle.ule_micro.specs.Performing.{Acts, CanPerform, HasEffect};
 ghost use Rattle.ule_micro.specs.declared.entry.HeldLocks.TheVariants.{One, Two};
 
@@ -19,6 +20,7 @@ pub(crate) fn act<P: Parts>(
     now: u64,
 ) -> P::Reply
     requires can { CanPerform (P.means parts.now) seat.old.own values.old.items e now held.now }
+    requires rising { AreRising ((P.means parts.now).needs e) }
     requires few { seat.old.items < 65536 }
     ensures { Acts (P.means parts.now) seat.old values.old.items e now held.now seat.new values.new.items result }
 {

@@ -1,5 +1,4 @@
 pub mod Nap
 pub mod NapLaws
-pub mod NapPlays
 pub mod Shift
 pub mod ShiftLaws

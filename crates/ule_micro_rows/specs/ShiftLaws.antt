@@ -1,29 +1,29 @@
 -- The laws of the shifting thread.
-use Rattle.std.proofs.Common.{◌≡◌, ◌≢◌, ℕ, zero, suc, ◌+◌, ◌^◌, ◌<◌, ◌≤◌, Bool, true, false, List, ◌∷◌, length, drop, set, replicate, refl, sym, ap, ◌∙◌, subst, inl, inr, ⊎_elim, arith, true≢false, ne_eqb}
-use Rattle.std.specs.Prelude.{Option, Some, None, slice_get, ◌==◌, if◌then◌else◌}
+use Rattle.std.proofs.Common.{◌≡◌, ℕ, zero, suc, ◌+◌, ◌^◌, ◌<◌, ◌≤◌, Bool, true, false, List, [], ◌∷◌, length, replicate, refl, sym, ap, ◌∙◌, subst, inr, arith, true≢false, eq-eqb, ne_eqb}
+use Rattle.std.specs.Prelude.{Option, Some, None, slice_get, ◌==◌, ◌||◌, if◌then◌else◌}
+use Rattle.std.proofs.lemmas.Bool.{or_left}
 use Rattle.std.proofs.lemmas.List.{length-replicate}
 use Rattle.std.proofs.lemmas.Option.{none-some, same_Some, slice_get_past}
 use mathlib.Core.Logic.{dite}
 use native.Mathlib.Decide.{ℕ_discrete}
-use Rattle.ule_micro.specs.declared.entry.Entry.{Entry}
 use Rattle.ule_micro.specs.declared.entry.HeldLocks.{HeldLocks}
-use Rattle.ule_micro.specs.declared.entry.HeldLocks.TheVariants.{One, Two}
-use Rattle.ule_micro.specs.declared.todo.Todo.TheVariants.{Event, Advance}
+use Rattle.ule_micro.specs.declared.entry.HeldLocks.TheVariants.{Two}
+use Rattle.ule_micro.specs.declared.locks.TheConstants.{LIMBO, LOCKS}
 use Rattle.ule_micro.specs.declared.word.WordChange.{WordChange}
 use Rattle.ule_micro.specs.declared.word.WordChange.TheVariants as change
-use Rattle.ule_micro.specs.Means.{both, lock_of, stands_under}
-use Rattle.ule_micro.specs.Histories.{Effect, effect_under, values_under, AreLocksFor, Follows, effect_of_step, effect_of_pair}
-use Rattle.ule_micro.specs.Courses.{WorkerCourse, Standing, asks, has, rests, standing_with, unbegun, answered, ordered, done_by, LegalPlay, opens, answers, begins, advances, performs}
-use Rattle.ule_micro.specs.Laws.{StartsSmall, StartsSettled, MovesLittle, StepMoves, PairMoves, KeepsHands, KeepsPrograms, ReadiesEvents, AreRising}
-use Rattle.ule_micro.proofs.Lists.{get_set, map_get, drop_get}
-use Rattle.ule_micro.proofs.Effects.{effect_under_one, effect_under_two, under_one, under_two}
+use Rattle.ule_micro.specs.Standings.{asks, rests, standing_with}
+use Rattle.ule_micro.specs.Means.{lock_of, stands_under, thread_of_change}
+use Rattle.ule_micro.specs.Histories.{is_lock_among}
+use Rattle.ule_micro.specs.Laws.{AreOrders, AreRising, AreValid, AsksSoundly, IsLawful, KeepsHands, KeepsStanding, Moves, MovesLittle, ReadiesEvents, StartsSettled, StartsSmall, lock_count, total_charge}
+use Rattle.ule_micro.proofs.Among.{among_first, among_second}
 use Rattle.ule_micro_rows.specs.declared.shift.Move.{Move}
 use Rattle.ule_micro_rows.specs.declared.shift.Move.TheVariants.{Shift, Look}
 use Rattle.ule_micro_rows.specs.declared.shift.Place.{Place}
+use Rattle.ule_micro_rows.specs.declared.shift.Place.TheVariants.{Same}
 use Rattle.ule_micro_rows.specs.declared.shift.Point.{Point}
 use Rattle.ule_micro_rows.specs.declared.shift.Point.TheVariants.{Over, Ready}
 use Rattle.ule_micro_rows.specs.declared.shift.Mover.{Mover}
-use Rattle.ule_micro_rows.specs.Shift.{shift_means, shift_needs, shifted, word_change, again, shift_orders, shift_item, is_here}
+use Rattle.ule_micro_rows.specs.Shift.{IsPointBehind, again, is_here, shift_most, shift_act, shift_item, shift_means, shift_needs, shift_orders, shifted, word_change}
 
 -- the one thread
 is_zero : (t : ℕ) → shift_means.declared t ≡ true → t ≡ 0
@@ -50,17 +50,13 @@ again_at e i low = same 512 i low where
 pub again_past : (e : Move) (i : ℕ) → 512 ≤ i → slice_get (again e) i ≡ None
 again_past e i past = slice_get_past (again e) i (let l = again_length e in omega arith)
 
-few_orders : (b : Bool) → length (if b then again Shift else Look ∷ Shift ∷ again Look) + 1 < 2 ^ 32
-few_orders true = let l = again_length Shift in omega arith
-few_orders false = let l = again_length Look in omega arith
-
 numbered : (w : ℕ) (o : Mover) → slice_get shift_means.owns w ≡ Some o → shift_means.number o ≡ w
 numbered zero o e = sym (ap (λ (x : Mover). x.number) (same_Some _ o e))
 numbered (suc zero) o e = sym (ap (λ (x : Mover). x.number) (same_Some _ o e))
 numbered (suc (suc w)) o e = absurd (none-some o e)
 
-pub starts_small : StartsSmall shift_means
-starts_small = record { locks = refl; workers = omega arith; small = omega arith; few_orders = λ w. few_orders (w == 0); numbered = numbered }
+starts_small : StartsSmall shift_means
+starts_small = record { locks = refl; workers = omega arith; small = omega arith; numbered = numbered }
 
 only_first : (t l : ℕ) → stands_under shift_means shift_means.values l t ≡ true → l ≡ 0
 only_first t zero e = refl
@@ -75,175 +71,151 @@ no_hand t zero o e = ap (λ (x : Mover). is_here x.hand t) (sym (same_Some _ o e
 no_hand t (suc zero) o e = ap (λ (x : Mover). is_here x.hand t) (sym (same_Some _ o e))
 no_hand t (suc (suc w)) o e = absurd (none-some o e)
 
-pub starts_settled : StartsSettled shift_means
+low_word : (b : Bool) → (if b then 0 else LIMBO) < LOCKS
+low_word true = omega arith
+low_word false = omega arith
+
+starts_settled : StartsSettled shift_means
 starts_settled = record {
   few = λ t e. let z = is_zero t e in omega arith;
-  low = λ t. omega arith;
-  stands = λ t e. e;
-  once = λ t l e st. only_first t l st;
+  low = λ t. low_word (t == 0);
+  limbo = λ t e. ap (λ b. if b then 0 else LIMBO) e;
+  stands = λ t e. ap (λ b. stands_under shift_means shift_means.values (if b then 0 else LIMBO) t) e ∙ e;
+  once = λ t l e st. only_first t l st ∙ ap (λ b. if b then 0 else LIMBO) (sym e);
   empty = λ t w o e at. no_hand t w o at;
 }
-
-rising : (e : Move) → AreRising shift_means (shift_needs e)
-rising Shift = (omega arith, omega arith)
-rising Look = tt
-
-no_block : (t : ℕ) → ◌≡◌ {A = Option WordChange} None (Some (change.Block t)) → ⊥
-no_block t e = none-some (change.Block t) e
-
-no_point : (t k : ℕ) → ◌≡◌ {A = Option WordChange} None (Some (change.Point t k)) → ⊥
-no_point t k e = none-some (change.Point t k) e
-
--- a look changes nothing
-looks : (h : Bool) (a : ℕ) (v : Bool) → StepMoves shift_means h a v None h v
-looks h a v = record { others = λ t d far. (refl, refl); blocks = λ t d e. absurd (no_block t e); points = λ t k d e. absurd (no_point t k e) }
-
-point_block : (t k : ℕ) → ◌≡◌ {A = Option WordChange} (Some (change.Point 0 k)) (Some (change.Block t)) → ⊥
-point_block t k e = let y : change.Point 0 k ≡ change.Block t = same_Some (change.Point 0 k) (change.Block t) e in cc
-
-same_lock : (t j k : ℕ) → ◌≡◌ {A = Option WordChange} (Some (change.Point 0 k)) (Some (change.Point t j)) → j ≡ k
-same_lock t j k e = let y : change.Point 0 k ≡ change.Point t j = same_Some (change.Point 0 k) (change.Point t j) e in cc
 
 no_lock : (t : ℕ) (h : Bool) → h ≡ false → is_here h t ≡ false
 no_lock t h e = ap (λ b. is_here b t) e
 
+-- where no word is to change nothing changed
+stays : (held : HeldLocks) (h : Bool) (guarded : List Bool) → Moves shift_means held h guarded None h guarded
+stays held h guarded = record {
+  count = refl;
+  of_declared = λ c e. absurd (none-some c e);
+  others = λ t d far. (refl, refl);
+  blocks = λ t e. absurd (none-some (change.Block t) e);
+  points = λ t k e. absurd (none-some (change.Point t k) e);
+}
+
+-- the thread, which stood under one of two locks, comes to one of them
+goes : (a b k : ℕ) (h v u v' u' : Bool) → h ≡ false → ((t : ℕ) → t ≡ 0 → (is_here v t || is_here u t) ≡ true)
+    → ((l : ℕ) → l ≡ k → is_lock_among (Two a b) l ≡ true) → ((t : ℕ) → t ≡ 0 → is_here v' t ∷ is_here u' t ∷ [] ≡ (a == k) ∷ (b == k) ∷ [])
+    → Moves shift_means (Two a b) h (v ∷ u ∷ []) (Some (change.Point 0 k)) h (v' ∷ u' ∷ [])
+goes a b k h v u v' u' empty stood among at_k = record {
+  count = refl;
+  of_declared = λ c e. ap (λ d. thread_of_change d == 0) (sym (same_Some (change.Point 0 k) c e));
+  others = λ t d far. absurd (far (change.Point 0 k) refl (sym (is_zero t d)));
+  blocks = λ t e. absurd (let y : change.Point 0 k ≡ change.Block t = same_Some (change.Point 0 k) (change.Block t) e in cc);
+  points = λ t j e. let z = same_thread t j e in let i = same_lock t j e in
+      (inr (stood t z), among j i, at_k t z ∙ (λ n. (a == sym i n) ∷ (b == sym i n) ∷ []), no_lock t h empty);
+}
+  where
+    same_thread : (t j : ℕ) → ◌≡◌ {A = Option WordChange} (Some (change.Point 0 k)) (Some (change.Point t j)) → t ≡ 0
+    same_thread t j e = sym (ap thread_of_change (same_Some (change.Point 0 k) (change.Point t j) e))
+
+    same_lock : (t j : ℕ) → ◌≡◌ {A = Option WordChange} (Some (change.Point 0 k)) (Some (change.Point t j)) → j ≡ k
+    same_lock t j e = let y : change.Point 0 k ≡ change.Point t j = same_Some (change.Point 0 k) (change.Point t j) e in cc
+
+at_zero : (t : ℕ) → t ≡ 0 → (t == 0) ≡ true
+at_zero t e = eq-eqb t 0 e
+
 -- a shift moves the thread from one queue to the other
-shifts : (h v u : Bool) → h ≡ false → PairMoves shift_means h 0 1 v u (word_change (shifted h v u).3) (shifted h v u).0 (shifted h v u).1 (shifted h v u).2
-shifts h true u empty = record {
-  others = λ t d far. absurd (far (change.Point 0 1) refl (sym (is_zero t d)));
-  blocks = λ t d e. absurd (point_block t 1 e);
-  points = λ t j d e. (inr (inl d), inr (same_lock t j 1 e, refl, d), no_lock t h empty);
-}
-shifts h false true empty = record {
-  others = λ t d far. absurd (far (change.Point 0 0) refl (sym (is_zero t d)));
-  blocks = λ t d e. absurd (point_block t 0 e);
-  points = λ t j d e. (inr (inr d), inl (same_lock t j 0 e, d, refl), no_lock t h empty);
-}
-shifts h false false empty = record { others = λ t d far. (refl, refl, refl); blocks = λ t d e. absurd (no_block t e); points = λ t j d e. absurd (no_point t j e) }
+shifts : (a b : ℕ) (h v u : Bool) → a < b → h ≡ false
+    → Moves shift_means (Two a b) h (v ∷ u ∷ []) (word_change (Shift a b) (shifted h v u).3) (shifted h v u).0 ((shifted h v u).1 ∷ (shifted h v u).2 ∷ [])
+shifts a b h true u low empty = goes a b b h true u false true empty (λ t z. or_left (t == 0) (is_here u t) (at_zero t z)) (λ l e. ap (is_lock_among (Two a b)) e ∙ among_second a b)
+    (λ t z i. sym (ne_eqb a b (λ e. omega arith)) i ∷ (at_zero t z ∙ sym (eq-eqb b b refl)) i ∷ [])
+shifts a b h false true low empty = goes a b a h false true true false empty (λ t z. at_zero t z) (λ l e. ap (is_lock_among (Two a b)) e ∙ among_first a b)
+    (λ t z i. (at_zero t z ∙ sym (eq-eqb a a refl)) i ∷ sym (ne_eqb b a (λ e. omega arith)) i ∷ [])
+shifts a b h false false low empty = stays (Two a b) h (false ∷ false ∷ [])
 
-zero_one : (a b : ℕ) (e : Move) → shift_needs e ≡ both a b → (a ≡ 0) × (b ≡ 1)
-zero_one a b Shift e = (cc, cc)
-zero_one a b Look e = absurd (cc)
+no_change : (e : Move) → word_change e Same ≡ None
+no_change (Shift a b) = refl
+no_change Look = refl
 
-pub moves_little : MovesLittle shift_means
-moves_little = record {
-  rising = rising;
-  step = λ w e now h a v may lock. looks h a v;
-  pair = λ w e now h a b v u may two. let z = zero_one a b e two in
-      subst (λ i. PairMoves shift_means h i b v u (word_change (shifted h v u).3) (shifted h v u).0 (shifted h v u).1 (shifted h v u).2) (sym z.0)
-      (subst (λ i. PairMoves shift_means h 0 i v u (word_change (shifted h v u).3) (shifted h v u).0 (shifted h v u).1 (shifted h v u).2) (sym z.1) (shifts h v u may.0));
-}
+moves_little : MovesLittle shift_means
+moves_little w e now h held [] may rise many its = subst (λ c. Moves shift_means held h [] c h []) (sym (no_change e)) (stays held h [])
+moves_little w e now h held (v ∷ []) may rise many its = subst (λ c. Moves shift_means held h (v ∷ []) c h (v ∷ [])) (sym (no_change e)) (stays held h (v ∷ []))
+moves_little w Look now h held (v ∷ u ∷ us) may rise many its = absurd (let z = ap lock_count its.1 in omega arith)
+moves_little w (Shift a b) now h held (v ∷ u ∷ []) may rise many its =
+    subst (λ k. Moves shift_means k h (v ∷ u ∷ []) (word_change (Shift a b) (shifted h v u).3) (shifted h v u).0 ((shifted h v u).1 ∷ (shifted h v u).2 ∷ [])) (sym its) (shifts a b h v u may.2.0 may.0)
+moves_little w (Shift a b) now h held (v ∷ u ∷ x ∷ us) may rise many its = absurd (let z = ap lock_count its in omega arith)
 
-pub keeps_hands : KeepsHands shift_means
-keeps_hands = record { put = λ o h. refl; put_number = λ o h. refl; begin = λ o c. refl; begin_number = λ o c. refl; next = λ o told. refl; next_number = λ o told. refl }
+keeps_hands : KeepsHands shift_means
+keeps_hands = record { put = λ o h. refl; put_own = λ o. refl; put_twice = λ o h k. refl; put_number = λ o h. refl; begin = λ o c. refl; begin_number = λ o c. refl; next = λ o told. refl; next_number = λ o told. refl }
 
-pub readies : ReadiesEvents shift_means
-readies h y w e now hand held guarded leads below few at locks under fits early small = (fits, small)
+asks_soundly : AsksSoundly shift_means
+asks_soundly = record { rising = λ w mine h e asked. asked.1; seeks = λ w mine h e t asked is. (seeks_first e t is, λ u d. no_lock u h asked.0) }
+  where
+    seeks_first : (e : Move) (t : ℕ) → shift_needs e ≡ lock_of t → (t == 0) ≡ true
+    seeks_first (Shift a b) t is = absurd (cc)
+    seeks_first Look t is = at_zero t (let z : lock_of 0 ≡ lock_of t = is in cc)
 
--- most: the items that are still to come of the present command, at most
-abbrev pub most : Point → Standing Move Place → ℕ
-most Over (asks told) = 0
-most (Ready e) (asks told) = 1
-most point (has x) = 1
-most point rests = 0
+-- each event leaves the hand
+hand_stays : (h : Bool) (guarded : List Bool) → (shift_act h guarded).hand ≡ h
+hand_stays h [] = refl
+hand_stays h (v ∷ []) = refl
+hand_stays h (true ∷ u ∷ us) = refl
+hand_stays h (false ∷ true ∷ us) = refl
+hand_stays h (false ∷ false ∷ us) = refl
 
--- is point behind: the point is the one behind an event, and no item raises the time
-abbrev pub IsPointBehind : Point → Standing Move Place → Type 0
-IsPointBehind point (asks told) = Unit {0}
-IsPointBehind point (has (Event e)) = point ≡ Over
-IsPointBehind point (has (Advance k)) = ⊥
-IsPointBehind point rests = Unit {0}
+opens : (w : ℕ) (o : Mover) → slice_get shift_means.owns w ≡ Some o → ((o.hand ≡ false) × Unit {0}) × (shift_most o.point rests ≡ 0)
+opens zero o e = ((ap (λ (x : Mover). x.hand) (sym (same_Some _ o e)), tt), refl)
+opens (suc zero) o e = ((ap (λ (x : Mover). x.hand) (sym (same_Some _ o e)), tt), refl)
+opens (suc (suc w)) o e = absurd (none-some o e)
 
--- is mover course: what holds of a worker's course after every legal play
-pub record IsMoverCourse (w : ℕ) (c : WorkerCourse Mover Move Place) : Type 0 where
-  pub hand : c.own.hand ≡ false
-  pub behind : IsPointBehind c.own.point c.standing
-  pub count : c.items + most c.own.point c.standing + length (drop c.begun (shift_orders w)) ≤ length (shift_orders w)
+behind_next : (point : Point) (told : Option (Place × ℕ)) → IsPointBehind point (asks told) → IsPointBehind Over (standing_with (shift_item point))
+behind_next Over told behind = tt
+behind_next (Ready e) told behind = (refl, behind)
 
-behind_next : (point : Point) → IsPointBehind Over (standing_with (shift_item point))
-behind_next Over = tt
-behind_next (Ready e) = refl
-
-most_next : (point : Point) (told : Option (Place × ℕ)) → most Over (standing_with (shift_item point)) ≤ most point (asks told)
+most_next : (point : Point) (told : Option (Place × ℕ)) → shift_most Over (standing_with (shift_item point)) ≤ shift_most point (asks told)
 most_next Over told = omega arith
 most_next (Ready e) told = omega arith
 
-answered_course : (w : ℕ) (c : WorkerCourse Mover Move Place) (told : Option (Place × ℕ)) → c.standing ≡ asks told → IsMoverCourse w c → IsMoverCourse w (answered shift_means c told)
-answered_course w c told is r = record {
-  hand = r.hand;
-  behind = behind_next c.own.point;
-  count = let a = r.count in let b : most c.own.point c.standing ≡ most c.own.point (asks told) = ap (most c.own.point) is in let d = most_next c.own.point told in omega arith;
+behind_event : (point : Point) (told : Option (Place × ℕ)) → point ≡ Over → IsPointBehind point (asks told)
+behind_event point told over = subst (λ p. IsPointBehind p (asks told)) (sym over) tt
+
+keeps_standing : KeepsStanding shift_means
+keeps_standing = record {
+  opens = opens;
+  begins = λ j o c stands valid. (tt, (stands.0, valid), omega arith);
+  goes_on = λ j o told stands. (tt, (stands.0, behind_next o.point told stands.1), most_next o.point told);
+  advances = λ j o k stands. absurd stands.1;
+  asks_for = λ j o e stands. (stands.0, stands.1.1);
+  performs = λ j o x guarded stands who may its many reply. let told = Some (x.reply, x.now) in
+      ((hand_stays o.hand guarded ∙ stands.0, behind_event o.point told stands.1.0), let z : shift_most o.point (asks told) ≡ 0 = ap (λ p. shift_most p (asks told)) stands.1.0 in omega arith);
+  ends = λ j o stands t d. no_lock t o.hand stands.0;
 }
 
-ordered_course : (w : ℕ) (c : WorkerCourse Mover Move Place) (order : Move) → c.standing ≡ rests → slice_get (shift_orders w) c.begun ≡ Some order → IsMoverCourse w c
-    → IsMoverCourse w (ordered shift_means c order)
-ordered_course w c order is at r = record {
-  hand = r.hand;
-  behind = tt;
-  count = let a = r.count in let b : most c.own.point c.standing ≡ 0 = ap (most c.own.point) is in let e : length (drop c.begun (shift_orders w)) ≡ 1 + length (drop (c.begun + 1) (shift_orders w)) = ap length (drop_get (shift_orders w) c.begun order at) ∙ omega arith in omega arith;
-}
+readies : ReadiesEvents shift_means
+readies h y w e now hand held guarded leads at asked locks under early small = (asked.0, small, asked.1)
 
--- each event leaves the hand empty
-no_one : (vs : List Bool) (a : ℕ) (e : Move) → AreLocksFor shift_means vs (One a) (shift_needs e) → e ≡ Look
-no_one vs a Shift is = absurd (cc)
-no_one vs a Look is = refl
+-- the laws of the shifting thread
+pub shift_lawful : IsLawful shift_means
+shift_lawful = record { small = starts_small; settled = starts_settled; moves = moves_little; hands = keeps_hands; sound = asks_soundly; standing = keeps_standing; ready = readies }
 
-shifted_hand : (h v u : Bool) → (shifted h v u).0 ≡ h
-shifted_hand h true u = refl
-shifted_hand h false true = refl
-shifted_hand h false false = refl
+total_one : (cs : List Move) → total_charge (λ c. 1) cs ≡ length cs
+total_one [] = refl
+total_one (c ∷ cs) = let a = total_one cs in omega arith
 
-hand_stays : (w : ℕ) (e : Move) (now : ℕ) (h : Bool) (held : HeldLocks) (vs guarded : List Bool) (after : Effect Bool Bool Place) → values_under held vs ≡ Some guarded
-    → effect_under shift_means w e now h held vs ≡ Some after → after.hand ≡ h
-hand_stays w e now h (One a) vs guarded after under effect = let v = under_one a vs guarded under in
-    ap (λ (x : Effect Bool Bool Place). x.hand) (same_Some after (effect_of_step shift_means w e now h vs a v.0) (sym effect ∙ effect_under_one shift_means w e now h a vs v.0 v.1))
-hand_stays w e now h (Two a b) vs guarded after under effect = let v = under_two a b vs guarded under in
-    ap (λ (x : Effect Bool Bool Place). x.hand) (same_Some after (effect_of_pair shift_means w e now h vs a b v.0 v.1) (sym effect ∙ effect_under_two shift_means w e now h a b vs v.0 v.1 v.2 v.3)) ∙ shifted_hand h v.0 v.1
+again_valid : (w : ℕ) (given : List Move) (e : Move) → AreRising (shift_needs e) → AreValid shift_means w given (again e)
+unfolding again
+again_valid w given e rise = by 512 given where
+  by : (n : ℕ) (before : List Move) → AreValid shift_means w before (replicate n e)
+  by zero before = tt
+  by (suc n) before = (rise, by n (e ∷ before))
 
-done_course : (c : WorkerCourse Mover Move Place) (vs : List Bool) (x : Entry Move Place) (after : Effect Bool Bool Place) → c.standing ≡ has (Event x.event)
-    → Follows shift_means vs c.own.hand x after → IsMoverCourse x.worker c → IsMoverCourse x.worker (done_by shift_means c after.hand x.reply x.now)
-done_course c vs x after is follows r = let over : c.own.point ≡ Over = subst (IsPointBehind c.own.point) is r.behind in record {
-  hand = hand_stays x.worker x.event x.now c.own.hand x.locks vs follows.guarded after follows.under follows.effect ∙ r.hand;
-  behind = tt;
-  count = let a = r.count in let b : most c.own.point c.standing ≡ 1 = ap (most c.own.point) is in let d : most c.own.point (asks (Some (x.reply, x.now))) ≡ 0 = ap (λ p. most p (asks (Some (x.reply, x.now)))) over in omega arith;
-}
+pub shift_orders_fit : AreOrders shift_means shift_orders
+shift_orders_fit = record { few = λ w. few (w == 0); charged = λ w. charged (w == 0); valid = λ w low. valid w (w == 0) }
+  where
+    few : (b : Bool) → length (if b then again (Shift 0 1) else Look ∷ Shift 0 1 ∷ again Look) + 1 < 2 ^ 32
+    few true = let l = again_length (Shift 0 1) in omega arith
+    few false = let l = again_length Look in omega arith
 
-first_course : (w : ℕ) (o : Mover) → slice_get shift_means.owns w ≡ Some o → IsMoverCourse w (unbegun o)
-first_course zero o e = subst (λ i. IsMoverCourse 0 (unbegun i)) (same_Some _ o e) record { hand = refl; behind = tt; count = omega arith }
-first_course (suc zero) o e = subst (λ i. IsMoverCourse 1 (unbegun i)) (same_Some _ o e) record { hand = refl; behind = tt; count = omega arith }
-first_course (suc (suc w)) o e = absurd (none-some o e)
+    charged : (b : Bool) → total_charge (λ c. 1) (if b then again (Shift 0 1) else Look ∷ Shift 0 1 ∷ again Look) ≤ (if b then 512 else 514)
+    charged true = let l = again_length (Shift 0 1) in let t = total_one (again (Shift 0 1)) in omega arith
+    charged false = let l = again_length Look in let t = total_one (again Look) in omega arith
 
-set_course : (cs : List (WorkerCourse Mover Move Place)) (v : ℕ) (d : WorkerCourse Mover Move Place) → ((w : ℕ) (c : WorkerCourse Mover Move Place) → slice_get cs w ≡ Some c → IsMoverCourse w c)
-    → IsMoverCourse v d
-    → (w : ℕ) (c : WorkerCourse Mover Move Place) → slice_get (set cs v d) w ≡ Some c → IsMoverCourse w c
-set_course cs v d old new w c at = ⊎_elim (λ (z : (w ≡ v) × (d ≡ c)). subst (λ i. IsMoverCourse i c) (sym z.0) (subst (IsMoverCourse v) z.1 new)) (λ (z : (w ≢ v) × (slice_get cs w ≡ Some c)). old w c z.1) (get_set cs v w d c at)
-
--- each worker has such a course after every legal play
-pub all_are_mover_courses : {h : List (Entry Move Place)} {vs : List Bool} {cs : List (WorkerCourse Mover Move Place)} → LegalPlay shift_means h vs cs → (w : ℕ) (c : WorkerCourse Mover Move Place)
-    → slice_get cs w ≡ Some c → IsMoverCourse w c
-all_are_mover_courses opens w c at = let o = map_get unbegun shift_means.owns w c at in subst (IsMoverCourse w) o.2 (first_course w o.0 o.1)
-all_are_mover_courses (answers {h} {vs} {cs} v d told play at is) w c here = set_course cs v (answered shift_means d told) (all_are_mover_courses play) (answered_course v d told is (all_are_mover_courses play v d at)) w c here
-all_are_mover_courses (begins {h} {vs} {cs} v d order play at is next) w c here = set_course cs v (ordered shift_means d order) (all_are_mover_courses play) (ordered_course v d order is next (all_are_mover_courses play v d at)) w c here
-all_are_mover_courses (advances {h} {vs} {cs} v d k play at is) w c here = absurd (subst (IsPointBehind d.own.point) is (all_are_mover_courses play v d at).behind)
-all_are_mover_courses (performs {h} {vs} {cs} d x after play at is follows in_time) w c here = set_course cs x.worker (done_by shift_means d after.hand x.reply x.now) (all_are_mover_courses play) (done_course d vs x after is follows (all_are_mover_courses play x.worker d at)) w c here
-
-budget_is : (w : ℕ) → length (shift_orders w) ≡ shift_means.budget w
-budget_is w = by (w == 0) where
-  by : (b : Bool) → length (if b then again Shift else Look ∷ Shift ∷ again Look) ≡ (if b then 512 else 514)
-  by true = again_length Shift
-  by false = let l = again_length Look in omega arith
-
-seeks_first : (e : Move) (t : ℕ) → shift_needs e ≡ lock_of t → t ≡ 0
-seeks_first Shift t is = absurd (cc)
-seeks_first Look t is = cc
-
-pub keeps_programs : KeepsPrograms shift_means
-keeps_programs = record {
-  budget = λ h vs cs w c play at. let r = (all_are_mover_courses play w c at).count in let b = budget_is w in omega arith;
-  begins = λ h vs cs w c order play at is next. tt;
-  goes_on = λ h vs cs w c told play at is. tt;
-  advances = λ h vs cs w c k play at is. absurd (subst (IsPointBehind c.own.point) is (all_are_mover_courses play w c at).behind);
-  seeks = λ h vs cs w c e t play at is sought. (ap (λ i. i == 0) (seeks_first e t sought), λ u d. no_lock u c.own.hand (all_are_mover_courses play w c at).hand);
-  ends = λ h vs cs w c play at is last. λ u d. no_lock u c.own.hand (all_are_mover_courses play w c at).hand;
-  fits = λ h vs cs w c e held guarded play at is locks under. (all_are_mover_courses play w c at).hand;
-}
+    valid : (w : ℕ) (b : Bool) → AreValid shift_means w [] (if b then again (Shift 0 1) else Look ∷ Shift 0 1 ∷ again Look)
+    valid w true = again_valid w [] (Shift 0 1) (omega arith, omega arith)
+    valid w false = (tt, ((omega arith, omega arith), again_valid w (Shift 0 1 ∷ Look ∷ []) Look tt))

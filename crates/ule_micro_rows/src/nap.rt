@@ -7,6 +7,7 @@ ghost use Rattle.ule_micro_rows.specs.Nap.{acted, nap_item, napper, nap_stage_af
 use std::alloc::Global;
 use ule_io::Memory;
 use ule_micro::entry::HeldLocks;
+use ule_micro::locks::LIMBO;
 use ule_micro::{OwnPart, Parts, Todo, WordChange};
 use ule_prio::{LockId, ThreadId};
 
@@ -117,11 +118,12 @@ impl Parts for Nap {
 
     type Own = Napper;
 
-    ghost use Rattle.ule_micro_rows.specs.Nap.{nap_means};
-    ghost use Rattle.ule_micro_rows.specs.NapLaws.{same_hand, starts_small, starts_settled, moves_little, keeps_hands, readies};
-    ghost use Rattle.ule_micro_rows.specs.NapPlays.{keeps_programs};
+    ghost use Rattle.ule_micro_rows.specs.Nap.{nap_means, nap_orders};
+    ghost use Rattle.ule_micro_rows.specs.NapLaws.{nap_lawful, nap_orders_fit, same_hand};
 
     ghost means = { λ _. nap_means };
+
+    ghost orders = { λ _. nap_orders };
 
     fn workers(&self) -> u8 {
         2
@@ -143,8 +145,8 @@ impl Parts for Nap {
         }
     }
 
-    fn word_at_start(&self, _t: ThreadId) -> LockId {
-        LockId(0)
+    fn word_at_start(&self, t: ThreadId) -> LockId {
+        if t.0 == 0 { LockId(0) } else { LockId(LIMBO) }
     }
 
     fn order(&self, worker: u8, k: u32) -> Option<Wish> {
@@ -218,17 +220,9 @@ impl Parts for Nap {
 
     ghost same_hand = { λ _. same_hand };
 
-    ghost starts_small = { λ _. starts_small };
+    ghost lawful = { λ _. nap_lawful };
 
-    ghost starts_settled = { λ _. starts_settled };
-
-    ghost moves_little = { λ _. moves_little };
-
-    ghost keeps_hands = { λ _. keeps_hands };
-
-    ghost keeps_programs = { λ _. keeps_programs };
-
-    ghost readies = { λ _. readies };
+    ghost are_orders = { λ _. nap_orders_fit };
 }
 
 /// The hand, what stands under the lock, and the answer, after an event.

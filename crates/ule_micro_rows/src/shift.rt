@@ -7,6 +7,7 @@ ghost use Rattle.ule_micro_rows.specs.declared.shift.Point.TheVariants.{Over};
 use std::alloc::Global;
 use ule_io::Memory;
 use ule_micro::entry::HeldLocks;
+use ule_micro::locks::LIMBO;
 use ule_micro::{OwnPart, Parts, Todo, WordChange};
 use ule_prio::{LockId, ThreadId};
 
@@ -16,8 +17,10 @@ const AGAIN: u32 = 512;
 /// An event.
 #[derive(Clone, Copy)]
 pub enum Move {
-    /// Moves the thread from the queue where it stands to the other.
-    Shift,
+    /// Moves the thread from the one of these two queues where it stands to the other. Any numbers
+    /// are an event, also such as there is no queue of, but only two that rise and that there are
+    /// are ever asked for or performed.
+    Shift(u8, u8),
     /// Seeks the thread, and changes nothing.
     Look,
 }
@@ -85,10 +88,12 @@ impl Parts for Shifts {
 
     type Own = Mover;
 
-    ghost use Rattle.ule_micro_rows.specs.Shift.{shift_means};
-    ghost use Rattle.ule_micro_rows.specs.ShiftLaws.{same_hand, starts_small, starts_settled, moves_little, keeps_hands, keeps_programs, readies};
+    ghost use Rattle.ule_micro_rows.specs.Shift.{shift_means, shift_orders};
+    ghost use Rattle.ule_micro_rows.specs.ShiftLaws.{shift_lawful, shift_orders_fit, same_hand};
 
     ghost means = { λ _. shift_means };
+
+    ghost orders = { λ _. shift_orders };
 
     fn workers(&self) -> u8 {
         2
@@ -110,17 +115,17 @@ impl Parts for Shifts {
         }
     }
 
-    fn word_at_start(&self, _t: ThreadId) -> LockId {
-        LockId(0)
+    fn word_at_start(&self, t: ThreadId) -> LockId {
+        if t.0 == 0 { LockId(0) } else { LockId(LIMBO) }
     }
 
     fn order(&self, worker: u8, k: u32) -> Option<Move> {
         if worker == 0 {
-            return again(Move::Shift, k);
+            return again(Move::Shift(0, 1), k);
         }
         match k {
             1 => Some(Move::Look),
-            2 => Some(Move::Shift),
+            2 => Some(Move::Shift(0, 1)),
             _ => again(Move::Look, k - 2),
         }
     }
@@ -144,14 +149,14 @@ impl Parts for Shifts {
     fn sought(&self, e: &Move) -> Option<ThreadId> {
         match e {
             Move::Look => Some(ThreadId(0)),
-            Move::Shift => None,
+            Move::Shift(..) => None,
         }
     }
 
     fn fixed(&self, e: &Move) -> Option<HeldLocks> {
         match e {
             Move::Look => None,
-            Move::Shift => Some(HeldLocks::Two(LockId(0), LockId(1))),
+            Move::Shift(a, b) => Some(HeldLocks::Two(LockId(*a), LockId(*b))),
         }
     }
 
@@ -180,27 +185,19 @@ impl Parts for Shifts {
         Place::Same
     }
 
-    fn change(&self, _e: &Move, r: &Place) -> Option<WordChange> {
-        match r {
-            Place::First => Some(WordChange::Point(ThreadId(0), LockId(0))),
-            Place::Second => Some(WordChange::Point(ThreadId(0), LockId(1))),
-            Place::Same => None,
+    fn change(&self, e: &Move, r: &Place) -> Option<WordChange> {
+        match (e, r) {
+            (Move::Shift(a, _), Place::First) => Some(WordChange::Point(ThreadId(0), LockId(*a))),
+            (Move::Shift(_, b), Place::Second) => Some(WordChange::Point(ThreadId(0), LockId(*b))),
+            (Move::Shift(..), Place::Same) | (Move::Look, _) => None,
         }
     }
 
     ghost same_hand = { λ _. same_hand };
 
-    ghost starts_small = { λ _. starts_small };
+    ghost lawful = { λ _. shift_lawful };
 
-    ghost starts_settled = { λ _. starts_settled };
-
-    ghost moves_little = { λ _. moves_little };
-
-    ghost keeps_hands = { λ _. keeps_hands };
-
-    ghost keeps_programs = { λ _. keeps_programs };
-
-    ghost readies = { λ _. readies };
+    ghost are_orders = { λ _. shift_orders_fit };
 }
 
 /// The k-th command of a list, from 1, in which a move stands again and again.

@@ -7,5 +7,5 @@ abbrev pub invariant-loop-worker : goal.invariant-loop-worker
 invariant-loop-worker g l = record {
   parts : l.self.parts ≡ l.fn.self.parts;
   workers : length l.self.state.seats ≡ length l.fn.self.state.seats;
-  rest : played (g.P.Parts.means l.fn.self.parts) l.self.state (drop l.worker-index l.turns) ≡ played (g.P.Parts.means l.fn.self.parts) l.fn.self.state l.turns;
+  rest : played (g.P.Parts.means l.fn.self.parts) (g.P.Parts.orders l.fn.self.parts) l.self.state (drop l.worker-index l.turns) ≡ played (g.P.Parts.means l.fn.self.parts) (g.P.Parts.orders l.fn.self.parts) l.fn.self.state l.turns;
 }
