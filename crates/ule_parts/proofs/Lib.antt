@@ -1,0 +1,11 @@
+pub mod Numbers
+pub mod Locks
+pub mod Standing
+pub mod Noted
+pub mod Worlds
+pub mod Asking
+pub mod Calls
+pub mod Moving
+pub mod Orders
+pub mod Starting
+pub mod Lawful

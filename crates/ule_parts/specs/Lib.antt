@@ -1,0 +1,4 @@
+pub mod Acts
+pub mod Workers
+pub mod Scheduler
+pub mod Laws
