@@ -9,13 +9,14 @@ use Rattle.ule_model.specs.WorldValue.{Shows}
 use Rattle.ule_members.proofs.Setups.{setup_scripts}
 use Rattle.ule_laws.proofs.OpeningLaws.{opening_shows}
 use Rattle.ule_micro.specs.Laws.{IsLawful, values_and_hands_at_start}
+use Rattle.ule_parts.specs.Histories.{scheduler_with}
 use Rattle.ule_parts.specs.Workers.{Worker, owns_from}
 use Rattle.ule_parts.specs.Scheduler.{sched_means}
 use Rattle.ule_parts.proofs.Asking.{asks_soundly, keeps_hands}
 use Rattle.ule_parts.proofs.Moving.{moves_little}
 use Rattle.ule_parts.proofs.Standing.{keeps_standing}
 use Rattle.ule_parts.proofs.Starting.{starts_settled, starts_small}
-use Rattle.ule_parts.proofs.Worlds.{readies, whole}
+use Rattle.ule_parts.proofs.Worlds.{readies}
 
 -- the hands of so many own parts at the start are empty
 empty_hands : (s : Setup) (w n : ℕ) → map (λ (o : Worker). o.hand) (owns_from s w n) ≡ replicate n None
@@ -23,7 +24,7 @@ empty_hands s w zero = refl
 empty_hands s w (suc n) = ap (λ hs. None ∷ hs) (empty_hands s (suc w) n)
 
 -- the values and hands at the start show the world at the start
-pub start_shown : (s : Setup) (form : IsOfForm s) → Shows (whole s form (values_and_hands_at_start (sched_means s))) (world_at_start s)
+pub start_shown : (s : Setup) (form : IsOfForm s) → Shows (scheduler_with s (values_and_hands_at_start (sched_means s))) (world_at_start s)
 start_shown s form = subst (λ (hands : List (Option ThreadRecord)). Shows (record { settings = s.settings; values = (opening_scheduler s).values; hands = hands }) (world_at_start s))
     (sym (empty_hands s 0 s.cpus)) (opening_shows s form)
 

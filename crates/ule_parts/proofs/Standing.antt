@@ -106,6 +106,12 @@ among_cases (x ∷ xs) ys t among = ⊎_elim (λ (here : (x == t) ≡ true). inl
     or_true true c is = refl
     or_true false c is = is
 
+-- the own parts at the start
+pub first_own : (s : Setup) (w n i : ℕ) (o : Worker) → slice_get (owns_from s w n) i ≡ Some o → (i < n) × (o ≡ record { program = own_of s.jitter s.cpus (w + i); hand = None })
+first_own s w zero i o is = absurd (none-some o is)
+first_own s w (suc n) zero o is = (omega arith, sym (same_Some _ o is) ∙ ap (λ u. record { program = own_of s.jitter s.cpus u; hand = None }) (let z : w ≡ w + 0 = omega arith in z))
+first_own s w (suc n) (suc i) o is = let z = first_own s (suc w) n i o is in (let a = z.0 in omega arith, z.1 ∙ ap (λ u. record { program = own_of s.jitter s.cpus u; hand = None }) (let a : suc w + i ≡ w + suc i = omega arith in a))
+
 module _ (s : Setup) (some_cpus : 0 < s.cpus) where
   -- an advance's amount
   amount : (k : ℕ) → is_within 1 1000000 k ≡ true → (1 ≤ k) × (k ≤ 1000000)
@@ -274,15 +280,9 @@ module _ (s : Setup) (some_cpus : 0 < s.cpus) where
       at_event (λ e. most_from (stage_after x.reply st) + 1 ≤ most_from st) (λ k. Unit {0}) x.worker st x.event (reply_lowers x.reply x.worker st) item_is,
     )
 
-  -- the own parts at the start
-  pub first_own : (w n i : ℕ) (o : Worker) → slice_get (owns_from s w n) i ≡ Some o → (i < n) × (o ≡ record { program = own_of s.jitter s.cpus (w + i); hand = None })
-  first_own w zero i o is = absurd (none-some o is)
-  first_own w (suc n) zero o is = (omega arith, sym (same_Some _ o is) ∙ ap (λ u. record { program = own_of s.jitter s.cpus u; hand = None }) (let z : w ≡ w + 0 = omega arith in z))
-  first_own w (suc n) (suc i) o is = let z = first_own (suc w) n i o is in (let a = z.0 in omega arith, z.1 ∙ ap (λ u. record { program = own_of s.jitter s.cpus u; hand = None }) (let a : suc w + i ≡ w + suc i = omega arith in a))
-
   -- at the start a worker stands between two commands
   opens : (w : ℕ) (o : Worker) → slice_get (owns_from s 0 s.cpus) w ≡ Some o → Stands s blank o rests × (left_at o.program rests ≡ 0)
-  opens w o is = let z = first_own 0 s.cpus w o is in
+  opens w o is = let z = first_own s 0 s.cpus w o is in
       let at : o ≡ record { program = own_of s.jitter s.cpus w; hand = None } = z.1 ∙ ap (λ u. record { program = own_of s.jitter s.cpus u; hand = None }) (let a : 0 + w ≡ w = omega arith in a) in (
         subst (λ p. Stands s blank p rests) (sym at) (record { below = z.0; hand = λ t. refl; sound = tt; forks = λ t among. absurd (false≢true among); given = λ t among. absurd (false≢true among) }, refl),
         refl,

@@ -26,13 +26,13 @@ use Rattle.ule_rounds.proofs.Keeping.{found_among}
 use Rattle.ule_micro.specs.Means.{stands_under}
 use Rattle.ule_micro.specs.Laws.{StartsSettled, StartsSmall, values_and_hands_at_start}
 use Rattle.ule_micro.proofs.Effects.{stands_value}
+use Rattle.ule_parts.specs.Histories.{scheduler_with}
 use Rattle.ule_parts.specs.Workers.{Worker, ids}
 use Rattle.ule_parts.specs.Scheduler.{lock_or_limbo, opening_word, sched_means}
 use Rattle.ule_parts.proofs.Locks.{some_of}
 use Rattle.ule_parts.proofs.Numbers.{none_numbered}
 use Rattle.ule_parts.proofs.Standing.{first_own}
 use Rattle.ule_parts.proofs.Orders.{many_owns, small}
-use Rattle.ule_parts.proofs.Worlds.{whole}
 
 -- a place that is no hand has a lock
 has_lock : (p : Place) → hand_of p ≡ None → (l : ℕ) × (lock_of p ≡ Some l)
@@ -43,7 +43,7 @@ has_lock Unborn free = (24, refl)
 has_lock Gone free = (24, refl)
 has_lock (Hand w) free = absurd (none-some w (sym free))
 
-module _ (s : Setup) (form : IsOfForm s) (shows : Shows (whole s form (values_and_hands_at_start (sched_means s))) (world_at_start s)) where
+module _ (s : Setup) (form : IsOfForm s) (shows : Shows (scheduler_with s (values_and_hands_at_start (sched_means s))) (world_at_start s)) where
   abbrev x : World
   x = world_at_start s
 
@@ -79,7 +79,7 @@ module _ (s : Setup) (form : IsOfForm s) (shows : Shows (whole s form (values_an
   stands t dec =
       let p = placed t dec in
       let low = (lock_found _ x t p.lock p.member shows p.found p.at).0 in
-      let v : HasValue (whole s form (values_and_hands_at_start (sched_means s))) x p.lock = value_at _ x p.lock shows low in
+      let v : HasValue (scheduler_with s (values_and_hands_at_start (sched_means s))) x p.lock = value_at _ x p.lock shows low in
       let under : is_some (thread_under p.lock t x.members) ≡ true = ap (λ o. is_some o) (thread_at_within (is_under p.lock) t p.member x.members (within_thread t x.members p.member shows.made p.found))
       ∙ ap (λ b. is_some (if◌then◌else◌ b (Some p.member) None)) (is_number_itself p.lock (lock_of p.member.place) p.at) in
       ap (λ o. elim o as (λ _. Bool) [ None ↦ false | Some v ↦ has_under v t ]) v.found ∙ (has_stands x p.lock t v.value shows.made shows.cpus v.stands ∙ under)
@@ -101,7 +101,7 @@ module _ (s : Setup) (form : IsOfForm s) (shows : Shows (whole s form (values_an
         (none_numbered t x.members (ap (λ us. is_among us t) (start_laid s form).ids_are ∙ not_declared));
     stands = λ t dec. ap (λ l. stands_under (sched_means s) (sched_means s).values l t) (placed t dec).word_is ∙ stands t dec;
     once = λ t l dec st. once t l dec st;
-    empty = λ t w o dec at. ap (λ (p : Worker). is_some (if_thread t p.hand)) (first_own s (let a = (setup_scripts s).some in omega arith) 0 s.cpus w o at).1;
+    empty = λ t w o dec at. ap (λ (p : Worker). is_some (if_thread t p.hand)) (first_own s 0 s.cpus w o at).1;
   }
 
   pub starts_small : StartsSmall (sched_means s)
@@ -109,5 +109,5 @@ module _ (s : Setup) (form : IsOfForm s) (shows : Shows (whole s form (values_an
     locks = shows.locks;
     workers = let a = many_owns s 0 s.cpus in let b = (setup_scripts s).cpus in omega arith;
     small = small s form;
-    numbered = λ w o at. let z : 0 + w ≡ w = omega arith in ap (λ (p : Worker). p.program.worker) (first_own s (let a = (setup_scripts s).some in omega arith) 0 s.cpus w o at).1 ∙ z;
+    numbered = λ w o at. let z : 0 + w ≡ w = omega arith in ap (λ (p : Worker). p.program.worker) (first_own s 0 s.cpus w o at).1 ∙ z;
   }
