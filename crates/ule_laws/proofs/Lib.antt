@@ -29,3 +29,4 @@ pub mod StepConditions
 pub mod WorldSteps
 pub mod CpuStarts
 pub mod StartLaws
+pub mod OpeningLaws

@@ -30,5 +30,6 @@ pub mod LockValue
 pub mod LockConditions
 pub mod WorldValue
 pub mod Throughout
+pub mod OpeningValues
 pub mod CalendarPromise
 pub mod History

@@ -1,0 +1,102 @@
+-- What a worker of the scheduler keeps where it stands in its program, which events it may ask for, and which commands are valid for it.
+use Rattle.std.specs.Prelude.{◌≡◌, ℕ, zero, suc, ◌<◌, is_some, true, false, List, [], ◌∷◌, flat_map, slice_index_or, Option, Some, None}
+use Rattle.ule_prio.specs.Class.{is_within}
+use Rattle.ule_score.specs.declared.record.ThreadRecord.{ThreadRecord}
+use Rattle.ule_types.specs.Commands.{forked_by, is_among, is_command}
+use Rattle.ule_types.specs.Rules.{declared_ids}
+use Rattle.ule_types.specs.declared.command.Command.{Command}
+use Rattle.ule_types.specs.declared.event.Event.{Event}
+use Rattle.ule_types.specs.declared.event.Item.TheVariants as item
+use Rattle.ule_types.specs.declared.event.Reply.{Reply}
+use Rattle.ule_types.specs.declared.setup.Setup.{Setup}
+use Rattle.ule_types.specs.declared.stage.Stage.TheVariants as stage
+use Rattle.ule_model.specs.Events.{locking, Handling, any, empty, unborn, has, handling}
+use Rattle.ule_model.specs.Places.{is_number}
+use Rattle.ule_model.specs.Program.{Own, Stage, in_hand, item_at, most_from, own_of, told_last}
+use Rattle.ule_model.specs.WorldValue.{if_thread}
+use Rattle.ule_members.proofs.Unborn.{hatched_by}
+use Rattle.ule_rounds.proofs.Stages.{IsSoundStage, NamesWhatIs, hatching}
+use Rattle.ule_micro.specs.declared.entry.Entry.{Entry}
+use Rattle.ule_micro.specs.declared.todo.Todo.TheVariants as todo
+use Rattle.ule_micro.specs.Standings.{Journal, Standing, asks, rests}
+use Rattle.ule_micro.specs.Standings as standing
+use Rattle.ule_parts.specs.Acts.{IsUnderOne}
+
+-- worker: a worker's own part, which is its program and its hand
+pub record Worker : Type 0 where
+  pub program : Own
+  pub hand : Option ThreadRecord
+
+-- hatched in: the threads that these entries hatched
+abbrev pub hatched_in : List (Entry Event Reply) → List ℕ
+hatched_in mine = flat_map (λ x. hatched_by x.event) mine
+
+-- forked in: the threads that these commands fork
+abbrev pub forked_in : List Command → List ℕ
+forked_in given = flat_map forked_by given
+
+-- stage at: the stage at which a worker's next item is found
+abbrev pub stage_at : Own → Standing Event Reply → Stage
+stage_at own (asks told) = (told_last told own).stage
+stage_at own (standing.has x) = own.stage
+stage_at own rests = own.stage
+
+-- left at: the greatest number of items that are left of the command
+abbrev pub left_at : Own → Standing Event Reply → ℕ
+left_at own (asks told) = most_from (told_last told own).stage
+left_at own (standing.has (todo.Event e)) = most_from own.stage
+left_at own (standing.has (todo.Advance k)) = 1
+left_at own rests = 0
+
+-- is item: the item that a worker was given is that of its stage
+abbrev pub IsItem : Own → Standing Event Reply → Type 0
+IsItem own (asks told) = Unit {0}
+IsItem own (standing.has (todo.Event e)) = item_at own.worker own.stage ≡ Some (item.Event e)
+IsItem own (standing.has (todo.Advance k)) = (own.stage ≡ stage.Ended) × (is_within 1 1000000 k ≡ true)
+IsItem own rests = own.stage ≡ stage.Ended
+
+module _ (s : Setup) where
+  -- ids: the numbers of the declared threads
+  abbrev pub ids : List ℕ
+  ids = declared_ids s.threads s.unborn
+
+  -- forks of: the threads that a worker's script forks
+  abbrev pub forks_of : ℕ → List ℕ
+  forks_of w = forked_in (slice_index_or s.scripts w [])
+
+  -- hand fits: the hand is as the event needs it; a thread to hatch is one that the worker's script forks, and not yet hatched
+  abbrev pub HandFits : ℕ → List (Entry Event Reply) → Option ThreadRecord → Handling → Type 0
+  HandFits w mine hand any = Unit {0}
+  HandFits w mine hand empty = hand ≡ None
+  HandFits w mine hand (unborn t) = (hand ≡ None) × (is_among (forks_of w) t ≡ true) × (is_among (hatched_in mine) t ≡ false)
+  HandFits w mine hand (has t) = is_some (if_thread t hand) ≡ true
+
+  -- asks for: a worker with these own entries and this hand may ask for the event, which is under one lock
+  pub record AsksFor (w : ℕ) (mine : List (Entry Event Reply)) (hand : Option ThreadRecord) (e : Event) : Type 0 where
+    pub below : w < s.cpus
+    pub alone : IsUnderOne (locking e)
+    pub names : NamesWhatIs ids s.cpus e
+    pub fits : HandFits w mine hand (handling e)
+
+  -- stands at: what a worker keeps at a stage, with the commands begun and the entries made so far
+  pub record StandsAt (j : Journal Event Reply Command) (o : Worker) (st : Stage) : Type 0 where
+    pub below : o.program.worker < s.cpus
+    pub hand : (t : ℕ) → is_some (if_thread t o.hand) ≡ is_number t (in_hand st)
+    pub sound : IsSoundStage ids s.cpus st
+    pub forks : (t : ℕ) → is_among (hatching st) t ≡ true
+        → (is_among (forks_of o.program.worker) t ≡ true) × (is_among (forked_in j.given) t ≡ true) × (is_among (hatched_in j.mine) t ≡ false)
+    pub given : (t : ℕ) → is_among (hatched_in j.mine) t ≡ true → is_among (forked_in j.given) t ≡ true
+
+  -- stands: what a worker keeps where it stands
+  abbrev pub Stands : Journal Event Reply Command → Worker → Standing Event Reply → Type 0
+  Stands j o at = StandsAt j o (stage_at o.program at) × IsItem o.program at
+
+  -- is valid: the command is one of the setup's, and a thread that it forks is one that the worker's script forks, and was not forked before
+  pub record IsValid (w : ℕ) (given : List Command) (c : Command) : Type 0 where
+    pub command : is_command ids s.cpus c ≡ true
+    pub forks : (t : ℕ) → is_among (forked_by c) t ≡ true → (is_among (forks_of w) t ≡ true) × (is_among (forked_in given) t ≡ false)
+
+  -- owns from: the own parts of so many workers at the start, the first being of this number
+  abbrev pub owns_from : ℕ → ℕ → List Worker
+  owns_from w zero = []
+  owns_from w (suc n) = record { program = own_of s.jitter s.cpus w; hand = None } ∷ owns_from (suc w) n
