@@ -12,6 +12,10 @@ pub mod Birth
 pub mod Events
 pub mod Words
 pub mod Step
+pub mod Action
+pub mod Actions
+pub mod ActionValue
+pub mod ActionStep
 pub mod Program
 pub mod Rounds
 pub mod Finals
