@@ -13,6 +13,8 @@ pub mod Reach
 pub mod Done
 pub mod EventParts
 pub mod Rest
+pub mod PartRest
+pub mod PartDone
 pub mod Steps
 pub mod Untouched
 pub mod Numbered
