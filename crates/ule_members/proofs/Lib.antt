@@ -17,6 +17,7 @@ pub mod PartRest
 pub mod PartDone
 pub mod ActionFits
 pub mod StepDone
+pub mod SameStep
 pub mod Steps
 pub mod Untouched
 pub mod Numbered
