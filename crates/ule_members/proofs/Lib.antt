@@ -30,5 +30,7 @@ pub mod CalendarRules
 pub mod CalendarMoves
 pub mod CalendarParts
 pub mod CalendarEvents
+pub mod CalendarPhases
+pub mod CalendarSteps
 pub mod CalendarStretches
 pub mod CalendarStarts

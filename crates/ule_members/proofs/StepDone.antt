@@ -11,7 +11,7 @@ use Rattle.ule_types.specs.declared.event.Event.TheVariants.{Tick, Switch, Drop,
 use Rattle.ule_types.specs.declared.event.Reply.{Reply}
 use Rattle.ule_model.specs.Action.{Action, action_done, parts_done}
 use Rattle.ule_model.specs.Actions.{action_of, wake_action, wake_action_at}
-use Rattle.ule_model.specs.ActionStep.{action_step, action_step_under, bare_side, named_by, seen_on}
+use Rattle.ule_model.specs.ActionStep.{action_step, action_step_under, bare_side, named_by, seen_on, seen_under}
 use Rattle.ule_model.specs.Conditions.{IsPossible}
 use Rattle.ule_model.specs.Events.{locks_of}
 use Rattle.ule_model.specs.Frames.{LeavesRest}
@@ -19,13 +19,13 @@ use Rattle.ule_model.specs.Places.{lock_of}
 use Rattle.ule_model.specs.WellMade.{HaveIndexes, IsWellMadeWorld}
 use Rattle.ule_model.specs.Words.{WordChange, change_of}
 use Rattle.ule_model.specs.World.{Member, Side, World, current_of, fresh_line, on_side, side_of, standing_of, thread_of, with_side}
-use Rattle.ule_members.proofs.ActionFits.{IsFit, event_fits, seen}
+use Rattle.ule_members.proofs.ActionFits.{IsFit, event_fits}
 use Rattle.ule_members.proofs.PartDone.{AreDone, ArePartsDone, StandsAt, none_done, parts_follow, word_of_parts}
 use Rattle.ule_members.proofs.PartRest.{parts_kept}
 use Rattle.ule_members.proofs.Rest.{index_of, rest_left, side_indexes, side_leaves}
 
 -- the first of some locks is among them
-first_among : (l : ℕ) (ls : List ℕ) → is_among (l ∷ ls) l ≡ true
+pub first_among : (l : ℕ) (ls : List ℕ) → is_among (l ∷ ls) l ≡ true
 first_among l ls = or_left (l == l) (is_among ls l) (eq-eqb l l refl)
 
 module _ (w : World) (worker now : ℕ) (made : IsWellMadeWorld w) where
@@ -92,7 +92,7 @@ module _ (w : World) (worker now : ℕ) (made : IsWellMadeWorld w) where
           subst (λ (o : Option WordChange). AreDone w worker e now o w.members w.members) (sym (unlocked e none)) (none_done w worker e now w.members made.members)
       split (l ∷ ls) is =
           let among = ap (λ (xs : List ℕ). is_among xs l) is ∙ first_among l ls in
-          fit_done e l (action_of e (seen w worker now made e l)) among (event_fits w worker now made e possible l among)
+          fit_done e l (action_of e (seen_under w worker now e l)) among (event_fits w worker now made e possible l among)
 
 -- what the step of an event leaves
 pub action_step_leaves : (w : World) (worker : ℕ) (e : Event) (now : ℕ) → LeavesRest w e (action_step w worker e now).0
@@ -101,7 +101,7 @@ action_step_leaves w worker e now = split (locks_of w e) refl
     split : (ls : List ℕ) → locks_of w e ≡ ls → LeavesRest w e (action_step_under ls w worker e now).0
     split [] is = rest_left w e w.members
     split (l ∷ ls) is =
-        let ps = (action_of e (seen_on l worker now (named_by w e) (side_of l w))).parts in
+        let ps = (action_of e (seen_under w worker now e l)).parts in
         side_leaves w e l (parts_done l now ps (side_of l w, None)).0 is (parts_kept l now ps (side_of l w) None).balance_word
 
 -- the step of an event leaves the removal indexes those of buckets
@@ -111,5 +111,5 @@ action_step_indexes w worker e now indexes = split (locks_of w e)
     split : (ls : List ℕ) → HaveIndexes (action_step_under ls w worker e now).0.lines
     split [] = indexes
     split (l ∷ ls) =
-        let ps = (action_of e (seen_on l worker now (named_by w e) (side_of l w))).parts in
+        let ps = (action_of e (seen_under w worker now e l)).parts in
         side_indexes w l (parts_done l now ps (side_of l w, None)).0 indexes (parts_kept l now ps (side_of l w) None).index

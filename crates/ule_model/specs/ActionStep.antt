@@ -53,10 +53,14 @@ seen_on c worker now named s = record {
 abbrev pub bare_side : World → Side
 bare_side w = record { settings = w.settings; members = w.members; line = fresh_line; balance_word = w.balance_word }
 
+-- what an event of a worker sees under lock l
+abbrev pub seen_under : World → ℕ → ℕ → Event → ℕ → Seen
+seen_under w worker now e l = seen_on l worker now (named_by w e) (side_of l w)
+
 -- the step under these locks: an event whose thread is under none changes nothing
 abbrev pub action_step_under : List ℕ → World → ℕ → Event → ℕ → World × Reply
 action_step_under [] w worker e now = (w, (action_of e (seen_on 0 worker now (named_by w e) (bare_side w))).reply None)
-action_step_under (l ∷ ls) w worker e now = on_side l (action_done l now (action_of e (seen_on l worker now (named_by w e) (side_of l w)))) w
+action_step_under (l ∷ ls) w worker e now = on_side l (action_done l now (action_of e (seen_under w worker now e l))) w
 
 -- the step
 abbrev pub action_step : World → ℕ → Event → ℕ → World × Reply

@@ -13,8 +13,11 @@ use Rattle.ule_types.specs.declared.event.Event.TheVariants as event
 use Rattle.ule_types.specs.declared.event.Reply.{Reply}
 use Rattle.ule_types.specs.declared.event.Reply.TheVariants.{Ticked, Unmarked, Nothing, Switched, Dropped, Bedded, NotAsleep, Woken, Seen, Landed, Moved, NoneMovable, Changed, NotAllowed, Hatched, Forked, Returned, Exited, Buried, ParentGone}
 use Rattle.ule_types.specs.declared.setup.Setup.{Setup}
+use Rattle.ule_model.specs.Action.{Part, choose, clear_marks, clock, count_switch, end_slice_if, insert, mark_if, move, note, part_done}
+use Rattle.ule_model.specs.Actions.{action_of}
+use Rattle.ule_model.specs.ActionStep.{seen_under}
 use Rattle.ule_model.specs.CalendarIndexes.{distance_of}
-use Rattle.ule_model.specs.Events.{sought_by}
+use Rattle.ule_model.specs.Events.{locks_of, sought_by}
 use Rattle.ule_model.specs.Insertion.{members_in}
 use Rattle.ule_model.specs.Legal.{IsLegal, after_entry, replayed}
 use Rattle.ule_model.specs.Places.{is_number}
@@ -214,6 +217,19 @@ turning_ticks c w (e ∷ es) = (if is_turning c w e then 1 else 0) + turning_tic
 
 -- ---- the choice
 
+-- the side from which these parts choose the next thread, if they do
+abbrev pub choosing_from : ℕ → ℕ → List Part → Side × Option ℕ → Option Side
+choosing_from c now [] at = None
+choosing_from c now (choose ∷ ps) (s, into) = Some s
+choosing_from c now (note t place change ∷ ps) at = choosing_from c now ps (part_done c now (note t place change) at)
+choosing_from c now (move t from to ∷ ps) at = choosing_from c now ps (part_done c now (move t from to) at)
+choosing_from c now (insert t from how ∷ ps) at = choosing_from c now ps (part_done c now (insert t from how) at)
+choosing_from c now (clear_marks ∷ ps) at = choosing_from c now ps (part_done c now clear_marks at)
+choosing_from c now (count_switch ∷ ps) at = choosing_from c now ps (part_done c now count_switch at)
+choosing_from c now (mark_if takes ∷ ps) at = choosing_from c now ps (part_done c now (mark_if takes) at)
+choosing_from c now (end_slice_if ended ∷ ps) at = choosing_from c now ps (part_done c now (end_slice_if ended) at)
+choosing_from c now (clock ∷ ps) at = choosing_from c now ps (part_done c now clock at)
+
 -- the side of CPU c where this current thread, if there is one, has given way for this reason
 abbrev pub side_of_switch : Option Member → ℕ → Why → ℕ → Side → Side
 side_of_switch None c why now s = unmarked s
@@ -240,6 +256,15 @@ choosing_side c w (event.Fork d t) now = None
 choosing_side c w (event.Return t) now = None
 choosing_side c w (event.Bury t) now = None
 choosing_side c w (event.Inherit t run) now = None
+
+-- this, where lock c is the first of these
+abbrev pub if_first : ℕ → List ℕ → Option Side → Option Side
+if_first c [] s = None
+if_first c (l ∷ ls) s = if c == l then s else None
+
+-- the side of CPU c from which an event of a worker chooses the next thread, if it does
+abbrev pub choice_side : ℕ → World → ℕ → Event → ℕ → Option Side
+choice_side c w worker e now = if_first c (locks_of w e) (choosing_from c now (action_of e (seen_under w worker now e c)).parts (side_of c w, None))
 
 -- a thread that an entry chose from CPU c's calendar stood there no farther from the removal index than bucket b
 abbrev pub ChoosesNoFarther : (c b : ℕ) → World → Entry → Type 0
