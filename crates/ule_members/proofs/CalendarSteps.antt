@@ -20,9 +20,10 @@ use Rattle.ule_types.specs.declared.event.Reply.{Reply}
 use Rattle.ule_types.specs.declared.event.Reply.TheVariants.{Bedded, Buried, Changed, Dropped, Exited, Hatched, NotAllowed, NotAsleep, Nothing, ParentGone, Returned, Switched, Unmarked}
 use Rattle.ule_model.specs.Action.{Action, action_done, answers, move, parts_done}
 use Rattle.ule_model.specs.Actions.{Seen, action_of, change_action, change_action_at, fork_action, give_way_action, go_action, land_action, leave_action, note_action, requeue_action, switch_action, tick_action, unborn_action, wake_action, wake_action_at}
-use Rattle.ule_model.specs.ActionStep.{action_step, action_step_under, bare_side, named_by, seen_on, seen_under}
+use Rattle.ule_model.specs.ActionStep.{bare_side, named_by, seen_on, seen_under}
+use Rattle.ule_model.specs.Step.{step, step_under_locks}
 use Rattle.ule_model.specs.CalendarIndexes.{distance_of, idx_after_turn}
-use Rattle.ule_model.specs.CalendarPromise.{IsInBucket, choice_side, choosing_from, chosen_by, goes_next, if_first, is_tick_of, numbers_on, requeues, takes_up}
+use Rattle.ule_model.specs.CalendarPromise.{IsInBucket, choosing_side, choosing_from, chosen_by, goes_next, if_first, is_tick_of, numbers_on, requeues, takes_up}
 use Rattle.ule_model.specs.Events.{has_thread, holder_of, is_own, locks_of, sought_by}
 use Rattle.ule_model.specs.Landing.{current_record}
 use Rattle.ule_model.specs.Places.{lock_of}
@@ -37,7 +38,7 @@ use Rattle.ule_members.proofs.CalendarPlaces.{filing_of}
 use Rattle.ule_members.proofs.CalendarRules.{turning_by_one}
 use Rattle.ule_members.proofs.PartDone.{StandsAt}
 use Rattle.ule_members.proofs.Reach.{held_found, is_number_itself, place_from_hand, unborn_found}
-use Rattle.ule_members.proofs.StepDone.{first_among}
+use Rattle.ule_members.proofs.Steps.{first_among}
 use Rattle.ule_members.proofs.Threads.{current_runs}
 
 -- a thread in this worker's hand has it for a holder
@@ -226,10 +227,10 @@ module _ (w : World) (worker now : ℕ) (calm : IsCalm w) where
 -- ---- each step
 
 -- what the step of an event makes of the calendars
-pub action_passes : (w : World) (worker : ℕ) (e : Event) (now : ℕ) → IsCalm w → has_thread w worker e ≡ true → StepPasses w worker e now (action_step w worker e now)
-action_passes w worker e now calm has = split (locks_of w e) refl
+pub step_passes : (w : World) (worker : ℕ) (e : Event) (now : ℕ) → IsCalm w → has_thread w worker e ≡ true → StepPasses w worker e now (step w worker e now)
+step_passes w worker e now calm has = split (locks_of w e) refl
   where
-    split : (ls : List ℕ) → locks_of w e ≡ ls → StepPasses w worker e now (action_step_under ls w worker e now)
+    split : (ls : List ℕ) → locks_of w e ≡ ls → StepPasses w worker e now (step_under_locks ls w worker e now)
     split [] is = nothing_passes w worker e now calm ((action_of e (seen_on 0 worker now (named_by w e) (bare_side w))).reply None)
     split (l ∷ ls) is =
         let a = action_of e (seen_under w worker now e l) in
@@ -241,14 +242,14 @@ action_passes w worker e now calm has = split (locks_of w e) refl
         side_passes w worker e now calm l done (record { moves = passage.1; passes = passage.0 })
 
 -- a thread that a step chose from CPU c's calendar is no farther than the bucket of one that stands there
-abbrev pub ActionPicks : (c b : ℕ) → World → ℕ → Event → ℕ → Reply → Type 0
-ActionPicks c b w worker e now r =
-    (s : Side) (u a : ℕ) → choice_side c w worker e now ≡ Some s → chosen_by r ≡ Some u → IsInBucket c a u s.members → distance_of s.line.ridx a ≤ distance_of s.line.ridx b
+abbrev pub StepPicks : (c b : ℕ) → World → ℕ → Event → ℕ → Reply → Type 0
+StepPicks c b w worker e now r =
+    (s : Side) (u a : ℕ) → choosing_side c w worker e now ≡ Some s → chosen_by r ≡ Some u → IsInBucket c a u s.members → distance_of s.line.ridx a ≤ distance_of s.line.ridx b
 
 -- no step chooses from farther away than the bucket of a thread that stands in the calendar
-pub action_picks : (c t b : ℕ) (w : World) → IsCalm w → filing_of c w.members t ≡ Some b → (worker : ℕ) (e : Event) (now : ℕ) → has_thread w worker e ≡ true →
-    ActionPicks c b w worker e now (action_step w worker e now).1
-action_picks c t b w calm stands worker e now has s u a = split (locks_of w e) refl
+pub step_picks : (c t b : ℕ) (w : World) → IsCalm w → filing_of c w.members t ≡ Some b → (worker : ℕ) (e : Event) (now : ℕ) → has_thread w worker e ≡ true →
+    StepPicks c b w worker e now (step w worker e now).1
+step_picks c t b w calm stands worker e now has s u a = split (locks_of w e) refl
   where
     here : (l : ℕ) → is_among (locks_of w e) l ≡ true → c ≡ l → choosing_from c now (action_of e (seen_under w worker now e c)).parts (side_of c w, None) ≡ Some s →
         chosen_by (action_done l now (action_of e (seen_under w worker now e l)) (side_of l w)).1 ≡ Some u → IsInBucket c a u s.members → distance_of s.line.ridx a ≤ distance_of s.line.ridx b
@@ -269,7 +270,7 @@ action_picks c t b w calm stands worker e now has s u a = split (locks_of w e) r
     at_first false l is among none = absurd (none-some s none)
 
     split : (ls : List ℕ) → locks_of w e ≡ ls → if_first c ls (choosing_from c now (action_of e (seen_under w worker now e c)).parts (side_of c w, None)) ≡ Some s →
-        chosen_by (action_step_under ls w worker e now).1 ≡ Some u → IsInBucket c a u s.members → distance_of s.line.ridx a ≤ distance_of s.line.ridx b
+        chosen_by (step_under_locks ls w worker e now).1 ≡ Some u → IsInBucket c a u s.members → distance_of s.line.ridx a ≤ distance_of s.line.ridx b
     split [] is none = absurd (none-some s none)
     split (l ∷ ls) is from = at_first (c == l) l refl (ap (λ (xs : List ℕ). is_among xs l) is ∙ first_among l ls) from
 
@@ -296,11 +297,11 @@ tick_is c (Bury t) is = absurd (false≢true is)
 tick_is c (Inherit t run) is = absurd (false≢true is)
 
 -- a tick of a CPU that finds the indexes equal brings the insertion index on
-pub action_turns : (w : World) (worker now c : ℕ) → IsCalm w → (numbers_on c w).idx ≡ (numbers_on c w).ridx → (e : Event) → is_tick_of c e ≡ true →
-    c < length w.lines → distance_of (numbers_on c w).idx (numbers_on c (action_step w worker e now).0).idx ≡ 1
-action_turns w worker now c calm same e is below =
-    subst (λ (x : Event). distance_of (numbers_on c w).idx (numbers_on c (action_step w worker x now).0).idx ≡ 1) (sym (tick_is c e is))
-    (turning_by_one (numbers_on c w).idx (numbers_on c w).ridx (numbers_on c (action_step w worker (Tick c) now).0).idx (calm.close c).insertion same
+pub turning_goes_on : (w : World) (worker now c : ℕ) → IsCalm w → (numbers_on c w).idx ≡ (numbers_on c w).ridx → (e : Event) → is_tick_of c e ≡ true →
+    c < length w.lines → distance_of (numbers_on c w).idx (numbers_on c (step w worker e now).0).idx ≡ 1
+turning_goes_on w worker now c calm same e is below =
+    subst (λ (x : Event). distance_of (numbers_on c w).idx (numbers_on c (step w worker x now).0).idx ≡ 1) (sym (tick_is c e is))
+    (turning_by_one (numbers_on c w).idx (numbers_on c w).ridx (numbers_on c (step w worker (Tick c) now).0).idx (calm.close c).insertion same
     (ap (λ (line : CpuLine). line.idx) (get_or-set_same w.lines c (action_done c now (tick_action (current_record c w.members) (seen_under w worker now (Tick c) c)) (side_of c w)).0.line fresh_line below) ∙
     turned (current_record c w.members)))
   where

@@ -27,7 +27,6 @@ use Rattle.ule_model.specs.World.{Member, Side, World, current_of, is_numbered, 
 use Rattle.ule_members.proofs.MadeWell.{IsApartFrom, apart_from_kept, apart_from_off, apart_from_queued, apart_from_running, well_made_put}
 use Rattle.ule_members.proofs.Membership.{has_thread_of}
 use Rattle.ule_members.proofs.Moves.{bucket_small, changed_by, choice_stands, current_of-between, moved_between, moved_member, moved_recorded_between, others_within, queued_member, recorded_between, within_has}
-use Rattle.ule_members.proofs.Done.{holder_after}
 use Rattle.ule_members.proofs.Reach.{among_where_under, lock_where_waits, no_hand_under, number_from_test, reached_by_lock}
 use Rattle.ule_members.proofs.Threads.{find_here, find_kept, find_mapped, thread_of-changed_same, thread_of_within}
 use Rattle.ule_members.proofs.Touches.{all_touched_further, comes_by_one, comes_number, comes_numbers, touched_between, touched_number, untouched}
@@ -66,6 +65,12 @@ word_then first (Some next) = Some next
 abbrev pub word_of_parts : ℕ → List Part → Option WordChange
 word_of_parts c [] = None
 word_of_parts c (p ∷ ps) = word_then (word_of_part c p) (word_of_parts c ps)
+
+-- the holder of thread u after a change of a word by an event of this worker, where this was it before
+abbrev pub holder_after : ℕ → Option WordChange → ℕ → Option ℕ → Option ℕ
+holder_after worker None u old = old
+holder_after worker (Some (block t)) u old = if u == t then Some worker else old
+holder_after worker (Some (point t l)) u old = if u == t then None else old
 
 -- ---- what parts need
 
