@@ -9,6 +9,7 @@ pub mod QueueKinds
 pub mod Beside
 pub mod Queueing
 pub mod ChoosingLaws
+pub mod CpuLines
 pub mod CpuLaws
 pub mod CpuPlaces
 pub mod FrameLaws
@@ -19,6 +20,7 @@ pub mod StepFrom
 pub mod SleepLaws
 pub mod SleepCallLaws
 pub mod ChainSteps
+pub mod PartStands
 pub mod CpuEvents
 pub mod CpuNumbers
 pub mod CpuChanges

@@ -63,10 +63,10 @@ take_from_under l t m ms slots f w within number off these u =
 abbrev pub IsThis : ℕ → List Member → Option ThreadRecord → Type 0
 IsThis h ms held = (t : ℕ) → if_thread t held ≡ option_map (λ m. m.thread) (thread_in_hand h t ms)
 
--- a thread that comes to an empty hand is in it
-pub put_in : (h t : ℕ) (m : Member) (ms : List Member) (f : Member → Member) → Within t m ms → (f m).thread.id ≡ m.thread.id →
-    is_hand_of h (f m).place ≡ true → IsThis h ms None → IsThis h (changed t f ms) (Some (f m).thread)
-put_in h t m ms f w number here empty u =
+-- a thread that comes to a hand, or stays in it, is in it where the hand has no other
+pub put_only : (h t : ℕ) (m : Member) (ms : List Member) (f : Member → Member) → Within t m ms → (f m).thread.id ≡ m.thread.id → is_hand_of h (f m).place ≡ true →
+    ((u : ℕ) → (u ≡ t → ⊥) → None ≡ option_map (λ m. m.thread) (thread_in_hand h u ms)) → IsThis h (changed t f ms) (Some (f m).thread)
+put_only h t m ms f w number here no_other u =
     ⊎_elim own (λ (other : u ≡ t → ⊥). rest other) (cases_eq u t)
   where
     at : (f m).thread.id ≡ t
@@ -80,7 +80,12 @@ put_in h t m ms f w number here empty u =
     rest : (u ≡ t → ⊥) → if_thread u (Some (f m).thread) ≡ option_map (λ m. m.thread) (thread_in_hand h u (changed t f ms))
     rest other =
         cond-false ((f m).thread.id == u) (Some (f m).thread) None (ne_eqb (f m).thread.id u (λ e. other (sym e ∙ at))) ∙
-        empty u ∙ sym (ap (option_map (λ (n : Member). n.thread)) (thread_at-changed_other (is_hand_of h) u t m ms w f number other))
+        no_other u other ∙ sym (ap (option_map (λ (n : Member). n.thread)) (thread_at-changed_other (is_hand_of h) u t m ms w f number other))
+
+-- a thread that comes to an empty hand is in it
+pub put_in : (h t : ℕ) (m : Member) (ms : List Member) (f : Member → Member) → Within t m ms → (f m).thread.id ≡ m.thread.id →
+    is_hand_of h (f m).place ≡ true → IsThis h ms None → IsThis h (changed t f ms) (Some (f m).thread)
+put_in h t m ms f w number here empty = put_only h t m ms f w number here (λ u other. empty u)
 
 -- a thread that leaves a hand leaves it empty
 pub take_out_of : (h t : ℕ) (m : Member) (ms : List Member) (f : Member → Member) → Within t m ms → (f m).thread.id ≡ m.thread.id →
