@@ -21,6 +21,7 @@ pub mod SleepLaws
 pub mod SleepCallLaws
 pub mod ChainSteps
 pub mod PartStands
+pub mod SlotStands
 pub mod CpuEvents
 pub mod CpuNumbers
 pub mod CpuChanges

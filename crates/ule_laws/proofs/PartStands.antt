@@ -115,7 +115,7 @@ anew_stands from how m v s w stands is on = record {
 -- ---- the hand
 
 -- a thread that is in no hand before and after leaves the hand
-hand_kept : (worker t : ℕ) (m : Member) (ms : List Member) (f : Member → Member) → Within t m ms → (f m).thread.id ≡ m.thread.id → is_hand_of worker m.place ≡ false →
+pub hand_kept : (worker t : ℕ) (m : Member) (ms : List Member) (f : Member → Member) → Within t m ms → (f m).thread.id ≡ m.thread.id → is_hand_of worker m.place ≡ false →
     is_hand_of worker (f m).place ≡ false → (hand : Option ThreadRecord) → IsThis worker ms hand → IsThis worker (changed t f ms) hand
 hand_kept worker t m ms f v number was is hand this u =
     this u ∙ ap (option_map (λ (n : Member). n.thread))
@@ -141,11 +141,11 @@ off_hand worker c Unborn on = absurd on
 off_hand worker c Gone on = absurd on
 off_hand worker c (Hand w) on = absurd on
 
-in_own_hand : (worker h : ℕ) (place : Place) → place ≡ Hand h → h ≡ worker → is_hand_of worker place ≡ true
+pub in_own_hand : (worker h : ℕ) (place : Place) → place ≡ Hand h → h ≡ worker → is_hand_of worker place ≡ true
 in_own_hand worker h place is own = ap (is_hand_of worker) is ∙ eq-eqb worker h (sym own)
 
 -- the hand whose thread's record changes
-hand_noted : (worker : ℕ) (m : Member) (ms : List Member) (hand : Option ThreadRecord) (change : ThreadRecord → ThreadRecord) → (change m.thread).id ≡ m.thread.id → Within m.thread.id m ms →
+pub hand_noted : (worker : ℕ) (m : Member) (ms : List Member) (hand : Option ThreadRecord) (change : ThreadRecord → ThreadRecord) → (change m.thread).id ≡ m.thread.id → Within m.thread.id m ms →
     is_hand_of worker m.place ≡ true → IsThis worker ms hand → IsThis worker (changed m.thread.id (λ x. record x { thread = change x.thread }) ms) (option_map change hand)
 hand_noted worker m ms hand change number v here this =
     let has : hand ≡ Some m.thread = hand_is worker m ms hand v here this in
