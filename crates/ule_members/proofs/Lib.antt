@@ -15,6 +15,9 @@ pub mod EventParts
 pub mod Rest
 pub mod PartRest
 pub mod PartDone
+pub mod ActionFits
+pub mod StepDone
+pub mod SameStep
 pub mod Steps
 pub mod Untouched
 pub mod Numbered
