@@ -19,6 +19,7 @@ pub mod SeekLaws
 pub mod StepFrom
 pub mod SleepLaws
 pub mod SleepCallLaws
+pub mod EventStands
 pub mod ChainSteps
 pub mod PartStands
 pub mod SlotStands
