@@ -1,10 +1,9 @@
 -- What a change of a priority, the removal of a queued thread and a fork make of a CPU's value is what they make
 -- of its side of a world.
 use Rattle.std.proofs.Common.{◌≡◌, ℕ, ◌==◌, ℤ, Bool, true, false, not, slice_set, if◌then◌else◌, Option, Some, None, ⊎_elim, refl, sym, ◌≢◌, ◌∙◌, ap, subst}
-use Rattle.std.specs.Prelude.{List, nat_lt}
+use Rattle.std.specs.Prelude.{nat_lt}
 use Rattle.std.specs.Option.{option_map}
 use Rattle.std.proofs.lemmas.Bool.{or_cases, or_left}
-use Rattle.std.proofs.lemmas.List.{set-get_or}
 use Rattle.std.proofs.lemmas.Option.{none-some}
 use Rattle.ule_prio.specs.Kind.{kind_at}
 use Rattle.ule_prio.specs.declared.kind.Kind.{Kind}
@@ -29,9 +28,10 @@ use Rattle.ule_model.specs.Tick.{load_of}
 use Rattle.ule_model.specs.WellMade.{IsWellMade}
 use Rattle.ule_model.specs.World.{Member, Side, current_of, thread_of, with_change, with_record}
 use Rattle.ule_laws.proofs.Beside.{gone_put, lifted_stands}
-use Rattle.ule_laws.proofs.ChoosingLaws.{recorded_stands, removed_cpu}
+use Rattle.ule_laws.proofs.ChoosingLaws.{elsewhere_recorded, recorded_stands, removed_cpu}
 use Rattle.ule_laws.proofs.CpuEvents.{takes_alike}
-use Rattle.ule_laws.proofs.CpuLaws.{ActsAlike, with_line_stands}
+use Rattle.ule_laws.proofs.CpuLaws.{ActsAlike}
+use Rattle.ule_laws.proofs.CpuLines.{with_line_stands}
 use Rattle.ule_laws.proofs.CpuPlaces.{kind_running, kind_waiting}
 use Rattle.ule_laws.proofs.PlaceLaws.{place_from_runs_on, place_from_waits_on}
 use Rattle.ule_laws.proofs.Queueing.{inserted_cpu, requeued_stands}
@@ -185,23 +185,6 @@ child_numbers : (settings : Settings) (now c load : ℕ) (parent r : ThreadRecor
     HasNumbers (child_of settings now parent c load r)
 child_numbers settings now c load parent r own has =
     rebased_numbers settings _ (record { id = has.id; base = own.base; priority = own.base; nice = own.nice })
-
--- a change of the record of a thread on no CPU leaves what a value stands for
-elsewhere_recorded : (t : ℕ) (change : ThreadRecord → ThreadRecord) (m : Member) (v : CpuValue) (s : Side) →
-    ((r : ThreadRecord) → (change r).id ≡ r.id) → StandsFor v s → Within t m s.members → is_on v.cpu m.place ≡ false →
-    (thread_in v t ≡ None) × StandsFor v (record s { members = with_record t change s.members })
-elsewhere_recorded t change m v s kept stands w off = (
-  none,
-  subst (λ (threads : List (Option ThreadRecord)). StandsFor (record v { threads = threads }) (record s { members = with_record t change s.members }))
-      (ap (λ (o : Option ThreadRecord). slice_set v.threads t (option_map change o)) none
-      ∙ ap (λ (o : Option ThreadRecord). slice_set v.threads t o) (sym none) ∙ set-get_or v.threads t None)
-      (recorded_stands t change m v s kept stands w),
-)
-  where
-    none : thread_in v t ≡ None
-    none =
-        stands.threads t ∙ ap (option_map (λ (x : Member). x.thread))
-        (thread_on_within v.cpu t m s.members w ∙ ap (λ d. if d then Some m else None) off)
 
 -- the record that the value has of its current thread m
 current_recorded_as : (m : Member) (v : CpuValue) (s : Side) → StandsFor v s → IsWellMade s.members → current_of v.cpu s.members ≡ Some m →

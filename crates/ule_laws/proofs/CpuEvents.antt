@@ -1,13 +1,11 @@
 -- What a tick, a switch, a drop and a landing make of a CPU's value and of the worker's hand is what they make of its
 -- side of a world.
-use Rattle.std.proofs.Common.{◌≡◌, ℕ, ◌+◌, ◌-◌, ◌%◌, ◌<◌, ◌==◌, Bool, true, false, not, ◌&&◌, pos, List, ◌++◌, length, slice_set, if◌then◌else◌, Option, Some, None, ⊎_elim, refl, sym, ◌∙◌, ap, subst, arith, set-set, option_and_then}
-use Rattle.std.specs.Prelude.{nat_le, option_and_then}
+use Rattle.std.proofs.Common.{◌≡◌, ℕ, ◌+◌, ◌-◌, ◌<◌, ◌==◌, Bool, false, not, pos, List, ◌++◌, length, slice_set, if◌then◌else◌, Option, Some, None, refl, sym, ◌∙◌, ap, subst, set-set, option_and_then}
+use Rattle.std.specs.Prelude.{option_and_then}
 use Rattle.std.specs.Option.{option_map}
-use Rattle.std.proofs.lemmas.Bool.{cases_eq, ne_eqb, or_left}
+use Rattle.std.proofs.lemmas.Bool.{or_left}
 use Rattle.ule_prio.specs.Kind.{kind_at}
 use Rattle.ule_prio.specs.Preemption.{takes_over}
-use Rattle.ule_prio.specs.declared.kind.Kind.TheVariants.{Real, Batch, Idle}
-use Rattle.ule_runq.specs.Runq.{is_empty_at}
 use Rattle.ule_score.proofs.ChangeLaws.{change_number}
 use Rattle.ule_score.specs.Changes.{IsSoundChange, RecordChange, after_tick, placed, placed_on, record_after, sleeps, ticked as tick_of}
 use Rattle.ule_score.specs.declared.place.Place.TheVariants.{Hand}
@@ -16,23 +14,20 @@ use Rattle.ule_score.specs.declared.record.Settings.{Settings}
 use Rattle.ule_score.specs.declared.record.ThreadRecord.{ThreadRecord}
 use Rattle.ule_types.specs.declared.event.Reply.{Reply}
 use Rattle.ule_types.specs.declared.event.Reply.TheVariants.{Landed, Nothing, Ticked}
-use Rattle.ule_model.specs.CpuValue.{CpuValue, StandsFor, Taken, chosen_next, current_in, queue_of, takes_over_in, thread_in, value_added, value_clocked, value_laid, value_taken, value_taken_from, value_taken_with, value_ticked, value_ticked_with, with_thread_after, without_current, value_switched}
-use Rattle.ule_model.specs.Insertion.{bucket_of, members_in, queued}
+use Rattle.ule_model.specs.CpuValue.{CpuValue, StandsFor, Taken, chosen_next, current_in, takes_over_in, thread_in, value_added, value_clocked, value_laid, value_taken, value_taken_from, value_taken_with, value_ticked, value_ticked_with, with_thread_after, without_current, value_switched}
+use Rattle.ule_model.specs.Insertion.{bucket_of, queued}
 use Rattle.ule_model.specs.declared.insertion.Insertion.TheVariants.{Ordinary}
 use Rattle.ule_model.specs.Landing.{current_priority, current_record, is_taking_over, landed, landed_with, marked_if}
 use Rattle.ule_model.specs.Places.{is_on, runs_on, waits_on}
-use Rattle.ule_model.specs.Shows.{ShowsQueue}
 use Rattle.ule_model.specs.Sleep.{departed, departed_with, dropped, dropped_reply, taken}
-use Rattle.ule_model.specs.Start.{balance_count, stepped_word}
 use Rattle.ule_model.specs.Switch.{choosing_next, one_more, switched}
-use Rattle.ule_model.specs.Tick.{balance_after_tick, clocked, is_due, line_after_tick, load_of, marked_at_end, ticked, ticked_with, word_after_tick}
+use Rattle.ule_model.specs.Tick.{clocked, is_due, load_of, marked_at_end, ticked, ticked_with}
 use Rattle.ule_model.specs.WellMade.{IsWellMade}
 use Rattle.ule_model.specs.World.{Member, Side, current_of, moved_to, thread_of, with_change, World, fresh_line, side_of, with_side}
 use Rattle.ule_laws.proofs.Beside.{StandsBeside, absent_lifted, gone_put, running_lifted}
-use Rattle.ule_laws.proofs.Buckets.{empty_shown}
 use Rattle.ule_laws.proofs.ChoosingLaws.{AreChosen, changed_stands, choosing_stands}
-use Rattle.ule_laws.proofs.CpuLaws.{ActsAlike, with_line_stands, switched_stands}
-use Rattle.ule_laws.proofs.QueueKinds.{by_kind}
+use Rattle.ule_laws.proofs.CpuLaws.{ActsAlike, switched_stands}
+use Rattle.ule_laws.proofs.CpuLines.{clocked_stands, with_line_stands}
 use Rattle.ule_laws.proofs.Queueing.{IsJoined, inserted_stands}
 use Rattle.ule_laws.proofs.WellMade.{well_made-with_change, well_made_off}
 use Rattle.ule_members.proofs.Threads.{current_runs, thread_of-changed, thread_on_within, within_current, thread_of_within}
@@ -70,54 +65,6 @@ current_in_is v s stands made =
         ap (λ d. if d then Some m else None) (or_left (runs_on v.cpu m.place) (waits_on v.cpu m.place) (current_runs v.cpu s.members m found)))
 
 -- ---- a tick
-
--- the balance word counts on CPU 0 alone
-balance_by_word : (c balance x y : ℕ) → (c ≡ 0 → x ≡ y) → balance_after_tick c balance x ≡ balance_after_tick c balance y
-balance_by_word c balance x y same = ⊎_elim here elsewhere (cases_eq c 0)
-  where
-    here : c ≡ 0 → balance_after_tick c balance x ≡ balance_after_tick c balance y
-    here is = ap (balance_after_tick c balance) (same is)
-
-    elsewhere : (c ≡ 0 → ⊥) → balance_after_tick c balance x ≡ balance_after_tick c balance y
-    elsewhere apart =
-        let other : (c == 0) ≡ false = ne_eqb c 0 apart in
-        ap (λ d. if d && nat_le balance 1 then balance_count (stepped_word x) else if d then balance - 1 else balance) other
-        ∙ sym (ap (λ d. if d && nat_le balance 1 then balance_count (stepped_word y) else if d then balance - 1 else balance) other)
-
--- the CPU's own numbers after a tick
-clocked_line : (v : CpuValue) (s : Side) → StandsFor v s → (value_clocked v).line ≡ (clocked v.cpu s).line
-clocked_line v s stands =
-    ap (λ (balance : ℕ). record (line_after_tick v.cpu v.load (is_empty_at v.batch v.line.ridx) v.balance_word v.line) { balance = balance })
-    (balance_by_word v.cpu v.line.balance v.balance_word s.balance_word stands.balance_word)
-    ∙ ap (λ (d : Bool). line_after_tick v.cpu v.load d s.balance_word v.line)
-    (sym (empty_shown v.batch v.cpu Batch s.members v.line.ridx stands.index (stands.queues Batch)))
-    ∙ ap (λ (load : ℕ). line_after_tick v.cpu load (length (members_in v.cpu Batch v.line.ridx s.members) == 0) s.balance_word v.line) stands.load
-    ∙ ap (λ (line : CpuLine). line_after_tick v.cpu (load_of v.cpu s.members) (length (members_in v.cpu Batch line.ridx s.members) == 0) s.balance_word line) stands.line
-
--- a tick leaves the removal index that of a bucket
-clocked_index : (v : CpuValue) → v.line.ridx < 64 → (value_clocked v).line.ridx < 64
-clocked_index v small = turned ((v.line.idx == v.line.ridx) && is_empty_at v.batch v.line.ridx)
-  where
-    turned : (d : Bool) → (if d then (v.line.idx + 1) % 64 else v.line.ridx) < 64
-    turned true = omega arith
-    turned false = small
-
--- the CPU's own numbers after a tick, on the value and on the side
-clocked_stands : (v : CpuValue) (s : Side) → StandsFor v s → StandsFor (value_clocked v) (clocked v.cpu s)
-clocked_stands v s stands = record {
-  settings = stands.settings;
-  line = clocked_line v s stands;
-  balance_word = λ is.
-      ap (word_after_tick v.cpu v.line.balance) (stands.balance_word is) ∙ ap (λ (line : CpuLine). word_after_tick v.cpu line.balance s.balance_word) stands.line;
-  current = stands.current;
-  load = stands.load;
-  slots = stands.slots;
-  threads = stands.threads;
-  queues =
-      by_kind (λ k. ShowsQueue (queue_of k (value_clocked v)) v.cpu k s.members)
-      (stands.queues Real) (stands.queues Batch) (stands.queues Idle);
-  index = clocked_index v stands.index;
-}
 
 -- the current thread charged, on the value and on the side, by the settings and the load of the value
 charged_stands : (due : Bool) (now : ℕ) (m : Member) (v : CpuValue) (s : Side) → StandsFor v s → IsWellMade s.members → Within m.thread.id m s.members →

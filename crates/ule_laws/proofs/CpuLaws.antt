@@ -1,9 +1,8 @@
 -- A switch on a CPU's value, and on the side of a world that it stands for.
-use Rattle.std.proofs.Common.{◌≡◌, ℕ, ◌+◌, ◌<◌, Bool, true, false, ◌&&◌, [], ◌∷◌, ◌++◌, slice_set, if◌then◌else◌, Option, Some, None, refl, sym, ◌∙◌, ap, subst}
+use Rattle.std.proofs.Common.{◌≡◌, ℕ, ◌+◌, Bool, true, false, ◌&&◌, [], ◌∷◌, ◌++◌, slice_set, if◌then◌else◌, Option, Some, None, refl, sym, ◌∙◌, ap, subst}
 use Rattle.std.specs.Option.{option_map}
 use Rattle.std.proofs.lemmas.Bool.{and_right, eq-eqb, or_parts}
 use Rattle.std.proofs.lemmas.Option.{none-some}
-use Rattle.ule_prio.specs.declared.kind.Kind.TheVariants.{Real, Batch, Idle}
 use Rattle.ule_score.specs.Changes.{HasNumbers, ran, record_after}
 use Rattle.ule_score.specs.declared.record.CpuLine.{CpuLine}
 use Rattle.ule_score.specs.declared.record.ThreadRecord.{ThreadRecord}
@@ -14,51 +13,19 @@ use Rattle.ule_model.specs.CpuValue.{CpuValue, StandsFor, chosen_next, inserted_
 use Rattle.ule_model.specs.Insertion.{queued}
 use Rattle.ule_model.specs.declared.insertion.Insertion.TheVariants.{Ordinary}
 use Rattle.ule_model.specs.Places.{is_on, runs_on, waits_on}
-use Rattle.ule_model.specs.Shows.{ShowsQueue}
 use Rattle.ule_model.specs.Start.{laid_on, unborn_member}
-use Rattle.ule_model.specs.Switch.{choosing_next, counted, given_way, insertion_of, is_preemption, is_unasked, one_more, started_reply, switched, switched_from, unmarked}
+use Rattle.ule_model.specs.Switch.{choosing_next, counted, given_way, insertion_of, is_preemption, is_unasked, started_reply, switched, switched_from, unmarked}
 use Rattle.ule_model.specs.WellMade.{IsWellMade}
 use Rattle.ule_model.specs.World.{Member, Side, current_of, is_numbered, thread_of, with_change}
 use Rattle.ule_laws.proofs.Beside.{StandsBeside, absent_lifted, off_out, running_lifted}
 use Rattle.ule_laws.proofs.Buckets.{shows-appended}
 use Rattle.ule_laws.proofs.ChoosingLaws.{AreChosen, changed_stands, choosing_stands}
-use Rattle.ule_laws.proofs.QueueKinds.{by_kind}
+use Rattle.ule_laws.proofs.CpuLines.{count_stands, marks_stand, value_counted}
 use Rattle.ule_laws.proofs.Queueing.{IsJoined, inserted_stands}
 use Rattle.ule_laws.proofs.WellMade.{well_made-with_change, well_made_appended}
 use Rattle.ule_members.proofs.Loads.{load-appended_off}
 use Rattle.ule_members.proofs.Threads.{current_runs, find-appended, find-appended_new, thread_of-changed, within_current}
 use Rattle.ule_members.proofs.Within.{Within, within_thread}
-
--- ---- the CPU's numbers
-
--- the numbers changed alike, with a removal index of a bucket
-pub with_line_stands : (change : CpuLine → CpuLine) (v : CpuValue) (s : Side) → (change v.line).ridx < 64 → StandsFor v s →
-    StandsFor (record v { line = change v.line }) (record s { line = change s.line })
-with_line_stands change v s small stands = record {
-  settings = stands.settings;
-  line = ap change stands.line;
-  balance_word = stands.balance_word;
-  current = stands.current;
-  load = stands.load;
-  slots = stands.slots;
-  threads = stands.threads;
-  queues =
-      by_kind (λ k. ShowsQueue (queue_of k (record v { line = change v.line })) v.cpu k s.members)
-      (stands.queues Real) (stands.queues Batch) (stands.queues Idle);
-  index = small;
-}
-
--- the marks taken away
-pub marks_stand : (v : CpuValue) (s : Side) → StandsFor v s → StandsFor (without_marks v) (unmarked s)
-marks_stand v s stands = with_line_stands (λ line. record line { resched = false; slice_end = false }) v s stands.index stands
-
--- the CPU with one switch more
-abbrev pub value_counted : CpuValue → CpuValue
-value_counted v = record v { line = record v.line { switches = one_more v.line.switches } }
-
--- one switch more
-pub count_stands : (v : CpuValue) (s : Side) → StandsFor v s → StandsFor (value_counted v) (counted s)
-count_stands v s stands = with_line_stands (λ line. record line { switches = one_more line.switches }) v s stands.index stands
 
 -- ---- giving way
 

@@ -9,6 +9,7 @@ pub mod QueueKinds
 pub mod Beside
 pub mod Queueing
 pub mod ChoosingLaws
+pub mod CpuLines
 pub mod CpuLaws
 pub mod CpuPlaces
 pub mod FrameLaws
@@ -18,7 +19,10 @@ pub mod SeekLaws
 pub mod StepFrom
 pub mod SleepLaws
 pub mod SleepCallLaws
+pub mod EventStands
 pub mod ChainSteps
+pub mod PartStands
+pub mod SlotStands
 pub mod CpuEvents
 pub mod CpuNumbers
 pub mod CpuChanges
