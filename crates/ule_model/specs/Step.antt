@@ -8,7 +8,7 @@ use Rattle.ule_types.specs.declared.event.Reply.TheVariants.{Nothing, Dropped, B
 use Rattle.ule_model.specs.Action.{action_done}
 use Rattle.ule_model.specs.Actions.{action_of}
 pub use Rattle.ule_model.specs.ActionStep.{Stepped, kept}
-use Rattle.ule_model.specs.ActionStep.{bare_side, named_by, seen_on, seen_under}
+use Rattle.ule_model.specs.ActionStep.{action_lock_step, bare_side, named_by, seen_on, seen_under}
 use Rattle.ule_model.specs.Birth.{exited_reply}
 use Rattle.ule_model.specs.Events.{locks_of}
 use Rattle.ule_model.specs.CpuChange.{forked_reply, value_changed, value_forked}
@@ -202,10 +202,7 @@ limbo_step settings (Inherit t run) hand v = limbo_changed settings (change.Inhe
 
 -- the step of an event under one lock
 abbrev pub lock_step : Settings → ℕ → Event → ℕ → Option ThreadRecord → LockValue → Stepped
-lock_step settings worker e now hand (queue v) = queue_step worker e now hand v
-lock_step settings worker e now hand (chain v) = chain_step settings e now hand v
-lock_step settings worker e now hand (limbo v) = limbo_step settings e hand v
-lock_step settings worker e now hand nothing = kept hand nothing Nothing
+lock_step settings worker e now hand value = action_lock_step settings worker e now hand value
 
 -- the step of an event under two locks: no event under two has one yet
 abbrev pub pair_step : Settings → ℕ → Event → ℕ → LockValue → LockValue → LockValue × LockValue × Reply
