@@ -117,6 +117,15 @@ step_indexes w worker e now indexes = split (locks_of w e)
         let ps = (action_of e (seen_under w worker now e l)).parts in
         side_indexes w l (parts_done l now ps (side_of l w, None)).0 indexes (parts_kept l now ps (side_of l w) None).index
 
+-- what holds of what an event's action replies by what it sees holds of the reply of its step
+pub step_reply : (P : Reply → Type 0) (w : World) (worker : ℕ) (e : Event) (now : ℕ) →
+    ((l : ℕ) (s : Side) → s.settings ≡ w.settings → (into : Option ℕ) → P ((action_of e (seen_on l worker now (named_by w e) s)).reply into)) → P (step w worker e now).1
+step_reply P w worker e now replies = split (locks_of w e)
+  where
+    split : (ls : List ℕ) → P (step_under_locks ls w worker e now).1
+    split [] = replies 0 (bare_side w) refl None
+    split (l ∷ ls) = replies l (side_of l w) refl (parts_done l now (action_of e (seen_under w worker now e l)).parts (side_of l w, None)).1
+
 -- ---- the laws of a step
 
 -- a step touches what is within the event's reach alone
