@@ -20,6 +20,7 @@ pub mod StepFrom
 pub mod SleepLaws
 pub mod SleepCallLaws
 pub mod EventStands
+pub mod SameValues
 pub mod ChainSteps
 pub mod PartStands
 pub mod SlotStands
