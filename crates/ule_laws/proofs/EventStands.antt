@@ -24,7 +24,7 @@ use Rattle.ule_types.specs.declared.event.Reply.{Reply}
 use Rattle.ule_types.specs.declared.event.Reply.TheVariants.{Bedded, Buried, Hatched, Returned, Unmarked}
 use Rattle.ule_model.specs.Action.{Action, answers, parts_done}
 use Rattle.ule_model.specs.Actions.{Seen, action_of, change_action, change_action_at, fork_action, give_way_action, go_action, land_action, leave_action, note_action, requeue_action, tick_action, unborn_action, wake_action, wake_action_at}
-use Rattle.ule_model.specs.ActionStep.{action_lock_step, action_step, action_step_held, action_step_under, named_by, named_held, on_queue, seen_in, seen_off, seen_on}
+use Rattle.ule_model.specs.ActionStep.{action_lock_step, action_step_held, named_by, named_held, on_queue, seen_in, seen_off, seen_on}
 use Rattle.ule_model.specs.ActionValue.{HandAndCpu, HandAndSlots, action_in_slots, action_on_cpu, parts_in_slots, parts_on_cpu}
 use Rattle.ule_model.specs.Conditions.{HasEmptyHand, IsPossible}
 use Rattle.ule_model.specs.CpuValue.{CpuValue, StandsFor, current_in, thread_in}
@@ -33,7 +33,7 @@ use Rattle.ule_model.specs.Landing.{current_record}
 use Rattle.ule_model.specs.LockValue.{LockValue, chain, found_in, limbo, nothing, queue}
 use Rattle.ule_model.specs.Places.{is_hand_of, is_number, is_under, lock_of, runs_on, waits_on}
 use Rattle.ule_model.specs.PriorityChange.{unborn_answer}
-use Rattle.ule_model.specs.Step.{Stepped}
+use Rattle.ule_model.specs.Step.{Stepped, step, step_under_locks}
 use Rattle.ule_model.specs.Switch.{is_preemption, is_unasked}
 use Rattle.ule_model.specs.WellMade.{IsWellMade, IsWellMadeWorld}
 use Rattle.ule_model.specs.World.{Member, Side, World, current_of, fresh_line, side_of, standing_of, thread_of, with_side}
@@ -123,7 +123,7 @@ module _ (v : WorldValue) (w : World) (worker now : ℕ) (shows : Shows v w) whe
 
   -- what an event makes of the value under lock l and of the hand is what its action makes of the world there
   abbrev pub IsMadeBy : Event → ℕ → LockValue → Type 0
-  IsMadeBy e l value = IsMadeFor (action_step w worker e now).0 worker l (action_step w worker e now).1 (action_lock_step v.settings worker e now (held_by v worker) value)
+  IsMadeBy e l value = IsMadeFor (step w worker e now).0 worker l (step w worker e now).1 (action_lock_step v.settings worker e now (held_by v worker) value)
 
   -- what is made of the value under lock l and of the hand is what the parts of an event's action make of the side
   abbrev IsGivenBy : Event → ℕ → Stepped → Type 0
@@ -161,7 +161,7 @@ module _ (v : WorldValue) (w : World) (worker now : ℕ) (shows : Shows v w) whe
   made_on_cpu : (e : Event) (c : ℕ) (u : CpuValue) → IsPossible w worker e now → locks_of w e ≡ c ∷ [] → IsQueueOf w c u → NamesAlike e (queue u) →
       FollowsHere c worker (Unit {0}) IsEmpty (action_at e c).parts → IsMadeBy e c (queue u)
   made_on_cpu e c u possible locks is names here =
-      subst (λ (ls : List ℕ). IsMadeFor (action_step_under ls w worker e now).0 worker c (action_step_under ls w worker e now).1 (action_lock_step v.settings worker e now (held_by v worker) (queue u))) (sym locks)
+      subst (λ (ls : List ℕ). IsMadeFor (step_under_locks ls w worker e now).0 worker c (step_under_locks ls w worker e now).1 (action_lock_step v.settings worker e now (held_by v worker) (queue u))) (sym locks)
       (subst (λ (named : Option Standing). IsGivenBy e c (action_step_held named v.settings worker e now (held_by v worker) (queue u))) (sym names)
       (subst (λ (x : Seen). IsGivenBy e c (on_queue (action_on_cpu now (action_of e x) h))) (sym (seen_alike worker now (named_by w e) u s is.stands shows.made ∙ ap (λ (x : ℕ). seen_on x worker now (named_by w e) s) is.cpu))
       (record { value = queue_stands w c u both_made.0.value meant.0 is both.held.stands both.cpu settings; hand = both.held.hand tt; answer = ap a.reply both.answer })))
@@ -197,8 +197,8 @@ module _ (v : WorldValue) (w : World) (worker now : ℕ) (shows : Shows v w) whe
 
     -- is what its action makes of the side
     pub record IsMadeOfSlots (e : Event) (made : HandAndSlots × Reply) : Type 0 where
-      pub held : AreHeldUnder l worker P made.0 (action_step w worker e now).0.members
-      pub answer : made.1 ≡ (action_step w worker e now).1
+      pub held : AreHeldUnder l worker P made.0 (step w worker e now).0.members
+      pub answer : made.1 ≡ (step w worker e now).1
 
     pub made_in_slots : (e : Event) → IsPossible w worker e now → locks_of w e ≡ l ∷ [] → action_of e (seen_off worker now w.settings (option_map standing_of (named_by w e))) ≡ action_at e l →
         FollowsUnder l worker P IsEmpty (action_at e l).parts → IsMadeOfSlots e (made_of_slots e (option_map standing_of (named_by w e)))
@@ -206,8 +206,8 @@ module _ (v : WorldValue) (w : World) (worker now : ℕ) (shows : Shows v w) whe
         subst (λ (x : Settings). IsMadeOfSlots e (action_in_slots v.settings now (action_of e (seen_off worker now x (option_map standing_of (named_by w e)))) h)) (sym shows.settings)
         (subst (λ (x : Action). IsMadeOfSlots e (action_in_slots v.settings now x h)) (sym same) (record {
           held =
-              subst (λ (ls : List ℕ). AreHeldUnder l worker P (parts_in_slots v.settings now a.parts h) (action_step_under ls w worker e now).0.members) (sym locks) both.held;
-          answer = ap a.reply both.answer ∙ sym (ap (λ (ls : List ℕ). (action_step_under ls w worker e now).1) locks);
+              subst (λ (ls : List ℕ). AreHeldUnder l worker P (parts_in_slots v.settings now a.parts h) (step_under_locks ls w worker e now).0.members) (sym locks) both.held;
+          answer = ap a.reply both.answer ∙ sym (ap (λ (ls : List ℕ). (step_under_locks ls w worker e now).1) locks);
         }))
       where
         a : Action
@@ -225,7 +225,7 @@ module _ (v : WorldValue) (w : World) (worker now : ℕ) (shows : Shows v w) whe
   made_on_chain : (e : Event) (l : ℕ) (c : ChainValue) → IsPossible w worker e now → locks_of w e ≡ l ∷ [] → IsChainOf w l c → NamesAlike e (chain c) →
       action_of e (seen_off worker now w.settings (option_map standing_of (named_by w e))) ≡ action_at e l → FollowsUnder l worker (IsAsleepOn c.number) IsEmpty (action_at e l).parts → IsMadeBy e l (chain c)
   made_on_chain e l c possible locks is names same here =
-      subst (λ (named : Option Standing). IsMadeFor (action_step w worker e now).0 worker l (action_step w worker e now).1 (action_step_held named v.settings worker e now (held_by v worker) (chain c))) (sym names)
+      subst (λ (named : Option Standing). IsMadeFor (step w worker e now).0 worker l (step w worker e now).1 (action_step_held named v.settings worker e now (held_by v worker) (chain c))) (sym names)
       (let made = made_in_slots l (IsAsleepOn c.number) (λ x r so. record { channel = so.channel; place = so.place; chain = so.chain }) c.slots
       (record { these = is.under; count = is.slots; each = is.asleep }) e possible locks same here in record {
         value = record { number = is.number; small = is.small; slots = made.held.slots.count; under = made.held.slots.these; asleep = made.held.slots.each };
@@ -237,7 +237,7 @@ module _ (v : WorldValue) (w : World) (worker now : ℕ) (shows : Shows v w) whe
   made_in_limbo : (e : Event) (l : ℕ) (c : LimboValue) → IsPossible w worker e now → locks_of w e ≡ l ∷ [] → IsLimboOf w l c → NamesAlike e (limbo c) →
       action_of e (seen_off worker now w.settings (option_map standing_of (named_by w e))) ≡ action_at e l → FollowsUnder l worker IsStill IsEmpty (action_at e l).parts → IsMadeBy e l (limbo c)
   made_in_limbo e l c possible locks is names same here =
-      subst (λ (named : Option Standing). IsMadeFor (action_step w worker e now).0 worker l (action_step w worker e now).1 (action_step_held named v.settings worker e now (held_by v worker) (limbo c))) (sym names)
+      subst (λ (named : Option Standing). IsMadeFor (step w worker e now).0 worker l (step w worker e now).1 (action_step_held named v.settings worker e now (held_by v worker) (limbo c))) (sym names)
       (let made = made_in_slots l IsStill (λ x r so. so) c.slots (record { these = is.under; count = is.slots; each = is.still }) e possible locks same here in record {
         value = record { number = is.number; slots = made.held.slots.count; under = made.held.slots.these; still = made.held.slots.each };
         hand = made.held.hand;

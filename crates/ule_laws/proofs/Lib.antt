@@ -21,13 +21,11 @@ pub mod SleepLaws
 pub mod SleepCallLaws
 pub mod EventStands
 pub mod SameValues
-pub mod ChainSteps
 pub mod PartStands
 pub mod SlotStands
 pub mod CpuEvents
 pub mod CpuNumbers
 pub mod CpuChanges
-pub mod ChangeSteps
 pub mod StepLaws
 pub mod TellLaws
 pub mod StepConditions

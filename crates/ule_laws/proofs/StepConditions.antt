@@ -24,8 +24,8 @@ use Rattle.ule_sleep.specs.Limbo.{HasUnborn}
 use Rattle.ule_model.specs.World.{Member, World}
 use Rattle.ule_model.specs.WorldValue.{CanStep, Shows, StandsUnder, WorldValue, held_by, if_thread, lock_for, lock_with, standing_of}
 use Rattle.ule_members.proofs.Membership.{all_has, has_within}
+use Rattle.ule_members.proofs.Reach.{place_from_hand}
 use Rattle.ule_members.proofs.PlaceFinds.{thread_at_stands, thread_at_within, within_thread_at}
-use Rattle.ule_laws.proofs.ChainSteps.{place_from_hand_of}
 use Rattle.ule_laws.proofs.SeekLaws.{on_is_under}
 use Rattle.ule_laws.proofs.StepFrom.{IsAtEvent, slot_of}
 use Rattle.ule_laws.proofs.StepLaws.{IsSought, few_queues, sought_stands, unborn_stands}
@@ -59,7 +59,7 @@ not_under v w worker l r shows held = at_thread (thread_in_hand worker r.id w.me
     at_thread None is = absurd (none-some r (sym (some ∙ ap (option_map (λ (m : Member). m.thread)) is)))
     at_thread (Some m) is =
         thread_at_within (is_under l) r.id m w.members (within_thread_at (is_hand_of worker) r.id m w.members shows.made is) ∙
-        cond-false (is_under l m.place) (Some m) None (ap (is_under l) (place_from_hand_of m.place worker (number_from (hand_of m.place) (thread_at_stands (is_hand_of worker) r.id m w.members is))))
+        cond-false (is_under l m.place) (Some m) None (ap (is_under l) (place_from_hand worker m.place (number_from (hand_of m.place) (thread_at_stands (is_hand_of worker) r.id m w.members is))))
       where
         number_from : (o : Option ℕ) → is_number worker o ≡ true → o ≡ Some worker
         number_from None not = absurd (true≢false (sym not))

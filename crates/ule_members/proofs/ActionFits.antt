@@ -19,7 +19,7 @@ use Rattle.ule_types.specs.declared.event.Reply.{Reply}
 use Rattle.ule_types.specs.declared.event.Reply.TheVariants.{Bedded, Buried, Dropped, Exited, Hatched, NotAsleep, Nothing, Returned, Unmarked}
 use Rattle.ule_model.specs.Action.{Action, Part, answers, move}
 use Rattle.ule_model.specs.Actions.{Seen, action_of, change_action, change_action_at, fork_action, give_way_action, go_action, land_action, leave_action, note_action, requeue_action, switch_action, tick_action, unborn_action, wake_action, wake_action_at}
-use Rattle.ule_model.specs.ActionStep.{named_by, seen_on}
+use Rattle.ule_model.specs.ActionStep.{seen_under}
 use Rattle.ule_model.specs.Conditions.{IsByIfReached, IsPossible}
 use Rattle.ule_model.specs.Events.{lock_of_thread, locks_of}
 use Rattle.ule_model.specs.Frames.{IsParent, IsSoundIn}
@@ -35,7 +35,7 @@ use Rattle.ule_members.proofs.Reach.{IsHeld, IsUnbornIn, held_found, lock_where_
 use Rattle.ule_members.proofs.Threads.{current_runs, thread_of_within, within_current}
 
 -- a place where a thread runs on a CPU is that of its current thread
-running_at : (c : ℕ) (place : Place) → runs_on c place ≡ true → place ≡ Running c
+pub running_at : (c : ℕ) (place : Place) → runs_on c place ≡ true → place ≡ Running c
 running_at c (Running d) runs = ap (λ (x : ℕ). Running x) (sym (eqb-true c d runs))
 running_at c (Queued d k b) runs = absurd (both_ways false refl runs)
 running_at c (Asleep channel) runs = absurd (both_ways false refl runs)
@@ -44,7 +44,7 @@ running_at c Gone runs = absurd (both_ways false refl runs)
 running_at c (Hand w) runs = absurd (both_ways false refl runs)
 
 -- a lock among one is that one
-only_lock : (c l : ℕ) → is_among (c ∷ []) l ≡ true → c ≡ l
+pub only_lock : (c l : ℕ) → is_among (c ∷ []) l ≡ true → c ≡ l
 only_lock c l among =
     ⊎_elim (λ (same : (c == l) ≡ true). eqb-true c l same) (λ (other : false ≡ true). absurd (both_ways false refl other)) (or_cases (c == l) false among)
 
@@ -52,6 +52,24 @@ only_lock c l among =
 agree_none : (o : Option WordChange) → Agree o None
 agree_none None = tt
 agree_none (Some x) = tt
+
+-- a thread that stands under lock l
+pub record IsUnder (w : World) (t l : ℕ) : Type 0 where
+  pub member : Member
+  pub found : thread_of t w.members ≡ Some member
+  pub under : lock_of member.place ≡ Some l
+
+-- a thread that is sought under a lock stands there
+pub sought_under : (w : World) (t l : ℕ) → is_among (lock_of_thread w.members t) l ≡ true → IsUnder w t l
+sought_under w t l among = split (thread_of t w.members) refl among
+  where
+    at_lock : (m : Member) (o : Option ℕ) → thread_of t w.members ≡ Some m → lock_of m.place ≡ o → is_among (option_to_list o) l ≡ true → IsUnder w t l
+    at_lock m None found under is = absurd (both_ways false refl is)
+    at_lock m (Some k) found under is = record { member = m; found = found; under = under ∙ ap (λ (x : ℕ). Some x) (only_lock k l is) }
+
+    split : (o : Option Member) → thread_of t w.members ≡ o → is_among (option_to_list (option_and_then (λ (m : Member). lock_of m.place) o)) l ≡ true → IsUnder w t l
+    split None found is = absurd (both_ways false refl is)
+    split (Some m) found is = at_lock m (lock_of m.place) found refl is
 
 module _ (w : World) (worker now : ℕ) (made : IsWellMadeWorld w) where
   -- that parts follow from what is so in the world, under lock l
@@ -62,10 +80,6 @@ module _ (w : World) (worker now : ℕ) (made : IsWellMadeWorld w) where
   pub record IsFit (e : Event) (l : ℕ) (a : Action) : Type 0 where
     pub follows : AreFit e l a.parts
     pub word : (into : Option ℕ) → change_of e (a.reply into) ≡ word_of_parts l a.parts
-
-  -- what an event sees under lock l
-  abbrev pub seen : Event → ℕ → Seen
-  seen e l = seen_on l worker now (named_by w e) (side_of l w)
 
   -- an answer alone
   answer_fits : (e : Event) (l : ℕ) (r : Reply) → change_of e r ≡ None → IsFit e l (answers r)
@@ -92,32 +106,32 @@ module _ (w : World) (worker now : ℕ) (made : IsWellMadeWorld w) where
   abbrev thread_if : Option Member → Option ThreadRecord
   thread_if o = option_map (λ (m : Member). m.thread) o
 
-  tick_fits : (c : ℕ) (o : Option Member) → current_of c w.members ≡ o → IsFit (Tick c) c (tick_action (thread_if o) (seen (Tick c) c))
+  tick_fits : (c : ℕ) (o : Option Member) → current_of c w.members ≡ o → IsFit (Tick c) c (tick_action (thread_if o) (seen_under w worker now (Tick c) c))
   tick_fits c None found = record { follows = (tt, tt, tt); word = λ into. refl }
   tick_fits c (Some m) found =
       record { follows = (tt, tt, ((runs_there c m found, here (Tick c) c (Running c) (takes_itself c) refl, tt), tt, (tt, tt, tt))); word = λ into. refl }
 
   give_way_fits : (c : ℕ) (why : Why) (p : Bool) (o : Option Member) → current_of c w.members ≡ o →
-      IsFit (Switch c why) c (give_way_action p (thread_if o) (seen (Switch c why) c))
+      IsFit (Switch c why) c (give_way_action p (thread_if o) (seen_under w worker now (Switch c why) c))
   give_way_fits c why p None found = record { follows = (tt, tt, (found, tt, tt)); word = λ into. refl }
   give_way_fits c why p (Some m) found =
       let cur = runs_there c m found in let at = here (Switch c why) c (Running c) (takes_itself c) refl in
       record { follows = (tt, tt, ((cur, at, tt), tt, (tt, tt, ((cur, at, refl), tt, (refl, tt, tt))))); word = λ into. refl }
 
-  switch_fits : (c : ℕ) (why : Why) → IsFit (Switch c why) c (switch_action why (seen (Switch c why) c))
+  switch_fits : (c : ℕ) (why : Why) → IsFit (Switch c why) c (switch_action why (seen_under w worker now (Switch c why) c))
   switch_fits c why = if_asked (is_unasked why (side_of c w).line.resched)
     where
       p : Bool
       p = is_preemption why (side_of c w).line.slice_end
 
-      if_asked : (d : Bool) → IsFit (Switch c why) c (if d then answers Unmarked else give_way_action p (thread_if (current_of c w.members)) (seen (Switch c why) c))
+      if_asked : (d : Bool) → IsFit (Switch c why) c (if d then answers Unmarked else give_way_action p (thread_if (current_of c w.members)) (seen_under w worker now (Switch c why) c))
       if_asked true = answer_fits (Switch c why) c Unmarked refl
       if_asked false = give_way_fits c why p (current_of c w.members) refl
 
   -- an event by which the current thread leaves, if there is one, with this change of its record and this reply
   leave_fits : (e : Event) (c : ℕ) (change : RecordChange) (reply : ThreadRecord → Option ℕ → Reply) → is_among (locks_of w e) c ≡ true → IsSoundIn w now change →
       change_of e Nothing ≡ None → ((r : ThreadRecord) (into : Option ℕ) → change_of e (reply r into) ≡ Some (block r.id)) →
-      (o : Option Member) → current_of c w.members ≡ o → IsFit e c (leave_action change reply (thread_if o) (seen e c))
+      (o : Option Member) → current_of c w.members ≡ o → IsFit e c (leave_action change reply (thread_if o) (seen_under w worker now e c))
   leave_fits e c change reply among sound none word None found = answer_fits e c Nothing none
   leave_fits e c change reply among sound none word (Some m) found = record {
     follows = (
@@ -130,7 +144,7 @@ module _ (w : World) (worker now : ℕ) (made : IsWellMadeWorld w) where
 
   -- a fork makes the current thread the parent of the thread in hand
   fork_fits : (c t : ℕ) → AllByRecursion (IsByIfReached w worker (Fork c t) now) w.members → (o child : Option Member) → current_of c w.members ≡ o →
-      ((n : Member) → child ≡ Some n → StandsAt t (Hand worker) w.members) → IsFit (Fork c t) c (fork_action t (thread_if o) (option_map standing_of child) (seen (Fork c t) c))
+      ((n : Member) → child ≡ Some n → StandsAt t (Hand worker) w.members) → IsFit (Fork c t) c (fork_action t (thread_if o) (option_map standing_of child) (seen_under w worker now (Fork c t) c))
   fork_fits c t past None child found held = answer_fits (Fork c t) c Nothing refl
   fork_fits c t past (Some m) None found held = answer_fits (Fork c t) c Nothing refl
   fork_fits c t past (Some m) (Some child) found held =
@@ -171,33 +185,15 @@ module _ (w : World) (worker now : ℕ) (made : IsWellMadeWorld w) where
       (subst (λ (p : Place). IsFit e l (record { parts = move t p to ∷ []; reply = λ into. reply })) (sym at.place_is)
       (record { follows = ((at, acted, goes, way, place, off), agree_none (word_between t (lock_of from) (lock_of to)), tt); word = λ into. word }))
 
-  land_fits : (t c : ℕ) → StandsAt t (Hand worker) w.members → IsFit (Land t c) c (land_action t (option_map standing_of (thread_of t w.members)) (seen (Land t c) c))
+  land_fits : (t c : ℕ) → StandsAt t (Hand worker) w.members → IsFit (Land t c) c (land_action t (option_map standing_of (thread_of t w.members)) (seen_under w worker now (Land t c) c))
   land_fits t c held =
-      named_is t held.member (λ o. IsFit (Land t c) c (land_action t (option_map standing_of o) (seen (Land t c) c))) held.found
+      named_is t held.member (λ o. IsFit (Land t c) c (land_action t (option_map standing_of o) (seen_under w worker now (Land t c) c))) held.found
       (record { follows = ((held, in_hand (Land t c), tt), tt, ((held, in_hand (Land t c), tt), tt, (tt, tt, tt))); word = λ into. refl })
 
   -- ---- the thread that is sought
 
-  -- a thread that stands under lock l
-  record IsUnder (t l : ℕ) : Type 0 where
-    member : Member
-    found : thread_of t w.members ≡ Some member
-    under : lock_of member.place ≡ Some l
-
-  -- a thread that is sought under a lock stands there
-  sought_under : (t l : ℕ) → is_among (lock_of_thread w.members t) l ≡ true → IsUnder t l
-  sought_under t l among = split (thread_of t w.members) refl among
-    where
-      at_lock : (m : Member) (o : Option ℕ) → thread_of t w.members ≡ Some m → lock_of m.place ≡ o → is_among (option_to_list o) l ≡ true → IsUnder t l
-      at_lock m None found under is = absurd (both_ways false refl is)
-      at_lock m (Some k) found under is = record { member = m; found = found; under = under ∙ ap (λ (x : ℕ). Some x) (only_lock k l is) }
-
-      split : (o : Option Member) → thread_of t w.members ≡ o → is_among (option_to_list (option_and_then (λ (m : Member). lock_of m.place) o)) l ≡ true → IsUnder t l
-      split None found is = absurd (both_ways false refl is)
-      split (Some m) found is = at_lock m (lock_of m.place) found refl is
-
   wake_fits : (t l : ℕ) (m : Member) (place : Place) → is_among (locks_of w (Wake t)) l ≡ true → StandsAt t place w.members → lock_of place ≡ Some l →
-      IsFit (Wake t) l (wake_action_at place t m.thread (seen (Wake t) l))
+      IsFit (Wake t) l (wake_action_at place t m.thread (seen_under w worker now (Wake t) l))
   wake_fits t l m (Asleep channel) among at under = record {
     follows = (
       (at, here (Wake t) l (Asleep channel) among under, in_hand (Wake t), tt, tt, λ d. refl),
@@ -223,14 +219,14 @@ module _ (w : World) (worker now : ℕ) (made : IsWellMadeWorld w) where
     unborn_fits l (Some refusal) new among at under = answer_fits e l refusal (none refusal)
 
     change_fits : (l : ℕ) (place : Place) (r new : ThreadRecord) → is_among (locks_of w e) l ≡ true → StandsAt t place w.members → lock_of place ≡ Some l →
-        IsFit e l (change_action_at place given t r new (seen e l))
+        IsFit e l (change_action_at place given t r new (seen_under w worker now e l))
     change_fits l (Queued d k b) r new among at under = if_better (nat_lt new.priority r.priority)
       where
-        if_better : (better : Bool) → IsFit e l (if better then requeue_action (Queued d k b) given t new (seen e l) else note_action (Queued d k b) given t new)
+        if_better : (better : Bool) → IsFit e l (if better then requeue_action (Queued d k b) given t new (seen_under w worker now e l) else note_action (Queued d k b) given t new)
         if_better true =
             let acted = here e l (Queued d k b) among under in record {
               follows = ((at, acted, sound), tt, ((at, acted, same_Some d l under), tt, (tt, tt, tt)));
-              word = λ into. none ((requeue_action (Queued d k b) given t new (seen e l)).reply into);
+              word = λ into. none ((requeue_action (Queued d k b) given t new (seen_under w worker now e l)).reply into);
             }
         if_better false = note_fits l (Queued d k b) new among at under
     change_fits l (Running d) r new among at under = note_fits l (Running d) new among at under
@@ -240,20 +236,20 @@ module _ (w : World) (worker now : ℕ) (made : IsWellMadeWorld w) where
     change_fits l (Hand h) r new among at under = answer_fits e l Nothing (none Nothing)
 
     -- where it stands
-    changes_fit : (l : ℕ) → is_among (locks_of w e) l ≡ true → is_among (lock_of_thread w.members t) l ≡ true → IsFit e l (change_action given t (option_map standing_of (thread_of t w.members)) (seen e l))
+    changes_fit : (l : ℕ) → is_among (locks_of w e) l ≡ true → is_among (lock_of_thread w.members t) l ≡ true → IsFit e l (change_action given t (option_map standing_of (thread_of t w.members)) (seen_under w worker now e l))
     changes_fit l among under =
-        let s = sought_under t l under in
-        named_is t s.member (λ o. IsFit e l (change_action given t (option_map standing_of o) (seen e l))) s.found
+        let s = sought_under w t l under in
+        named_is t s.member (λ o. IsFit e l (change_action given t (option_map standing_of o) (seen_under w worker now e l))) s.found
         (change_fits l s.member.place s.member.thread (after_change w.settings given s.member.thread) among (record { member = s.member; found = s.found; place_is = refl }) s.under)
 
   -- ---- each event
 
   -- under the lock that it takes
-  under_own : (e : Event) (c l : ℕ) → is_among (c ∷ []) l ≡ true → IsFit e c (action_of e (seen e c)) → IsFit e l (action_of e (seen e l))
-  under_own e c l among = subst (λ (x : ℕ). IsFit e x (action_of e (seen e x))) (only_lock c l among)
+  under_own : (e : Event) (c l : ℕ) → is_among (c ∷ []) l ≡ true → IsFit e c (action_of e (seen_under w worker now e c)) → IsFit e l (action_of e (seen_under w worker now e l))
+  under_own e c l among = subst (λ (x : ℕ). IsFit e x (action_of e (seen_under w worker now e x))) (only_lock c l among)
 
   -- the action of an event that a worker can perform is fit, under each lock that it takes
-  pub event_fits : (e : Event) → IsPossible w worker e now → (l : ℕ) → is_among (locks_of w e) l ≡ true → IsFit e l (action_of e (seen e l))
+  pub event_fits : (e : Event) → IsPossible w worker e now → (l : ℕ) → is_among (locks_of w e) l ≡ true → IsFit e l (action_of e (seen_under w worker now e l))
   event_fits (Tick c) possible l among = under_own (Tick c) c l among (tick_fits c (current_of c w.members) refl)
   event_fits (Switch c why) possible l among = under_own (Switch c why) c l among (switch_fits c why)
   event_fits (Drop c channel) possible l among =
@@ -263,8 +259,8 @@ module _ (w : World) (worker now : ℕ) (made : IsWellMadeWorld w) where
       (go_fits (Bed t channel) (16 + channel % 8) t (Hand worker) (Asleep channel) Bedded (held_stands t (held_found w.members t worker possible.hand)) (in_hand (Bed t channel))
       (here (Bed t channel) (16 + channel % 8) (Asleep channel) (takes_itself (16 + channel % 8)) refl) tt tt (λ d. refl) refl)
   event_fits (Wake t) possible l among =
-      let s = sought_under t l among in
-      named_is t s.member (λ o. IsFit (Wake t) l (wake_action t (option_map standing_of o) (seen (Wake t) l))) s.found
+      let s = sought_under w t l among in
+      named_is t s.member (λ o. IsFit (Wake t) l (wake_action t (option_map standing_of o) (seen_under w worker now (Wake t) l))) s.found
       (wake_fits t l s.member s.member.place among (record { member = s.member; found = s.found; place_is = refl }) s.under)
   event_fits (Look c) possible l among = answer_fits (Look c) l Nothing refl
   event_fits (Land t c) possible l among = under_own (Land t c) c l among (land_fits t c (held_stands t (held_found w.members t worker possible.hand)))

@@ -27,7 +27,6 @@ use Rattle.ule_model.specs.World.{Member, Side, World, current_of, is_numbered, 
 use Rattle.ule_members.proofs.MadeWell.{IsApartFrom, apart_from_kept, apart_from_off, apart_from_queued, apart_from_running, well_made_put}
 use Rattle.ule_members.proofs.Membership.{has_thread_of}
 use Rattle.ule_members.proofs.Moves.{bucket_small, changed_by, choice_stands, current_of-between, moved_between, moved_member, moved_recorded_between, others_within, queued_member, recorded_between, within_has}
-use Rattle.ule_members.proofs.Done.{holder_after}
 use Rattle.ule_members.proofs.Reach.{among_where_under, lock_where_waits, no_hand_under, number_from_test, reached_by_lock}
 use Rattle.ule_members.proofs.Threads.{find_here, find_kept, find_mapped, thread_of-changed_same, thread_of_within}
 use Rattle.ule_members.proofs.Touches.{all_touched_further, comes_by_one, comes_number, comes_numbers, touched_between, touched_number, untouched}
@@ -66,6 +65,12 @@ word_then first (Some next) = Some next
 abbrev pub word_of_parts : ℕ → List Part → Option WordChange
 word_of_parts c [] = None
 word_of_parts c (p ∷ ps) = word_then (word_of_part c p) (word_of_parts c ps)
+
+-- the holder of thread u after a change of a word by an event of this worker, where this was it before
+abbrev pub holder_after : ℕ → Option WordChange → ℕ → Option ℕ → Option ℕ
+holder_after worker None u old = old
+holder_after worker (Some (block t)) u old = if u == t then Some worker else old
+holder_after worker (Some (point t l)) u old = if u == t then None else old
 
 -- ---- what parts need
 
@@ -129,6 +134,62 @@ known_after_all (p ∷ ps) known = known_after_all ps (known_after p known)
 abbrev pub idle_after_all : ℕ → List Part → Type 0 → Type 0
 idle_after_all c [] idle = idle
 idle_after_all c (p ∷ ps) idle = idle_after_all c ps (idle_after c p idle)
+
+-- what is known is so
+abbrev pub IsKnown : Known → List Member → Type 0
+IsKnown known ms = (t : ℕ) (place : Place) → known t place → StandsAt t place ms
+
+-- a thread stands where it stood after a change of a record
+note_stands : (settings : Settings) (now t u : ℕ) (change : RecordChange) (place : Place) (ms : List Member) → StandsAt u place ms →
+    StandsAt u place (with_change settings now t change ms)
+note_stands settings now t u change place ms at = record {
+  member = new at.member;
+  found = find_mapped (is_numbered u) new numbered ms ∙ ap (option_map new) at.found;
+  place_is = cond_both (is_numbered t at.member) (changed_by settings now change at.member) at.member (λ z. z.place ≡ place) (λ here. at.place_is) (λ other. at.place_is);
+}
+  where
+    new : Member → Member
+    new x = if is_numbered t x then changed_by settings now change x else x
+
+    numbered : (x : Member) → is_numbered u (new x) ≡ is_numbered u x
+    numbered x =
+        cond_both (is_numbered t x) (changed_by settings now change x) x (λ z. is_numbered u z ≡ is_numbered u x)
+        (λ here. ap (λ (i : ℕ). i == u) (change_number settings now change x.thread)) (λ other. refl)
+
+-- a thread that goes to a place stands there
+move_stands : (t : ℕ) (from to : Place) (ms : List Member) → StandsAt t from ms → StandsAt t to (moved_to t to (pos 0) ms)
+move_stands t from to ms at = record {
+  member = moved_member to (pos 0) at.member;
+  found = thread_of-changed_same t (moved_member to (pos 0)) ms (λ x. refl) ∙ ap (option_map (moved_member to (pos 0))) at.found;
+  place_is = refl;
+}
+
+-- what is to be known of the thread that a part moves
+abbrev pub HasMover : Part → Known → Type 0
+HasMover (note t place change) known = Unit {0}
+HasMover (move t from to) known = known t from
+HasMover (insert t from how) known = Unit {0}
+HasMover choose known = Unit {0}
+HasMover clear_marks known = Unit {0}
+HasMover count_switch known = Unit {0}
+HasMover (mark_if takes) known = Unit {0}
+HasMover (end_slice_if ended) known = Unit {0}
+HasMover clock known = Unit {0}
+
+-- what is known after a part is so
+pub known_then : (c now : ℕ) (p : Part) (known : Known) (s : Side) (into : Option ℕ) → IsKnown known s.members → HasMover p known →
+    IsKnown (known_after p known) (part_done c now p (s, into)).0.members
+known_then c now (note t place change) known s into is mover u at here = note_stands s.settings now t u change at s.members (is u at here)
+known_then c now (move t from to) known s into is mover u at here =
+    subst (λ (x : ℕ). StandsAt x at (moved_to t to (pos 0) s.members)) (sym here.0)
+    (subst (λ (x : Place). StandsAt t x (moved_to t to (pos 0) s.members)) (sym here.1) (move_stands t from to s.members (is t from mover)))
+known_then c now (insert t from how) known s into is mover u at here = absurd here
+known_then c now choose known s into is mover u at here = absurd here
+known_then c now clear_marks known s into is mover u at here = is u at here
+known_then c now count_switch known s into is mover u at here = is u at here
+known_then c now (mark_if takes) known s into is mover u at here = is u at here
+known_then c now (end_slice_if ended) known s into is mover u at here = is u at here
+known_then c now clock known s into is mover u at here = is u at here
 
 module _ (w : World) (worker : ℕ) (e : Event) (now : ℕ) where
   -- ---- what is shown
@@ -322,7 +383,7 @@ module _ (w : World) (worker : ℕ) (e : Event) (now : ℕ) where
       pub settings : s.settings ≡ w.settings
       pub made : IsWellMade s.members
       pub index : s.line.ridx < 64
-      pub stands : (t : ℕ) (place : Place) → known t place → StandsAt t place s.members
+      pub stands : IsKnown known s.members
       pub none : idle → current_of c s.members ≡ None
 
     -- ---- the parts
@@ -362,15 +423,6 @@ module _ (w : World) (worker : ℕ) (e : Event) (now : ℕ) where
       move_idle to off ran =
           ap (λ (u : ℕ). current_of c (moved_to u to (pos 0) ms)) (sym own_number) ∙ ap (current_of c) (moved_between own ms own_within to (pos 0)) ∙
           current_of-between c own (moved_member to (pos 0) own) ms own_within (ap (runs_on c) (at.place_is ∙ ran) ∙ eq-eqb c c refl) (or_parts (runs_on c to) (waits_on c to) (off c)).0
-
-      -- and it stands there
-      move_stands : (to : Place) → StandsAt t to (moved_to t to (pos 0) ms)
-      move_stands to = record {
-        member = moved_member to (pos 0) own;
-        found =
-            thread_of-changed_same t (moved_member to (pos 0)) ms (λ x. refl) ∙ ap (option_map (moved_member to (pos 0))) at.found;
-        place_is = refl;
-      }
 
     -- ---- a queue
 
@@ -431,22 +483,7 @@ module _ (w : World) (worker : ℕ) (e : Event) (now : ℕ) where
 
     -- ---- what is known, after a change of a record
 
-    note_stands : (settings : Settings) (t u : ℕ) (change : RecordChange) (place : Place) (ms : List Member) → StandsAt u place ms →
-        StandsAt u place (with_change settings now t change ms)
-    note_stands settings t u change place ms at = record {
-      member = new at.member;
-      found = find_mapped (is_numbered u) new numbered ms ∙ ap (option_map new) at.found;
-      place_is = cond_both (is_numbered t at.member) (changed_by settings now change at.member) at.member (λ z. z.place ≡ place) (λ here. at.place_is) (λ other. at.place_is);
-    }
-      where
-        new : Member → Member
-        new x = if is_numbered t x then changed_by settings now change x else x
-
-        numbered : (x : Member) → is_numbered u (new x) ≡ is_numbered u x
-        numbered x =
-            cond_both (is_numbered t x) (changed_by settings now change x) x (λ z. is_numbered u z ≡ is_numbered u x)
-            (λ here. ap (λ (i : ℕ). i == u) (change_number settings now change x.thread)) (λ other. refl)
-
+    -- none runs after it where none ran
     note_idle : (settings : Settings) (t : ℕ) (change : RecordChange) (ms : List Member) → current_of c ms ≡ None → current_of c (with_change settings now t change ms) ≡ None
     note_idle settings t change ms none =
         find_mapped (λ x. runs_on c x.place) (λ x. if is_numbered t x then changed_by settings now change x else x)
@@ -481,7 +518,7 @@ module _ (w : World) (worker : ℕ) (e : Event) (now : ℕ) where
             settings = ready.settings;
             made = done.made;
             index = ready.index;
-            stands = λ u at is. note_stands s.settings t u change at s.members (ready.stands u at is);
+            stands = known_then c now (note t place change) known s into ready.stands tt;
             none = λ is. note_idle s.settings t change s.members (ready.none is);
           };
         }
@@ -493,9 +530,7 @@ module _ (w : World) (worker : ℕ) (e : Event) (now : ℕ) where
             settings = ready.settings;
             made = done.made;
             index = (part_kept c now (move t from to) s into).index ready.index;
-            stands = λ u place is.
-                subst (λ (x : ℕ). StandsAt x place (moved_to t to (pos 0) s.members)) (sym is.0)
-                (subst (λ (x : Place). StandsAt t x (moved_to t to (pos 0) s.members)) (sym is.1) (move_stands t from s.members ready.made at to));
+            stands = known_then c now (move t from to) known s into ready.stands needs.0;
             none = λ ran. move_idle t from s.members ready.made at to needs.5 ran;
           };
         }

@@ -1,5 +1,6 @@
--- The step of an event as its action by what the event sees: on a world, and on the value under one lock and the hand.
-use Rattle.std.specs.Prelude.{ℕ, not, ◌==◌, List, [], ◌∷◌, Option, Some, None, option_and_then}
+-- What an event sees: the thread that it names, and what is under its lock, in a world and as a value; and the step of an event on
+-- the value under one lock and the worker's hand, as its action by what it sees there.
+use Rattle.std.specs.Prelude.{ℕ, not, ◌==◌, Option, Some, None, option_and_then}
 use Rattle.std.specs.Option.{option_map}
 use Rattle.ule_score.specs.declared.place.Place.TheVariants.{Hand}
 use Rattle.ule_score.specs.declared.record.Settings.{Settings}
@@ -10,16 +11,14 @@ use Rattle.ule_threads.specs.declared.standing.Standing.{Standing}
 use Rattle.ule_types.specs.declared.event.Event.{Event}
 use Rattle.ule_types.specs.declared.event.Reply.{Reply}
 use Rattle.ule_types.specs.declared.event.Reply.TheVariants.{Nothing}
-use Rattle.ule_model.specs.Action.{action_done}
 use Rattle.ule_model.specs.Actions.{Seen, action_of}
 use Rattle.ule_model.specs.ActionValue.{HandAndCpu, HandAndSlots, action_in_slots, action_on_cpu}
 use Rattle.ule_model.specs.CpuValue.{CpuValue, current_in}
-use Rattle.ule_model.specs.Events.{Handling, Locking, any, empty, handling, has, locking, locks_of, place_of, unborn}
+use Rattle.ule_model.specs.Events.{Handling, Locking, any, empty, handling, has, locking, place_of, unborn}
 use Rattle.ule_model.specs.Landing.{current_record}
 use Rattle.ule_model.specs.LockValue.{LockValue, queue, chain, limbo, nothing, found_in}
-use Rattle.ule_model.specs.Step.{Stepped, kept}
 use Rattle.ule_model.specs.Tick.{load_of}
-use Rattle.ule_model.specs.World.{Member, Side, World, fresh_line, on_side, side_of, standing_of, thread_of}
+use Rattle.ule_model.specs.World.{Member, Side, World, fresh_line, side_of, standing_of, thread_of}
 
 -- ---- on a world
 
@@ -53,14 +52,9 @@ seen_on c worker now named s = record {
 abbrev pub bare_side : World → Side
 bare_side w = record { settings = w.settings; members = w.members; line = fresh_line; balance_word = w.balance_word }
 
--- the step under these locks: an event whose thread is under none changes nothing
-abbrev pub action_step_under : List ℕ → World → ℕ → Event → ℕ → World × Reply
-action_step_under [] w worker e now = (w, (action_of e (seen_on 0 worker now (named_by w e) (bare_side w))).reply None)
-action_step_under (l ∷ ls) w worker e now = on_side l (action_done l now (action_of e (seen_on l worker now (named_by w e) (side_of l w)))) w
-
--- the step
-abbrev pub action_step : World → ℕ → Event → ℕ → World × Reply
-action_step w worker e now = action_step_under (locks_of w e) w worker e now
+-- what an event of a worker sees under lock l
+abbrev pub seen_under : World → ℕ → ℕ → Event → ℕ → Seen
+seen_under w worker now e l = seen_on l worker now (named_by w e) (side_of l w)
 
 -- ---- under one lock
 
@@ -99,6 +93,16 @@ seen_off worker now settings named = record {
   current = None;
   named = named;
 }
+
+-- what an event makes of the hand, the value and the reply
+pub record Stepped : Type 0 where
+  pub hand : Option ThreadRecord
+  pub value : LockValue
+  pub reply : Reply
+
+-- nothing changes
+abbrev pub kept : Option ThreadRecord → LockValue → Reply → Stepped
+kept hand value reply = record { hand = hand; value = value; reply = reply }
 
 -- what was made of the hand and the value, and the reply
 abbrev pub on_queue : HandAndCpu × Reply → Stepped

@@ -5,7 +5,6 @@ use Rattle.std.specs.Option.{option_map}
 use Rattle.ule_prio.specs.declared.kind.Kind.TheVariants.{Batch}
 use Rattle.ule_score.specs.declared.place.Place.TheVariants.{Queued}
 use Rattle.ule_score.specs.declared.record.CpuLine.{CpuLine}
-use Rattle.ule_score.specs.declared.record.Why.{Why}
 use Rattle.ule_types.specs.declared.command.Command.{Command}
 use Rattle.ule_types.specs.declared.event.Entry.{Entry}
 use Rattle.ule_types.specs.declared.event.Event.{Event}
@@ -13,16 +12,18 @@ use Rattle.ule_types.specs.declared.event.Event.TheVariants as event
 use Rattle.ule_types.specs.declared.event.Reply.{Reply}
 use Rattle.ule_types.specs.declared.event.Reply.TheVariants.{Ticked, Unmarked, Nothing, Switched, Dropped, Bedded, NotAsleep, Woken, Seen, Landed, Moved, NoneMovable, Changed, NotAllowed, Hatched, Forked, Returned, Exited, Buried, ParentGone}
 use Rattle.ule_types.specs.declared.setup.Setup.{Setup}
+use Rattle.ule_model.specs.Action.{Part, choose, clear_marks, clock, count_switch, end_slice_if, insert, mark_if, move, note, part_done}
+use Rattle.ule_model.specs.Actions.{action_of}
+use Rattle.ule_model.specs.ActionStep.{seen_under}
 use Rattle.ule_model.specs.CalendarIndexes.{distance_of}
-use Rattle.ule_model.specs.Events.{sought_by}
+use Rattle.ule_model.specs.Events.{locks_of, sought_by}
 use Rattle.ule_model.specs.Insertion.{members_in}
 use Rattle.ule_model.specs.Legal.{IsLegal, after_entry, replayed}
 use Rattle.ule_model.specs.Places.{is_number}
 use Rattle.ule_model.specs.Start.{world_at_start}
-use Rattle.ule_model.specs.Switch.{given_way, is_preemption, unmarked}
 use Rattle.ule_model.specs.Throughout.{HoldsOfEach, HoldsThroughout}
 use Rattle.ule_model.specs.Words.{moved_by}
-use Rattle.ule_model.specs.World.{Member, Side, World, current_of, side_of, thread_of}
+use Rattle.ule_model.specs.World.{Member, Side, World, side_of, thread_of}
 
 -- ---- a calendar in a world
 
@@ -214,37 +215,32 @@ turning_ticks c w (e ∷ es) = (if is_turning c w e then 1 else 0) + turning_tic
 
 -- ---- the choice
 
--- the side of CPU c where this current thread, if there is one, has given way for this reason
-abbrev pub side_of_switch : Option Member → ℕ → Why → ℕ → Side → Side
-side_of_switch None c why now s = unmarked s
-side_of_switch (Some m) c why now s = given_way c (is_preemption why s.line.slice_end) now m.thread.id (unmarked s)
+-- the side from which these parts choose the next thread, if they do
+abbrev pub choosing_from : ℕ → ℕ → List Part → Side × Option ℕ → Option Side
+choosing_from c now [] at = None
+choosing_from c now (choose ∷ ps) (s, into) = Some s
+choosing_from c now (note t place change ∷ ps) at = choosing_from c now ps (part_done c now (note t place change) at)
+choosing_from c now (move t from to ∷ ps) at = choosing_from c now ps (part_done c now (move t from to) at)
+choosing_from c now (insert t from how ∷ ps) at = choosing_from c now ps (part_done c now (insert t from how) at)
+choosing_from c now (clear_marks ∷ ps) at = choosing_from c now ps (part_done c now clear_marks at)
+choosing_from c now (count_switch ∷ ps) at = choosing_from c now ps (part_done c now count_switch at)
+choosing_from c now (mark_if takes ∷ ps) at = choosing_from c now ps (part_done c now (mark_if takes) at)
+choosing_from c now (end_slice_if ended ∷ ps) at = choosing_from c now ps (part_done c now (end_slice_if ended) at)
+choosing_from c now (clock ∷ ps) at = choosing_from c now ps (part_done c now clock at)
 
--- the side of CPU c from which an event of the CPU chooses the next thread; a thread that a drop or an exit takes off the
--- CPU stands in no queue before
-abbrev pub choosing_side : ℕ → World → Event → ℕ → Option Side
-choosing_side c w (event.Switch d why) now =
-    if c == d then Some (side_of_switch (current_of c w.members) c why now (side_of c w)) else None
-choosing_side c w (event.Drop d channel) now = if c == d then Some (side_of c w) else None
-choosing_side c w (event.Exit d) now = if c == d then Some (side_of c w) else None
-choosing_side c w (event.Tick d) now = None
-choosing_side c w (event.Bed t channel) now = None
-choosing_side c w (event.Wake t) now = None
-choosing_side c w (event.Look d) now = None
-choosing_side c w (event.Land t d) now = None
-choosing_side c w (event.Move a b why) now = None
-choosing_side c w (event.Lend t p) now = None
-choosing_side c w (event.Unlend t) now = None
-choosing_side c w (event.Renice t n) now = None
-choosing_side c w (event.Hatch t) now = None
-choosing_side c w (event.Fork d t) now = None
-choosing_side c w (event.Return t) now = None
-choosing_side c w (event.Bury t) now = None
-choosing_side c w (event.Inherit t run) now = None
+-- this, where lock c is the first of these
+abbrev pub if_first : ℕ → List ℕ → Option Side → Option Side
+if_first c [] s = None
+if_first c (l ∷ ls) s = if c == l then s else None
+
+-- the side of CPU c from which an event of a worker chooses the next thread, if it does
+abbrev pub choosing_side : ℕ → World → ℕ → Event → ℕ → Option Side
+choosing_side c w worker e now = if_first c (locks_of w e) (choosing_from c now (action_of e (seen_under w worker now e c)).parts (side_of c w, None))
 
 -- a thread that an entry chose from CPU c's calendar stood there no farther from the removal index than bucket b
 abbrev pub ChoosesNoFarther : (c b : ℕ) → World → Entry → Type 0
 ChoosesNoFarther c b w e =
-    (s : Side) (u a : ℕ) → choosing_side c w e.event e.now ≡ Some s → chosen_by e.reply ≡ Some u → IsInBucket c a u s.members →
+    (s : Side) (u a : ℕ) → choosing_side c w e.worker e.event e.now ≡ Some s → chosen_by e.reply ≡ Some u → IsInBucket c a u s.members →
     distance_of s.line.ridx a ≤ distance_of s.line.ridx b
 
 -- ---- a stretch

@@ -11,11 +11,11 @@ pub mod Landing
 pub mod Birth
 pub mod Events
 pub mod Words
-pub mod Step
 pub mod Action
 pub mod Actions
 pub mod ActionValue
 pub mod ActionStep
+pub mod Step
 pub mod Program
 pub mod Rounds
 pub mod Finals

@@ -1,18 +1,20 @@
 -- The step of the sequential scheduler: what each event does to the world, and what it does to the value under its
 -- lock and the worker's hand; and what it answers.
-use Rattle.std.specs.Prelude.{ℕ, false, not, ◌==◌, Option, Some, None}
+use Rattle.std.specs.Prelude.{ℕ, false, not, ◌==◌, List, [], ◌∷◌, Option, Some, None}
 use Rattle.ule_types.specs.declared.event.Event.{Event}
 use Rattle.ule_types.specs.declared.event.Event.TheVariants.{Tick, Switch, Drop, Bed, Wake, Look, Land, Move, Lend, Unlend, Renice, Hatch, Fork, Return, Exit, Bury, Inherit}
 use Rattle.ule_types.specs.declared.event.Reply.{Reply}
 use Rattle.ule_types.specs.declared.event.Reply.TheVariants.{Nothing, Dropped, Bedded, NotAsleep, Landed, Changed, Hatched, Returned, Buried}
-use Rattle.ule_model.specs.Birth.{buried, exited, exited_reply, hatched, returned}
+use Rattle.ule_model.specs.Action.{action_done}
+use Rattle.ule_model.specs.Actions.{action_of}
+pub use Rattle.ule_model.specs.ActionStep.{Stepped, kept}
+use Rattle.ule_model.specs.ActionStep.{action_lock_step, bare_side, named_by, seen_on, seen_under}
+use Rattle.ule_model.specs.Birth.{exited_reply}
+use Rattle.ule_model.specs.Events.{locks_of}
 use Rattle.ule_model.specs.CpuChange.{forked_reply, value_changed, value_forked}
-use Rattle.ule_model.specs.Landing.{landed}
-use Rattle.ule_model.specs.Sleep.{bedded, dropped, woken, woken_reply}
-use Rattle.ule_model.specs.Switch.{switched}
-use Rattle.ule_model.specs.Tick.{ticked}
-use Rattle.ule_model.specs.PriorityChange.{forked_on, gone_answer, thread_changed, unborn_answer}
-use Rattle.ule_model.specs.World.{World, on_members, on_side}
+use Rattle.ule_model.specs.Sleep.{woken_reply}
+use Rattle.ule_model.specs.PriorityChange.{gone_answer, unborn_answer}
+use Rattle.ule_model.specs.World.{World, on_side}
 use Rattle.ule_prio.specs.Kind.{kind_at}
 use Rattle.ule_score.specs.Changes.{after_change, ran, record_after, sleeps, woken as woken_change}
 use Rattle.ule_score.specs.declared.place.Place.{Place}
@@ -30,43 +32,18 @@ use Rattle.ule_model.specs.LockValue.{LockValue, queue, chain, limbo, nothing, f
 
 -- ---- the step on a world
 
--- an event that has no step yet changes nothing; no command makes one
-abbrev pub not_built : World → World × Reply
-not_built w = (w, Nothing)
+-- the step under these locks: an event whose thread is under none changes nothing
+abbrev pub step_under_locks : List ℕ → World → ℕ → Event → ℕ → World × Reply
+step_under_locks [] w worker e now = (w, (action_of e (seen_on 0 worker now (named_by w e) (bare_side w))).reply None)
+step_under_locks (l ∷ ls) w worker e now = on_side l (action_done l now (action_of e (seen_under w worker now e l))) w
 
 -- the step
 abbrev pub step : World → ℕ → Event → ℕ → World × Reply
-step w worker (Tick c) now = on_side c (ticked c now) w
-step w worker (Switch c why) now = on_side c (switched c why now) w
-step w worker (Drop c channel) now = on_side c (dropped c worker now) w
-step w worker (Bed t channel) now = on_members (bedded t channel) w
-step w worker (Wake t) now = on_members (woken t worker now w.settings) w
-step w worker (Look c) now = not_built w
-step w worker (Land t c) now = on_side c (landed t c worker now) w
-step w worker (Move a b why) now = not_built w
-step w worker (Lend t p) now = thread_changed t (change.Lend p) worker w
-step w worker (Unlend t) now = thread_changed t change.Unlend worker w
-step w worker (Renice t n) now = thread_changed t (change.Renice n) worker w
-step w worker (Hatch t) now = on_members (hatched t worker) w
-step w worker (Fork c t) now = on_side c (forked_on c t now) w
-step w worker (Return t) now = on_members (returned t) w
-step w worker (Exit c) now = on_side c (exited c worker now) w
-step w worker (Bury t) now = on_members (buried t) w
-step w worker (Inherit t run) now = thread_changed t (change.Inherit run) worker w
+step w worker e now = step_under_locks (locks_of w e) w worker e now
 
 -- ---- the step under a lock
 
--- what an event makes of the hand, the value and the reply
-pub record Stepped : Type 0 where
-  pub hand : Option ThreadRecord
-  pub value : LockValue
-  pub reply : Reply
-
 -- ---- the events of a CPU
-
--- nothing changes
-abbrev pub kept : Option ThreadRecord → LockValue → Reply → Stepped
-kept hand value reply = record { hand = hand; value = value; reply = reply }
 
 -- an event that leaves the hand
 abbrev pub queue_stepped : Option ThreadRecord → CpuValue × Reply → Stepped
@@ -225,10 +202,7 @@ limbo_step settings (Inherit t run) hand v = limbo_changed settings (change.Inhe
 
 -- the step of an event under one lock
 abbrev pub lock_step : Settings → ℕ → Event → ℕ → Option ThreadRecord → LockValue → Stepped
-lock_step settings worker e now hand (queue v) = queue_step worker e now hand v
-lock_step settings worker e now hand (chain v) = chain_step settings e now hand v
-lock_step settings worker e now hand (limbo v) = limbo_step settings e hand v
-lock_step settings worker e now hand nothing = kept hand nothing Nothing
+lock_step settings worker e now hand value = action_lock_step settings worker e now hand value
 
 -- the step of an event under two locks: no event under two has one yet
 abbrev pub pair_step : Settings → ℕ → Event → ℕ → LockValue → LockValue → LockValue × LockValue × Reply
