@@ -27,6 +27,7 @@ use Rattle.ule_model.specs.ActionValue.{action_in_slots, action_on_cpu}
 use Rattle.ule_model.specs.CpuChange.{kind_queued, value_changed, value_changed_from, value_followed, value_forked_from, value_forked_with, forked_reply, value_recorded, value_requeued}
 use Rattle.ule_model.specs.CpuValue.{CpuValue, Taken, chosen_next, current_in, inserted, inserted_thread, removed_from, takes_over_in, thread_in, value_clocked, value_switched, value_switched_from, value_taken, value_taken_from, value_taken_with, value_ticked, value_ticked_with, without_current, without_marks}
 use Rattle.ule_model.specs.Landing.{current_priority, marked_if}
+use Rattle.ule_model.specs.LockConditions.{IsOnCpu, IsPlacedOn, queue_kind}
 use Rattle.ule_model.specs.LockValue.{chain, found_on, limbo, queue}
 use Rattle.ule_model.specs.PriorityChange.{unborn_answer}
 use Rattle.ule_model.specs.Step.{Stepped, chain_bedded, chain_changed, chain_woken, kept, limbo_buried, limbo_changed, limbo_changed_at, limbo_changed_unborn, limbo_hatched, limbo_returned, not_asleep, queue_forked, queue_landed, queue_stepped}
@@ -34,31 +35,12 @@ use Rattle.ule_model.specs.Sleep.{woken_reply}
 use Rattle.ule_model.specs.declared.insertion.Insertion.TheVariants.{Borrowing}
 use Rattle.ule_model.specs.Switch.{is_preemption, is_unasked}
 use Rattle.ule_model.specs.Tick.{is_due}
-use Rattle.ule_laws.proofs.PartStands.{IsOnCpu}
 use Rattle.ule_laws.proofs.SleepLaws.{IsStill}
 
 -- the thread that left, if one did, goes to the hand, and it is answered so
 abbrev pub stepped_left : (ThreadRecord → Option ℕ → Reply) → Option ThreadRecord → CpuValue × Option Taken → Stepped
 stepped_left reply hand (made, None) = kept hand (queue made) Nothing
 stepped_left reply hand (made, Some out) = record { hand = Some out.thread; value = queue made; reply = reply out.thread out.into }
-
--- the kind of the queue of a place on a CPU
-abbrev pub queue_kind : Place → Option Kind
-queue_kind (Running c) = None
-queue_kind (Queued c k b) = Some k
-queue_kind (Asleep channel) = None
-queue_kind Unborn = None
-queue_kind Gone = None
-queue_kind (Hand w) = None
-
--- a CPU has thread t at this place, with this record: in the queue of its kind, where another thread runs, or as the current one
-pub record IsPlacedOn (v : CpuValue) (t : ℕ) (r : ThreadRecord) (p : Place) : Type 0 where
-  pub found : found_on v t ≡ Some (record { thread = r; place = p })
-  pub record_is : thread_in v t ≡ Some r
-  pub number : r.id ≡ t
-  pub small : t < length v.threads
-  pub kind : kind_queued v t ≡ queue_kind p
-  pub apart : (k : Kind) → queue_kind p ≡ Some k → v.current ≢ Some t
 
 -- ---- on a CPU
 
@@ -147,16 +129,16 @@ module _ (worker now : ℕ) (hand : Option ThreadRecord) (v : CpuValue) where
             forked_with o = let done = value_forked_with o r.id now child v in record { hand = Some done.child; value = queue done.value; reply = forked_reply done.parent done.child }
 
   -- a wake of a thread on the CPU
-  pub wake_same : (t : ℕ) (r : ThreadRecord) (p : Place) → IsPlacedOn v t r p → ((channel : ℕ) → p ≢ Asleep channel) → acts (wake_action t (found_on v t) (seen (found_on v t))) ≡ kept hand (queue v) (not_asleep (found_on v t))
-  wake_same t r p is awake = ap (λ (o : Option Standing). acts (wake_action t o (seen (found_on v t)))) is.found ∙ at_place p awake ∙ ap (λ (o : Option Standing). kept hand (queue v) (not_asleep o)) (sym is.found)
+  pub wake_same : (t : ℕ) (r : ThreadRecord) (p : Place) → IsPlacedOn v t r p → acts (wake_action t (found_on v t) (seen (found_on v t))) ≡ kept hand (queue v) (not_asleep (found_on v t))
+  wake_same t r p is = ap (λ (o : Option Standing). acts (wake_action t o (seen (found_on v t)))) is.found ∙ at_place p is.on ∙ ap (λ (o : Option Standing). kept hand (queue v) (not_asleep o)) (sym is.found)
     where
-      at_place : (p : Place) → ((channel : ℕ) → p ≢ Asleep channel) → acts (wake_action t (Some (record { thread = r; place = p })) (seen (found_on v t))) ≡ kept hand (queue v) (not_asleep (Some (record { thread = r; place = p })))
-      at_place (Running c) awake = refl
-      at_place (Queued c k b) awake = refl
-      at_place (Asleep channel) awake = absurd (awake channel refl)
-      at_place Unborn awake = refl
-      at_place Gone awake = refl
-      at_place (Hand w) awake = refl
+      at_place : (p : Place) → IsOnCpu v.cpu p → acts (wake_action t (Some (record { thread = r; place = p })) (seen (found_on v t))) ≡ kept hand (queue v) (not_asleep (Some (record { thread = r; place = p })))
+      at_place (Running c) on = refl
+      at_place (Queued c k b) on = refl
+      at_place (Asleep channel) on = absurd on
+      at_place Unborn on = absurd on
+      at_place Gone on = absurd on
+      at_place (Hand w) on = absurd on
 
   -- a change of a thread on the CPU
   module _ (given : Change) (t : ℕ) (r : ThreadRecord) where
@@ -224,9 +206,9 @@ module _ (worker now : ℕ) (hand : Option ThreadRecord) (v : CpuValue) where
     place_same Gone is on = absurd on
     place_same (Hand w) is on = absurd on
 
-    pub change_same : (p : Place) → IsPlacedOn v t r p → IsOnCpu v.cpu p → acts (change_action given t (found_on v t) (seen (found_on v t))) ≡ queue_stepped hand (value_changed t given remote v)
-    change_same p is on =
-        ap (λ (o : Option Standing). acts (change_action given t o (seen (found_on v t)))) is.found ∙ place_same p is on ∙
+    pub change_same : (p : Place) → IsPlacedOn v t r p → acts (change_action given t (found_on v t) (seen (found_on v t))) ≡ queue_stepped hand (value_changed t given remote v)
+    change_same p is =
+        ap (λ (o : Option Standing). acts (change_action given t o (seen (found_on v t)))) is.found ∙ place_same p is is.on ∙
         ap (λ (o : Option Kind). queue_stepped hand (value_followed o (nat_lt new.priority r.priority) remote new (value_recorded new v))) (sym is.kind) ∙
         ap (λ (o : Option ThreadRecord). queue_stepped hand (value_changed_from o t given remote v)) (sym is.record_is)
 
