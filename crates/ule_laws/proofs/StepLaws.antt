@@ -1,24 +1,31 @@
 -- A step of the whole scheduler is that of the world that it shows: the value under the event's lock and the worker's hand
 -- are what its action makes of them.
-use Rattle.std.proofs.Common.{◌≡◌, ◌≢◌, ℕ, ℤ, ◌+◌, ◌%◌, ◌<◌, ◌≤◌, Bool, true, false, List, [], ◌∷◌, length, Option, Some, None, IsSome, option_and_then, refl, sym, ◌∙◌, ap, subst, arith, mod-lt}
+use Rattle.std.proofs.Common.{◌≡◌, ◌≢◌, ℕ, ℤ, ◌+◌, ◌%◌, ◌<◌, ◌≤◌, Bool, true, false, List, [], ◌∷◌, length, Option, Some, None, IsSome, option_and_then, ◌⊎◌, inl, inr, ⊎_elim, refl, sym, ◌∙◌, ap, subst, arith, mod-lt}
 use Rattle.std.specs.Option.{option_to_list}
-use Rattle.std.specs.Prelude.{min, nat_lt}
-use Rattle.std.proofs.lemmas.Bool.{eqb-true, ltb-true, true≢false}
+use Rattle.std.specs.Prelude.{IfSome}
+use Rattle.std.proofs.lemmas.Bool.{eqb-true, false≢true, ltb-true, true≢false}
 use Rattle.std.proofs.lemmas.List.{set-get_or}
 use Rattle.ule_score.specs.declared.record.CpuLine.{CpuLine}
 use Rattle.ule_score.specs.declared.place.Place.{Place}
 use Rattle.ule_score.specs.declared.place.Place.TheVariants.{Running, Queued, Asleep, Unborn, Gone, Hand}
 use Rattle.ule_types.specs.declared.event.Event.{Event}
-use Rattle.ule_types.specs.declared.event.Event.TheVariants.{Tick, Switch, Drop, Bed, Wake, Look, Land, Move, Lend, Unlend, Renice, Hatch, Fork, Return, Exit, Bury, Inherit}
-use Rattle.ule_model.specs.Conditions.{HasEmptyHand}
-use Rattle.ule_model.specs.Events.{holder_of, is_no_others, is_unborn, is_unborn_thread, lock_of_thread, locking, locks_of}
+use Rattle.ule_types.specs.declared.event.Event.TheVariants.{Wake, Move, Lend, Unlend, Renice, Inherit}
+use Rattle.ule_types.specs.declared.event.Reply.{Reply}
+use Rattle.ule_types.specs.declared.event.Reply.TheVariants.{Nothing}
+use Rattle.ule_model.specs.Action.{Action, action_done, answers}
+use Rattle.ule_model.specs.Actions.{Seen, action_of}
+use Rattle.ule_model.specs.ActionStep.{bare_side, named_by, seen_on, seen_under}
+use Rattle.ule_model.specs.Conditions.{HasEmptyHand, IsHandled}
+use Rattle.ule_model.specs.Events.{Locking, are_cpus, chain, empty, handling, holder_of, is_no_others, is_unborn, is_unborn_thread, limbo, lock_numbers, lock_of_thread, locking, locks_of, place_of, queue, queues, sought_in}
 use Rattle.ule_model.specs.Places.{hand_of, lock_of}
-use Rattle.ule_model.specs.World.{Member, World, fresh_line, side_of, thread_of, with_side}
-use Rattle.ule_model.specs.WorldValue.{Shows, WorldValue, lock_for, lock_with}
+use Rattle.ule_model.specs.World.{Member, World, fresh_line, on_side, side_of, thread_of, with_side}
+use Rattle.ule_model.specs.WorldValue.{Shows, WorldValue, lock_for, lock_with, value_step, value_step_at}
+use Rattle.ule_model.specs.LockValue.{LockValue}
+use Rattle.ule_model.specs.Step.{step, step_under_locks}
 use Rattle.ule_laws.proofs.EventStands.{action_made}
 use Rattle.ule_laws.proofs.SeekLaws.{lock_found}
 use Rattle.ule_laws.proofs.WorldLaws.{HasValue}
-use Rattle.ule_laws.proofs.StepFrom.{IsAtEvent, IsStepOf, step_from}
+use Rattle.ule_laws.proofs.StepFrom.{IsAtEvent, IsStepOf, ShowsWithReply, step_from}
 
 -- ---- the thread that an event seeks
 
@@ -35,7 +42,7 @@ pub record IsSought (v : WorldValue) (w : World) (t : ℕ) : Type 0 where
 -- a thread that is there and in no other's hand, where the worker's own is empty, stands under a lock
 pub sought_stands : (v : WorldValue) (w : World) (worker t : ℕ) → Shows v w → IsSome (thread_of t w.members) →
     is_no_others worker (holder_of w.members t) ≡ true → HasEmptyHand w worker → IsSought v w t
-sought_stands v w worker t shows there ready empty = at_thread (thread_of t w.members) refl there
+sought_stands v w worker t shows there ready none_held = at_thread (thread_of t w.members) refl there
   where
     under : (m : Member) (l : ℕ) → thread_of t w.members ≡ Some m → lock_of m.place ≡ Some l → IsSought v w t
     under m l found lock =
@@ -57,7 +64,7 @@ sought_stands v w worker t shows there ready empty = at_thread (thread_of t w.me
     at_place m Gone found place = under m 24 found (ap lock_of place)
     at_place m (Hand h) found place =
         let holder : holder_of w.members t ≡ Some h = ap (option_and_then (λ (n : Member). hand_of n.place)) found ∙ ap hand_of place in
-        absurd (empty t (holder ∙ ap (λ (i : ℕ). Some i) (eqb-true h worker (sym (ap (is_no_others worker) holder) ∙ ready))))
+        absurd (none_held t (holder ∙ ap (λ (i : ℕ). Some i) (eqb-true h worker (sym (ap (is_no_others worker) holder) ∙ ready))))
 
     at_thread : (o : Option Member) → thread_of t w.members ≡ o → IsSome o → IsSought v w t
     at_thread None found some = absurd (true≢false (sym some))
@@ -79,55 +86,90 @@ unborn_stands w t is = at_thread (thread_of t w.members) refl is
     at_thread None found is = absurd (true≢false (sym is))
     at_thread (Some m) found is = at_place m m.place found refl is
 
+-- ---- the lock of an event
+
+-- the one lock of an event, which the scheduler finds for it
+pub record HasLock (v : WorldValue) (w : World) (e : Event) : Type 0 where
+  pub lock : ℕ
+  pub lock_is : lock_for v.values (locking e) ≡ Some lock
+  pub locks : locks_of w e ≡ lock ∷ []
+  pub within : lock < 25
+
+-- whether locks are those of two CPUs, and whether a lock is that of a thread's place
+abbrev pub is_pair : Locking → Bool
+is_pair (queues a b) = true
+is_pair _ = false
+
+abbrev is_sought : Locking → Bool
+is_sought (place_of t) = true
+is_sought _ = false
+
+-- an event that takes two locks does nothing so far
+pair_answers : (e : Event) → is_pair (locking e) ≡ true → (at : Seen) → action_of e at ≡ answers Nothing
+pair_answers (Move a b why) is at = refl
+pair_answers _ is at = absurd (false≢true is)
+
+-- an event that seeks a thread needs an empty hand
+seeks_empty : (e : Event) → is_sought (locking e) ≡ true → handling e ≡ empty
+seeks_empty (Wake t) is = refl
+seeks_empty (Lend t p) is = refl
+seeks_empty (Unlend t) is = refl
+seeks_empty (Renice t n) is = refl
+seeks_empty (Inherit t run) is = refl
+seeks_empty _ is = absurd (false≢true is)
+
+-- an event that a worker can perform takes two locks, or has one
+pub event_lock : (v : WorldValue) (w : World) (worker : ℕ) (e : Event) (now : ℕ) → IsAtEvent v w worker e now → (is_pair (locking e) ≡ true) ⊎ HasLock v w e
+event_lock v w worker e now at = by_locks (locking e) refl
+  where
+    one : (k : Locking) → locking e ≡ k → (l : ℕ) → lock_for v.values k ≡ Some l → lock_numbers w.members k ≡ l ∷ [] → l < 25 → HasLock v w e
+    one k is l lock locks within = record { lock = l; lock_is = ap (lock_for v.values) is ∙ lock; locks = ap (lock_numbers w.members) is ∙ locks; within = within }
+
+    sought : (t : ℕ) → locking e ≡ place_of t → HasLock v w e
+    sought t is =
+        let s = sought_stands v w worker t at.shows (subst (λ (k : Locking). IfSome (sought_in k) (λ u. IsSome (thread_of u w.members))) is at.possible.declared)
+        (sym (ap (λ (k : Locking). is_no_others worker (option_and_then (holder_of w.members) (sought_in k))) is) ∙ at.possible.ready)
+        (subst (IsHandled w worker) (seeks_empty e (ap is_sought is)) at.possible.hand) in
+        one (place_of t) is s.lock s.lock_is s.locks s.within
+
+    by_locks : (k : Locking) → locking e ≡ k → (is_pair (locking e) ≡ true) ⊎ HasLock v w e
+    by_locks (queue c) is =
+        let there = ltb-true c (length w.lines) (sym (ap (are_cpus (length w.lines)) is) ∙ at.possible.cpus) in let few = at.shows.cpus in
+        inr (one (queue c) is c refl refl (omega arith))
+    by_locks (queues a b) is = inl (ap is_pair is)
+    by_locks (chain channel) is = inr (one (chain channel) is (16 + channel % 8) refl refl (let small : channel % 8 < 8 = mod-lt channel (omega arith) in omega arith))
+    by_locks limbo is = inr (one limbo is 24 refl refl (omega arith))
+    by_locks (place_of t) is = inr (sought t is)
+
 -- ---- the step
-
--- the queue locks are few
-pub few_queues : (w : World) (c : ℕ) → length w.lines ≤ 16 → c < length w.lines → c < 25
-few_queues w c few below = omega arith
-
--- the step of an event that takes this one lock
-under_lock : (v : WorldValue) (w : World) (worker : ℕ) (e : Event) (now l : ℕ) → IsAtEvent v w worker e now → lock_for v.values (locking e) ≡ Some l → locks_of w e ≡ l ∷ [] → l < 25 →
-    IsStepOf v w worker e now
-under_lock v w worker e now l at lock locks within =
-    step_from v w worker e now l at lock locks within (λ has. action_made v w worker now at.shows e l at.possible locks has.value has.stands)
-
--- of one that takes the lock of a CPU that there is
-of_cpu : (v : WorldValue) (w : World) (worker : ℕ) (e : Event) (now c : ℕ) → IsAtEvent v w worker e now → lock_for v.values (locking e) ≡ Some c → locks_of w e ≡ c ∷ [] →
-    nat_lt c (length w.lines) ≡ true → IsStepOf v w worker e now
-of_cpu v w worker e now c at lock locks there = under_lock v w worker e now c at lock locks (few_queues w c at.shows.cpus (ltb-true c (length w.lines) there))
-
--- and of one that seeks a thread
-of_sought : (v : WorldValue) (w : World) (worker : ℕ) (e : Event) (now t : ℕ) → IsAtEvent v w worker e now → lock_for v.values (locking e) ≡ lock_with t v.values →
-    locks_of w e ≡ lock_of_thread w.members t → IsSought v w t → IsStepOf v w worker e now
-of_sought v w worker e now t at lock locks s = under_lock v w worker e now s.lock at (lock ∙ s.lock_is) (locks ∙ s.locks) s.within
 
 -- a side put back as it was leaves the world
 side_put_back : (l : ℕ) (w : World) → with_side l (side_of l w) w ≡ w
 side_put_back l w = ap (λ (lines : List CpuLine). record w { lines = lines }) (set-get_or w.lines l fresh_line)
 
+-- an event that takes two locks leaves a world
+pair_leaves : (w : World) (worker : ℕ) (e : Event) (now : ℕ) → is_pair (locking e) ≡ true → step w worker e now ≡ (w, Nothing)
+pair_leaves w worker e now pair = split (locks_of w e)
+  where
+    split : (ls : List ℕ) → step_under_locks ls w worker e now ≡ (w, Nothing)
+    split [] = ap (λ (a : Action). (w, a.reply None)) (pair_answers e pair (seen_on 0 worker now (named_by w e) (bare_side w)))
+    split (l ∷ ls) =
+        ap (λ (a : Action). on_side l (action_done l now a) w) (pair_answers e pair (seen_under w worker now e l)) ∙ ap (λ (x : World). (x, Nothing)) (side_put_back l w)
+
+-- the scheduler finds no lock for two
+pub pair_unlocked : (values : List LockValue) (k : Locking) → is_pair k ≡ true → lock_for values k ≡ None
+pair_unlocked values (queues a b) pair = refl
+pair_unlocked values _ pair = absurd (false≢true pair)
+
 -- a step of the whole scheduler, where an event is performed
 pub step_shows : (v : WorldValue) (w : World) (worker : ℕ) (e : Event) (now : ℕ) → IsAtEvent v w worker e now → IsStepOf v w worker e now
-step_shows v w worker (Tick c) now at = of_cpu v w worker (Tick c) now c at refl refl at.possible.cpus
-step_shows v w worker (Switch c why) now at = of_cpu v w worker (Switch c why) now c at refl refl at.possible.cpus
-step_shows v w worker (Drop c channel) now at = of_cpu v w worker (Drop c channel) now c at refl refl at.possible.cpus
-step_shows v w worker (Bed t channel) now at =
-    under_lock v w worker (Bed t channel) now (16 + channel % 8) at refl refl (let small : channel % 8 < 8 = mod-lt channel (omega arith) in omega arith)
-step_shows v w worker (Wake t) now at =
-    of_sought v w worker (Wake t) now t at refl refl (sought_stands v w worker t at.shows at.possible.declared at.possible.ready at.possible.hand)
-step_shows v w worker (Look c) now at = of_cpu v w worker (Look c) now c at refl refl at.possible.cpus
-step_shows v w worker (Land t c) now at = of_cpu v w worker (Land t c) now c at refl refl at.possible.cpus
-step_shows v w worker (Move a b why) now at =
-    (subst (Shows v) (sym (side_put_back (min a b) w)) at.shows, refl)
-step_shows v w worker (Lend t p) now at =
-    of_sought v w worker (Lend t p) now t at refl refl (sought_stands v w worker t at.shows at.possible.declared at.possible.ready at.possible.hand)
-step_shows v w worker (Unlend t) now at =
-    of_sought v w worker (Unlend t) now t at refl refl (sought_stands v w worker t at.shows at.possible.declared at.possible.ready at.possible.hand)
-step_shows v w worker (Renice t n) now at =
-    of_sought v w worker (Renice t n) now t at refl refl (sought_stands v w worker t at.shows at.possible.declared at.possible.ready at.possible.hand)
-step_shows v w worker (Hatch t) now at = under_lock v w worker (Hatch t) now 24 at refl refl (omega arith)
-step_shows v w worker (Fork c t) now at = of_cpu v w worker (Fork c t) now c at refl refl at.possible.cpus
-step_shows v w worker (Return t) now at = under_lock v w worker (Return t) now 24 at refl refl (omega arith)
-step_shows v w worker (Exit c) now at = of_cpu v w worker (Exit c) now c at refl refl at.possible.cpus
-step_shows v w worker (Bury t) now at = under_lock v w worker (Bury t) now 24 at refl refl (omega arith)
-step_shows v w worker (Inherit t run) now at =
-    of_sought v w worker (Inherit t run) now t at refl refl (sought_stands v w worker t at.shows at.possible.declared at.possible.ready at.possible.hand)
+step_shows v w worker e now at = ⊎_elim two one (event_lock v w worker e now at)
+  where
+    two : is_pair (locking e) ≡ true → IsStepOf v w worker e now
+    two pair =
+        subst (λ (done : World × Reply). ShowsWithReply done.0 done.1 (value_step v worker e now)) (sym (pair_leaves w worker e now pair))
+        (subst (λ (o : Option ℕ). ShowsWithReply w Nothing (value_step_at o worker e now v)) (sym (pair_unlocked v.values (locking e) pair)) (at.shows, refl))
+
+    one : HasLock v w e → IsStepOf v w worker e now
+    one has =
+        step_from v w worker e now has.lock at has.lock_is has.locks has.within (λ here. action_made v w worker now at.shows e has.lock at.possible has.locks here.value here.stands)

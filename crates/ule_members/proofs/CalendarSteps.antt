@@ -279,22 +279,7 @@ step_picks c t b w calm stands worker e now has s u a = split (locks_of w e) ref
 -- an event that is a tick of CPU c
 tick_is : (c : ℕ) (e : Event) → is_tick_of c e ≡ true → e ≡ Tick c
 tick_is c (Tick d) is = ap (λ (x : ℕ). Tick x) (sym (eqb-true c d is))
-tick_is c (Switch d why) is = absurd (false≢true is)
-tick_is c (Drop d channel) is = absurd (false≢true is)
-tick_is c (Bed t channel) is = absurd (false≢true is)
-tick_is c (Wake t) is = absurd (false≢true is)
-tick_is c (Look d) is = absurd (false≢true is)
-tick_is c (Land t d) is = absurd (false≢true is)
-tick_is c (Move a b why) is = absurd (false≢true is)
-tick_is c (Lend t p) is = absurd (false≢true is)
-tick_is c (Unlend t) is = absurd (false≢true is)
-tick_is c (Renice t n) is = absurd (false≢true is)
-tick_is c (Hatch t) is = absurd (false≢true is)
-tick_is c (Fork d t) is = absurd (false≢true is)
-tick_is c (Return t) is = absurd (false≢true is)
-tick_is c (Exit d) is = absurd (false≢true is)
-tick_is c (Bury t) is = absurd (false≢true is)
-tick_is c (Inherit t run) is = absurd (false≢true is)
+tick_is c _ is = absurd (false≢true is)
 
 -- a tick of a CPU that finds the indexes equal brings the insertion index on
 pub turning_goes_on : (w : World) (worker now c : ℕ) → IsCalm w → (numbers_on c w).idx ≡ (numbers_on c w).ridx → (e : Event) → is_tick_of c e ≡ true →

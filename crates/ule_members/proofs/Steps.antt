@@ -1,20 +1,21 @@
 -- What the step of each event does to the threads of a world and leaves of the rest: the laws of a step.
 use Rattle.std.proofs.Common.{◌≡◌, ℕ, ◌<◌, ◌==◌, ◌%◌, ◌+◌, Bool, true, false, List, [], ◌∷◌, Option, Some, None, is_some, if◌then◌else◌, slice_index_or, slice_set, refl, sym, ◌∙◌, ap, subst}
 use Rattle.std.specs.Option.{option_map, option_to_list}
-use Rattle.std.specs.Prelude.{option_and_then}
+use Rattle.std.specs.Prelude.{max, min, option_and_then}
+use Rattle.std.proofs.lemmas.Option.{none-some}
 use Rattle.std.proofs.lemmas.Bool.{eq-eqb, or_left}
 use Rattle.ule_score.specs.declared.place.Place.{Place}
 use Rattle.ule_score.specs.declared.place.Place.TheVariants.{Running, Queued, Asleep, Unborn, Gone, Hand}
 use Rattle.ule_types.specs.Commands.{is_among}
 use Rattle.ule_types.specs.declared.event.Event.{Event}
-use Rattle.ule_types.specs.declared.event.Event.TheVariants.{Tick, Switch, Drop, Bed, Wake, Look, Land, Move, Lend, Unlend, Renice, Hatch, Fork, Return, Exit, Bury, Inherit}
+use Rattle.ule_types.specs.declared.event.Event.TheVariants.{Wake, Lend, Unlend, Renice, Inherit}
 use Rattle.ule_types.specs.declared.event.Reply.{Reply}
 use Rattle.ule_model.specs.Action.{Action, action_done, parts_done}
 use Rattle.ule_model.specs.Actions.{action_of, wake_action, wake_action_at}
 use Rattle.ule_model.specs.ActionStep.{bare_side, named_by, seen_on, seen_under}
 use Rattle.ule_model.specs.Step.{step, step_under_locks}
 use Rattle.ule_model.specs.Conditions.{IsPossible}
-use Rattle.ule_model.specs.Events.{holder_of, locks_of}
+use Rattle.ule_model.specs.Events.{Locking, chain, holder_of, limbo, lock_numbers, locking, locks_of, place_of, queue, queues, sought_by, sought_in}
 use Rattle.ule_model.specs.Frames.{LeavesRest, StepIsMade, StepLeavesRest, StepMovesWord, StepTouches, thread_in_hand}
 use Rattle.ule_model.specs.Places.{hand_of, is_hand_of, is_number, lock_of}
 use Rattle.ule_model.specs.WellMade.{HaveIndexes, IsWellMade, IsWellMadeWorld}
@@ -66,25 +67,24 @@ module _ (w : World) (worker now : ℕ) (made : IsWellMadeWorld w) where
       split None none = refl
       split (Some m) none = at_place m m.place none
 
-  -- an event that takes no lock changes no word
+  -- an event that takes no lock changes no word: it seeks a thread
   unlocked : (e : Event) → locks_of w e ≡ [] → change_of e ((action_of e (seen_on 0 worker now (named_by w e) (bare_side w))).reply None) ≡ None
-  unlocked (Tick c) none = refl
-  unlocked (Switch c why) none = refl
-  unlocked (Drop c channel) none = absurd (some_lock c [] none)
-  unlocked (Bed t channel) none = absurd (some_lock (16 + channel % 8) [] none)
-  unlocked (Wake t) none = wake_unlocked t none
-  unlocked (Look c) none = refl
-  unlocked (Land t c) none = absurd (some_lock c [] none)
-  unlocked (Move a b why) none = refl
-  unlocked (Lend t p) none = refl
-  unlocked (Unlend t) none = refl
-  unlocked (Renice t n) none = refl
-  unlocked (Hatch t) none = absurd (some_lock 24 [] none)
-  unlocked (Fork c t) none = refl
-  unlocked (Return t) none = absurd (some_lock 24 [] none)
-  unlocked (Exit c) none = absurd (some_lock c [] none)
-  unlocked (Bury t) none = absurd (some_lock 24 [] none)
-  unlocked (Inherit t run) none = refl
+  unlocked e none = by_locks (locking e) refl none
+    where
+      seeking : (x : Event) (t : ℕ) → locks_of w x ≡ [] → sought_by x ≡ Some t → change_of x ((action_of x (seen_on 0 worker now (named_by w x) (bare_side w))).reply None) ≡ None
+      seeking (Wake u) t none seeks = wake_unlocked u none
+      seeking (Lend u p) t none seeks = refl
+      seeking (Unlend u) t none seeks = refl
+      seeking (Renice u n) t none seeks = refl
+      seeking (Inherit u run) t none seeks = refl
+      seeking _ t none seeks = absurd (none-some t seeks)
+
+      by_locks : (k : Locking) → locking e ≡ k → lock_numbers w.members k ≡ [] → change_of e ((action_of e (seen_on 0 worker now (named_by w e) (bare_side w))).reply None) ≡ None
+      by_locks (queue c) is none = absurd (some_lock c [] none)
+      by_locks (queues a b) is none = absurd (some_lock (min a b) (max a b ∷ []) none)
+      by_locks (chain channel) is none = absurd (some_lock (16 + channel % 8) [] none)
+      by_locks limbo is none = absurd (some_lock 24 [] none)
+      by_locks (place_of t) is nowhere = seeking e t none (ap sought_in is)
 
   -- what the step of an event does to the threads
   pub step_done : (e : Event) → IsPossible w worker e now → IsStepDone e (step w worker e now)
@@ -116,6 +116,15 @@ step_indexes w worker e now indexes = split (locks_of w e)
     split (l ∷ ls) =
         let ps = (action_of e (seen_under w worker now e l)).parts in
         side_indexes w l (parts_done l now ps (side_of l w, None)).0 indexes (parts_kept l now ps (side_of l w) None).index
+
+-- what holds of what an event's action replies by what it sees holds of the reply of its step
+pub step_reply : (P : Reply → Type 0) (w : World) (worker : ℕ) (e : Event) (now : ℕ) →
+    ((l : ℕ) (s : Side) → s.settings ≡ w.settings → (into : Option ℕ) → P ((action_of e (seen_on l worker now (named_by w e) s)).reply into)) → P (step w worker e now).1
+step_reply P w worker e now replies = split (locks_of w e)
+  where
+    split : (ls : List ℕ) → P (step_under_locks ls w worker e now).1
+    split [] = replies 0 (bare_side w) refl None
+    split (l ∷ ls) = replies l (side_of l w) refl (parts_done l now (action_of e (seen_under w worker now e l)).parts (side_of l w, None)).1
 
 -- ---- the laws of a step
 

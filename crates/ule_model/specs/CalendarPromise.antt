@@ -10,7 +10,7 @@ use Rattle.ule_types.specs.declared.event.Entry.{Entry}
 use Rattle.ule_types.specs.declared.event.Event.{Event}
 use Rattle.ule_types.specs.declared.event.Event.TheVariants as event
 use Rattle.ule_types.specs.declared.event.Reply.{Reply}
-use Rattle.ule_types.specs.declared.event.Reply.TheVariants.{Ticked, Unmarked, Nothing, Switched, Dropped, Bedded, NotAsleep, Woken, Seen, Landed, Moved, NoneMovable, Changed, NotAllowed, Hatched, Forked, Returned, Exited, Buried, ParentGone}
+use Rattle.ule_types.specs.declared.event.Reply.TheVariants.{Switched, Dropped, Changed, Exited}
 use Rattle.ule_types.specs.declared.setup.Setup.{Setup}
 use Rattle.ule_model.specs.Action.{Part, choose, clear_marks, clock, count_switch, end_slice_if, insert, mark_if, move, note, part_done}
 use Rattle.ule_model.specs.Actions.{action_of}
@@ -52,92 +52,25 @@ AllHaveCloseIndexes w = (c : ℕ) → HasCloseIndexes c w
 
 -- the thread that a reply says was chosen to run next
 abbrev pub chosen_by : Reply → Option ℕ
-chosen_by (Ticked cur due end) = None
-chosen_by Unmarked = None
-chosen_by Nothing = None
 chosen_by (Switched out into preempted) = into
 chosen_by (Dropped out into) = into
-chosen_by Bedded = None
-chosen_by (NotAsleep place) = None
-chosen_by (Woken priority bound last last_run) = None
-chosen_by (Seen load movable low) = None
-chosen_by (Landed kind bucket takes) = None
-chosen_by (Moved t kind bucket takes) = None
-chosen_by (NoneMovable a movable b) = None
-chosen_by (Changed priority requeued marked) = None
-chosen_by (NotAllowed place) = None
-chosen_by Hatched = None
-chosen_by (Forked parent priority) = None
-chosen_by Returned = None
 chosen_by (Exited out into parent run) = into
-chosen_by Buried = None
-chosen_by ParentGone = None
+chosen_by _ = None
 
 -- the thread that a reply says was preempted
 abbrev pub preempted_by : Reply → Option ℕ
-preempted_by (Ticked cur due end) = None
-preempted_by Unmarked = None
-preempted_by Nothing = None
 preempted_by (Switched out into preempted) = if preempted then out else None
-preempted_by (Dropped out into) = None
-preempted_by Bedded = None
-preempted_by (NotAsleep place) = None
-preempted_by (Woken priority bound last last_run) = None
-preempted_by (Seen load movable low) = None
-preempted_by (Landed kind bucket takes) = None
-preempted_by (Moved t kind bucket takes) = None
-preempted_by (NoneMovable a movable b) = None
-preempted_by (Changed priority requeued marked) = None
-preempted_by (NotAllowed place) = None
-preempted_by Hatched = None
-preempted_by (Forked parent priority) = None
-preempted_by Returned = None
-preempted_by (Exited out into parent run) = None
-preempted_by Buried = None
-preempted_by ParentGone = None
+preempted_by _ = None
 
 -- whether a reply says that the thread whose priority changed was requeued
 abbrev pub tells_requeued : Reply → Bool
-tells_requeued (Ticked cur due end) = false
-tells_requeued Unmarked = false
-tells_requeued Nothing = false
-tells_requeued (Switched out into preempted) = false
-tells_requeued (Dropped out into) = false
-tells_requeued Bedded = false
-tells_requeued (NotAsleep place) = false
-tells_requeued (Woken priority bound last last_run) = false
-tells_requeued (Seen load movable low) = false
-tells_requeued (Landed kind bucket takes) = false
-tells_requeued (Moved t kind bucket takes) = false
-tells_requeued (NoneMovable a movable b) = false
 tells_requeued (Changed priority requeued marked) = requeued
-tells_requeued (NotAllowed place) = false
-tells_requeued Hatched = false
-tells_requeued (Forked parent priority) = false
-tells_requeued Returned = false
-tells_requeued (Exited out into parent run) = false
-tells_requeued Buried = false
-tells_requeued ParentGone = false
+tells_requeued _ = false
 
 -- the thread that an event lands on a CPU
 abbrev pub landed_by : Event → Option ℕ
-landed_by (event.Tick c) = None
-landed_by (event.Switch c why) = None
-landed_by (event.Drop c channel) = None
-landed_by (event.Bed t channel) = None
-landed_by (event.Wake t) = None
-landed_by (event.Look c) = None
 landed_by (event.Land t c) = Some t
-landed_by (event.Move a b why) = None
-landed_by (event.Lend t p) = None
-landed_by (event.Unlend t) = None
-landed_by (event.Renice t n) = None
-landed_by (event.Hatch t) = None
-landed_by (event.Fork c t) = None
-landed_by (event.Return t) = None
-landed_by (event.Exit c) = None
-landed_by (event.Bury t) = None
-landed_by (event.Inherit t run) = None
+landed_by _ = None
 
 -- whether an entry requeued thread t, whose priority it made better
 abbrev pub requeues : ℕ → Entry → Bool
@@ -187,22 +120,7 @@ removal_advances c w (e ∷ es) =
 -- whether an event is a tick of CPU c
 abbrev pub is_tick_of : ℕ → Event → Bool
 is_tick_of c (event.Tick d) = c == d
-is_tick_of c (event.Switch d why) = false
-is_tick_of c (event.Drop d channel) = false
-is_tick_of c (event.Bed t channel) = false
-is_tick_of c (event.Wake t) = false
-is_tick_of c (event.Look d) = false
-is_tick_of c (event.Land t d) = false
-is_tick_of c (event.Move a b why) = false
-is_tick_of c (event.Lend t p) = false
-is_tick_of c (event.Unlend t) = false
-is_tick_of c (event.Renice t n) = false
-is_tick_of c (event.Hatch t) = false
-is_tick_of c (event.Fork d t) = false
-is_tick_of c (event.Return t) = false
-is_tick_of c (event.Exit d) = false
-is_tick_of c (event.Bury t) = false
-is_tick_of c (event.Inherit t run) = false
+is_tick_of c _ = false
 
 -- whether an entry is a tick of CPU c that finds its indexes equal
 abbrev pub is_turning : ℕ → World → Entry → Bool
