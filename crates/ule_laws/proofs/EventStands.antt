@@ -24,16 +24,17 @@ use Rattle.ule_types.specs.declared.event.Reply.{Reply}
 use Rattle.ule_types.specs.declared.event.Reply.TheVariants.{Bedded, Buried, Hatched, Returned, Unmarked}
 use Rattle.ule_model.specs.Action.{Action, answers, parts_done}
 use Rattle.ule_model.specs.Actions.{Seen, action_of, change_action, change_action_at, fork_action, give_way_action, go_action, land_action, leave_action, note_action, requeue_action, tick_action, unborn_action, wake_action, wake_action_at}
-use Rattle.ule_model.specs.ActionStep.{action_lock_step, action_step_held, named_by, named_held, on_queue, seen_in, seen_off, seen_on}
+use Rattle.ule_model.specs.ActionStep.{named_by, named_held, on_chain, on_limbo, on_queue, seen_in, seen_off, seen_on}
 use Rattle.ule_model.specs.ActionValue.{HandAndCpu, HandAndSlots, action_in_slots, action_on_cpu, parts_in_slots, parts_on_cpu}
 use Rattle.ule_model.specs.Conditions.{HasEmptyHand, IsPossible}
 use Rattle.ule_model.specs.CpuValue.{CpuValue, StandsFor, current_in, thread_in}
 use Rattle.ule_model.specs.Events.{handling, lock_of_thread, locking, locks_of}
 use Rattle.ule_model.specs.Landing.{current_record}
+use Rattle.ule_model.specs.LockConditions.{IsOnCpu}
 use Rattle.ule_model.specs.LockValue.{LockValue, chain, found_in, limbo, nothing, queue}
 use Rattle.ule_model.specs.Places.{is_hand_of, is_number, is_under, lock_of, runs_on, waits_on}
 use Rattle.ule_model.specs.PriorityChange.{unborn_answer}
-use Rattle.ule_model.specs.Step.{Stepped, step, step_under_locks}
+use Rattle.ule_model.specs.Step.{Stepped, lock_step, step, step_under_locks}
 use Rattle.ule_model.specs.Switch.{is_preemption, is_unasked}
 use Rattle.ule_model.specs.WellMade.{IsWellMade, IsWellMadeWorld}
 use Rattle.ule_model.specs.World.{Member, Side, World, current_of, fresh_line, side_of, standing_of, thread_of, with_side}
@@ -46,7 +47,7 @@ use Rattle.ule_members.proofs.Reach.{IsHeld, held_found, place_from_hand, takes_
 use Rattle.ule_members.proofs.Rest.{index_of}
 use Rattle.ule_members.proofs.Threads.{current_runs, thread_on_within, within_current}
 use Rattle.ule_members.proofs.Within.{Within, within_thread}
-use Rattle.ule_laws.proofs.PartStands.{ArePartsAlike, FollowsHere, IsOnCpu, hand_is, parts_alike}
+use Rattle.ule_laws.proofs.PartStands.{ArePartsAlike, FollowsHere, hand_is, parts_alike}
 use Rattle.ule_laws.proofs.SeekLaws.{found_stands}
 use Rattle.ule_laws.proofs.SleepLaws.{IsStill}
 use Rattle.ule_laws.proofs.SlotStands.{AreAlikeUnder, AreHeldUnder, AreSlots, FollowsUnder, GoesUnder, parts_under_alike}
@@ -95,11 +96,11 @@ queue_stands w c v new made is stands cpu settings = record {
 }
 
 -- a list of one lock has that lock
-same_lock : (a b : ℕ) → a ∷ [] ≡ b ∷ [] → a ≡ b
+pub same_lock : (a b : ℕ) → a ∷ [] ≡ b ∷ [] → a ≡ b
 same_lock a b same = cc
 
 -- a place under the lock of a CPU is on it
-on_from_lock : (c : ℕ) (place : Place) → c < 16 → lock_of place ≡ Some c → IsOnCpu c place
+pub on_from_lock : (c : ℕ) (place : Place) → c < 16 → lock_of place ≡ Some c → IsOnCpu c place
 on_from_lock c (Running d) few lock = same_Some d c lock
 on_from_lock c (Queued d k b) few lock = same_Some d c lock
 on_from_lock c (Asleep channel) few lock = absurd (let e = same_Some (16 + channel % 8) c lock in omega arith)
@@ -123,7 +124,7 @@ module _ (v : WorldValue) (w : World) (worker now : ℕ) (shows : Shows v w) whe
 
   -- what an event makes of the value under lock l and of the hand is what its action makes of the world there
   abbrev pub IsMadeBy : Event → ℕ → LockValue → Type 0
-  IsMadeBy e l value = IsMadeFor (step w worker e now).0 worker l (step w worker e now).1 (action_lock_step v.settings worker e now (held_by v worker) value)
+  IsMadeBy e l value = IsMadeFor (step w worker e now).0 worker l (step w worker e now).1 (lock_step v.settings worker e now (held_by v worker) value)
 
   -- what is made of the value under lock l and of the hand is what the parts of an event's action make of the side
   abbrev IsGivenBy : Event → ℕ → Stepped → Type 0
@@ -161,8 +162,8 @@ module _ (v : WorldValue) (w : World) (worker now : ℕ) (shows : Shows v w) whe
   made_on_cpu : (e : Event) (c : ℕ) (u : CpuValue) → IsPossible w worker e now → locks_of w e ≡ c ∷ [] → IsQueueOf w c u → NamesAlike e (queue u) →
       FollowsHere c worker (Unit {0}) IsEmpty (action_at e c).parts → IsMadeBy e c (queue u)
   made_on_cpu e c u possible locks is names here =
-      subst (λ (ls : List ℕ). IsMadeFor (step_under_locks ls w worker e now).0 worker c (step_under_locks ls w worker e now).1 (action_lock_step v.settings worker e now (held_by v worker) (queue u))) (sym locks)
-      (subst (λ (named : Option Standing). IsGivenBy e c (action_step_held named v.settings worker e now (held_by v worker) (queue u))) (sym names)
+      subst (λ (ls : List ℕ). IsMadeFor (step_under_locks ls w worker e now).0 worker c (step_under_locks ls w worker e now).1 (lock_step v.settings worker e now (held_by v worker) (queue u))) (sym locks)
+      (subst (λ (named : Option Standing). IsGivenBy e c (on_queue (action_on_cpu now (action_of e (seen_in worker now named u)) h))) (sym names)
       (subst (λ (x : Seen). IsGivenBy e c (on_queue (action_on_cpu now (action_of e x) h))) (sym (seen_alike worker now (named_by w e) u s is.stands shows.made ∙ ap (λ (x : ℕ). seen_on x worker now (named_by w e) s) is.cpu))
       (record { value = queue_stands w c u both_made.0.value meant.0 is both.held.stands both.cpu settings; hand = both.held.hand tt; answer = ap a.reply both.answer })))
     where
@@ -225,7 +226,7 @@ module _ (v : WorldValue) (w : World) (worker now : ℕ) (shows : Shows v w) whe
   made_on_chain : (e : Event) (l : ℕ) (c : ChainValue) → IsPossible w worker e now → locks_of w e ≡ l ∷ [] → IsChainOf w l c → NamesAlike e (chain c) →
       action_of e (seen_off worker now w.settings (option_map standing_of (named_by w e))) ≡ action_at e l → FollowsUnder l worker (IsAsleepOn c.number) IsEmpty (action_at e l).parts → IsMadeBy e l (chain c)
   made_on_chain e l c possible locks is names same here =
-      subst (λ (named : Option Standing). IsMadeFor (step w worker e now).0 worker l (step w worker e now).1 (action_step_held named v.settings worker e now (held_by v worker) (chain c))) (sym names)
+      subst (λ (named : Option Standing). IsMadeFor (step w worker e now).0 worker l (step w worker e now).1 (on_chain c (action_in_slots v.settings now (action_of e (seen_off worker now v.settings named)) (record { hand = held_by v worker; slots = c.slots })))) (sym names)
       (let made = made_in_slots l (IsAsleepOn c.number) (λ x r so. record { channel = so.channel; place = so.place; chain = so.chain }) c.slots
       (record { these = is.under; count = is.slots; each = is.asleep }) e possible locks same here in record {
         value = record { number = is.number; small = is.small; slots = made.held.slots.count; under = made.held.slots.these; asleep = made.held.slots.each };
@@ -237,7 +238,7 @@ module _ (v : WorldValue) (w : World) (worker now : ℕ) (shows : Shows v w) whe
   made_in_limbo : (e : Event) (l : ℕ) (c : LimboValue) → IsPossible w worker e now → locks_of w e ≡ l ∷ [] → IsLimboOf w l c → NamesAlike e (limbo c) →
       action_of e (seen_off worker now w.settings (option_map standing_of (named_by w e))) ≡ action_at e l → FollowsUnder l worker IsStill IsEmpty (action_at e l).parts → IsMadeBy e l (limbo c)
   made_in_limbo e l c possible locks is names same here =
-      subst (λ (named : Option Standing). IsMadeFor (step w worker e now).0 worker l (step w worker e now).1 (action_step_held named v.settings worker e now (held_by v worker) (limbo c))) (sym names)
+      subst (λ (named : Option Standing). IsMadeFor (step w worker e now).0 worker l (step w worker e now).1 (on_limbo c (action_in_slots v.settings now (action_of e (seen_off worker now v.settings named)) (record { hand = held_by v worker; slots = c.slots })))) (sym names)
       (let made = made_in_slots l IsStill (λ x r so. so) c.slots (record { these = is.under; count = is.slots; each = is.still }) e possible locks same here in record {
         value = record { number = is.number; slots = made.held.slots.count; under = made.held.slots.these; still = made.held.slots.each };
         hand = made.held.hand;
@@ -259,13 +260,13 @@ module _ (v : WorldValue) (w : World) (worker now : ℕ) (shows : Shows v w) whe
       within_of t m found = subst (λ (u : ℕ). Within u m w.members) (sym (has_thread_of t m w.members found).1) (within_thread t w.members m shows.made found)
 
   -- a thread that stands under a lock
-  record IsUnder (t l : ℕ) : Type 0 where
-    member : Member
-    found : thread_of t w.members ≡ Some member
-    lock : lock_of member.place ≡ Some l
+  pub record IsUnder (t l : ℕ) : Type 0 where
+    pub member : Member
+    pub found : thread_of t w.members ≡ Some member
+    pub lock : lock_of member.place ≡ Some l
 
   -- the thread that is sought under one lock stands there
-  under_from_locks : (t l : ℕ) → lock_of_thread w.members t ≡ l ∷ [] → IsUnder t l
+  pub under_from_locks : (t l : ℕ) → lock_of_thread w.members t ≡ l ∷ [] → IsUnder t l
   under_from_locks t l locks = split (thread_of t w.members) refl locks
     where
       at_lock : (m : Member) (o : Option ℕ) → thread_of t w.members ≡ Some m → lock_of m.place ≡ o → option_to_list o ≡ l ∷ [] → IsUnder t l
@@ -283,7 +284,7 @@ module _ (v : WorldValue) (w : World) (worker now : ℕ) (shows : Shows v w) whe
       split (Some m) found is = at_lock m (lock_of m.place) found refl is
 
   -- it is found there with its place
-  under_named : (t l : ℕ) (value : LockValue) → StandsUnder w l value → IsUnder t l → found_in value t ≡ option_map standing_of (thread_of t w.members)
+  pub under_named : (t l : ℕ) (value : LockValue) → StandsUnder w l value → IsUnder t l → found_in value t ≡ option_map standing_of (thread_of t w.members)
   under_named t l value stands is =
       found_stands w l t value shows.made shows.cpus stands ∙
       ap (option_map standing_of)

@@ -20,6 +20,7 @@ pub mod StepFrom
 pub mod SleepLaws
 pub mod SleepCallLaws
 pub mod EventStands
+pub mod SameValues
 pub mod PartStands
 pub mod SlotStands
 pub mod CpuEvents
@@ -27,6 +28,7 @@ pub mod CpuNumbers
 pub mod CpuChanges
 pub mod StepLaws
 pub mod TellLaws
+pub mod SoughtLaws
 pub mod StepConditions
 pub mod WorldSteps
 pub mod CpuStarts

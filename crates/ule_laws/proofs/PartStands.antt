@@ -21,6 +21,7 @@ use Rattle.ule_model.specs.Frames.{thread_in_hand}
 use Rattle.ule_model.specs.declared.insertion.Insertion.{Insertion}
 use Rattle.ule_model.specs.Insertion.{order_of_insertion, place_of_insertion, queued, with_queued}
 use Rattle.ule_model.specs.Landing.{marked_if}
+use Rattle.ule_model.specs.LockConditions.{IsOnCpu}
 use Rattle.ule_model.specs.Places.{is_hand_of, is_number, is_on, runs_on}
 use Rattle.ule_model.specs.Switch.{choosing_next, running_chosen}
 use Rattle.ule_model.specs.Tick.{marked_at_end}
@@ -41,15 +42,6 @@ use Rattle.ule_laws.proofs.LockLaws.{IsThis, put_in, put_only, take_out_of}
 use Rattle.ule_laws.proofs.Queueing.{IsJoined, inserted_stands}
 
 -- ---- places
-
--- a place on CPU c
-abbrev pub IsOnCpu : ℕ → Place → Type 0
-IsOnCpu c (Running d) = d ≡ c
-IsOnCpu c (Queued d k b) = d ≡ c
-IsOnCpu c (Asleep channel) = ⊥
-IsOnCpu c Unborn = ⊥
-IsOnCpu c Gone = ⊥
-IsOnCpu c (Hand w) = ⊥
 
 -- a place on CPU c, or else the hand of a worker of which this has to be so
 abbrev pub IsOnOrHeld : ℕ → (ℕ → Type 0) → Place → Type 0

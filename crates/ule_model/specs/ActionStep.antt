@@ -113,18 +113,3 @@ on_chain v (h, reply) = record { hand = h.hand; value = chain (record v { slots 
 
 abbrev pub on_limbo : LimboValue → HandAndSlots × Reply → Stepped
 on_limbo v (h, reply) = record { hand = h.hand; value = limbo (record v { slots = h.slots }); reply = reply }
-
--- the step of an event that names this thread
-abbrev pub action_step_held : Option Standing → Settings → ℕ → Event → ℕ → Option ThreadRecord → LockValue → Stepped
-action_step_held named settings worker e now hand (queue v) =
-    on_queue (action_on_cpu now (action_of e (seen_in worker now named v)) (record { hand = hand; value = v }))
-action_step_held named settings worker e now hand (chain v) =
-    on_chain v (action_in_slots settings now (action_of e (seen_off worker now settings named)) (record { hand = hand; slots = v.slots }))
-action_step_held named settings worker e now hand (limbo v) =
-    on_limbo v (action_in_slots settings now (action_of e (seen_off worker now settings named)) (record { hand = hand; slots = v.slots }))
-action_step_held named settings worker e now hand nothing = kept hand nothing Nothing
-
--- the step
-abbrev pub action_lock_step : Settings → ℕ → Event → ℕ → Option ThreadRecord → LockValue → Stepped
-action_lock_step settings worker e now hand value =
-    action_step_held (named_held (locking e) (handling e) worker value hand) settings worker e now hand value

@@ -2,15 +2,15 @@
 -- lock and the worker's hand; and what it answers.
 use Rattle.std.specs.Prelude.{ℕ, false, not, ◌==◌, List, [], ◌∷◌, Option, Some, None}
 use Rattle.ule_types.specs.declared.event.Event.{Event}
-use Rattle.ule_types.specs.declared.event.Event.TheVariants.{Tick, Switch, Drop, Bed, Wake, Look, Land, Move, Lend, Unlend, Renice, Hatch, Fork, Return, Exit, Bury, Inherit}
 use Rattle.ule_types.specs.declared.event.Reply.{Reply}
 use Rattle.ule_types.specs.declared.event.Reply.TheVariants.{Nothing, Dropped, Bedded, NotAsleep, Landed, Changed, Hatched, Returned, Buried}
 use Rattle.ule_model.specs.Action.{action_done}
 use Rattle.ule_model.specs.Actions.{action_of}
 pub use Rattle.ule_model.specs.ActionStep.{Stepped, kept}
-use Rattle.ule_model.specs.ActionStep.{action_lock_step, bare_side, named_by, seen_on, seen_under}
+use Rattle.ule_model.specs.ActionStep.{bare_side, named_by, named_held, on_chain, on_limbo, on_queue, seen_in, seen_off, seen_on, seen_under}
+use Rattle.ule_model.specs.ActionValue.{action_in_slots, action_on_cpu}
 use Rattle.ule_model.specs.Birth.{exited_reply}
-use Rattle.ule_model.specs.Events.{locks_of}
+use Rattle.ule_model.specs.Events.{handling, locking, locks_of}
 use Rattle.ule_model.specs.CpuChange.{forked_reply, value_changed, value_forked}
 use Rattle.ule_model.specs.Sleep.{woken_reply}
 use Rattle.ule_model.specs.PriorityChange.{gone_answer, unborn_answer}
@@ -140,69 +140,30 @@ limbo_changed settings given t hand (Some s) v = limbo_changed_at s.place settin
 
 -- ---- the step under one lock
 
--- an event on a CPU
+-- an event of a worker on a CPU
 abbrev pub queue_step : ℕ → Event → ℕ → Option ThreadRecord → CpuValue → Stepped
-queue_step worker (Tick c) now hand v = queue_stepped hand (value_ticked now v)
-queue_step worker (Switch c why) now hand v = queue_stepped hand (value_switched why now v)
-queue_step worker (Drop c channel) now hand v = queue_dropped hand (value_taken sleeps now v)
-queue_step worker (Bed t channel) now hand v = kept hand (queue v) Nothing
-queue_step worker (Wake t) now hand v = kept hand (queue v) (not_asleep (found_on v t))
-queue_step worker (Look c) now hand v = kept hand (queue v) Nothing
-queue_step worker (Land t c) now hand v = queue_landed worker hand v
-queue_step worker (Move a b why) now hand v = kept hand (queue v) Nothing
-queue_step worker (Lend t p) now hand v = queue_stepped hand (value_changed t (change.Lend p) (not (worker == v.cpu)) v)
-queue_step worker (Unlend t) now hand v = queue_stepped hand (value_changed t change.Unlend (not (worker == v.cpu)) v)
-queue_step worker (Renice t n) now hand v = queue_stepped hand (value_changed t (change.Renice n) (not (worker == v.cpu)) v)
-queue_step worker (Hatch t) now hand v = kept hand (queue v) Nothing
-queue_step worker (Fork c t) now hand v = queue_forked now hand v
-queue_step worker (Return t) now hand v = kept hand (queue v) Nothing
-queue_step worker (Exit c) now hand v = queue_exited hand (value_taken ran now v)
-queue_step worker (Bury t) now hand v = kept hand (queue v) Nothing
-queue_step worker (Inherit t run) now hand v = queue_stepped hand (value_changed t (change.Inherit run) (not (worker == v.cpu)) v)
+queue_step worker e now hand v =
+    let named = named_held (locking e) (handling e) worker (queue v) hand in
+    on_queue (action_on_cpu now (action_of e (seen_in worker now named v)) (record { hand = hand; value = v }))
 
--- an event on a sleep chain
-abbrev pub chain_step : Settings → Event → ℕ → Option ThreadRecord → ChainValue → Stepped
-chain_step settings (Tick c) now hand v = kept hand (chain v) Nothing
-chain_step settings (Switch c why) now hand v = kept hand (chain v) Nothing
-chain_step settings (Drop c channel) now hand v = kept hand (chain v) Nothing
-chain_step settings (Bed t channel) now hand v = chain_bedded channel hand v
-chain_step settings (Wake t) now hand v = chain_woken settings now t hand (standing_in v.slots t) v
-chain_step settings (Look c) now hand v = kept hand (chain v) Nothing
-chain_step settings (Land t c) now hand v = kept hand (chain v) Nothing
-chain_step settings (Move a b why) now hand v = kept hand (chain v) Nothing
-chain_step settings (Lend t p) now hand v = chain_changed settings (change.Lend p) t hand (standing_in v.slots t) v
-chain_step settings (Unlend t) now hand v = chain_changed settings change.Unlend t hand (standing_in v.slots t) v
-chain_step settings (Renice t n) now hand v = chain_changed settings (change.Renice n) t hand (standing_in v.slots t) v
-chain_step settings (Hatch t) now hand v = kept hand (chain v) Nothing
-chain_step settings (Fork c t) now hand v = kept hand (chain v) Nothing
-chain_step settings (Return t) now hand v = kept hand (chain v) Nothing
-chain_step settings (Exit c) now hand v = kept hand (chain v) Nothing
-chain_step settings (Bury t) now hand v = kept hand (chain v) Nothing
-chain_step settings (Inherit t run) now hand v = chain_changed settings (change.Inherit run) t hand (standing_in v.slots t) v
+-- on a sleep chain
+abbrev pub chain_step : Settings → ℕ → Event → ℕ → Option ThreadRecord → ChainValue → Stepped
+chain_step settings worker e now hand v =
+    let named = named_held (locking e) (handling e) worker (chain v) hand in
+    on_chain v (action_in_slots settings now (action_of e (seen_off worker now settings named)) (record { hand = hand; slots = v.slots }))
 
--- an event on limbo
-abbrev pub limbo_step : Settings → Event → Option ThreadRecord → LimboValue → Stepped
-limbo_step settings (Tick c) hand v = kept hand (limbo v) Nothing
-limbo_step settings (Switch c why) hand v = kept hand (limbo v) Nothing
-limbo_step settings (Drop c channel) hand v = kept hand (limbo v) Nothing
-limbo_step settings (Bed t channel) hand v = kept hand (limbo v) Nothing
-limbo_step settings (Wake t) hand v = kept hand (limbo v) (not_asleep (standing_in v.slots t))
-limbo_step settings (Look c) hand v = kept hand (limbo v) Nothing
-limbo_step settings (Land t c) hand v = kept hand (limbo v) Nothing
-limbo_step settings (Move a b why) hand v = kept hand (limbo v) Nothing
-limbo_step settings (Lend t p) hand v = limbo_changed settings (change.Lend p) t hand (standing_in v.slots t) v
-limbo_step settings (Unlend t) hand v = limbo_changed settings change.Unlend t hand (standing_in v.slots t) v
-limbo_step settings (Renice t n) hand v = limbo_changed settings (change.Renice n) t hand (standing_in v.slots t) v
-limbo_step settings (Hatch t) hand v = limbo_hatched t hand (standing_in v.slots t) v
-limbo_step settings (Fork c t) hand v = kept hand (limbo v) Nothing
-limbo_step settings (Return t) hand v = limbo_returned hand v
-limbo_step settings (Exit c) hand v = kept hand (limbo v) Nothing
-limbo_step settings (Bury t) hand v = limbo_buried hand v
-limbo_step settings (Inherit t run) hand v = limbo_changed settings (change.Inherit run) t hand (standing_in v.slots t) v
+-- in limbo
+abbrev pub limbo_step : Settings → ℕ → Event → ℕ → Option ThreadRecord → LimboValue → Stepped
+limbo_step settings worker e now hand v =
+    let named = named_held (locking e) (handling e) worker (limbo v) hand in
+    on_limbo v (action_in_slots settings now (action_of e (seen_off worker now settings named)) (record { hand = hand; slots = v.slots }))
 
 -- the step of an event under one lock
 abbrev pub lock_step : Settings → ℕ → Event → ℕ → Option ThreadRecord → LockValue → Stepped
-lock_step settings worker e now hand value = action_lock_step settings worker e now hand value
+lock_step settings worker e now hand (queue v) = queue_step worker e now hand v
+lock_step settings worker e now hand (chain v) = chain_step settings worker e now hand v
+lock_step settings worker e now hand (limbo v) = limbo_step settings worker e now hand v
+lock_step settings worker e now hand nothing = kept hand nothing Nothing
 
 -- the step of an event under two locks: no event under two has one yet
 abbrev pub pair_step : Settings → ℕ → Event → ℕ → LockValue → LockValue → LockValue × LockValue × Reply
