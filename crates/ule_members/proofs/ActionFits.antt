@@ -106,12 +106,12 @@ module _ (w : World) (worker now : ℕ) (made : IsWellMadeWorld w) where
   abbrev thread_if : Option Member → Option ThreadRecord
   thread_if o = option_map (λ (m : Member). m.thread) o
 
-  tick_fits : (c : ℕ) (o : Option Member) → current_of c w.members ≡ o → IsFit (Tick c) c (tick_action (thread_if o) (seen_under w worker now (Tick c) c))
+  pub tick_fits : (c : ℕ) (o : Option Member) → current_of c w.members ≡ o → IsFit (Tick c) c (tick_action (thread_if o) (seen_under w worker now (Tick c) c))
   tick_fits c None found = record { follows = (tt, tt, tt); word = λ into. refl }
   tick_fits c (Some m) found =
       record { follows = (tt, tt, ((runs_there c m found, here (Tick c) c (Running c) (takes_itself c) refl, tt), tt, (tt, tt, tt))); word = λ into. refl }
 
-  give_way_fits : (c : ℕ) (why : Why) (p : Bool) (o : Option Member) → current_of c w.members ≡ o →
+  pub give_way_fits : (c : ℕ) (why : Why) (p : Bool) (o : Option Member) → current_of c w.members ≡ o →
       IsFit (Switch c why) c (give_way_action p (thread_if o) (seen_under w worker now (Switch c why) c))
   give_way_fits c why p None found = record { follows = (tt, tt, (found, tt, tt)); word = λ into. refl }
   give_way_fits c why p (Some m) found =
@@ -129,7 +129,7 @@ module _ (w : World) (worker now : ℕ) (made : IsWellMadeWorld w) where
       if_asked false = give_way_fits c why p (current_of c w.members) refl
 
   -- an event by which the current thread leaves, if there is one, with this change of its record and this reply
-  leave_fits : (e : Event) (c : ℕ) (change : RecordChange) (reply : ThreadRecord → Option ℕ → Reply) → is_among (locks_of w e) c ≡ true → IsSoundIn w now change →
+  pub leave_fits : (e : Event) (c : ℕ) (change : RecordChange) (reply : ThreadRecord → Option ℕ → Reply) → is_among (locks_of w e) c ≡ true → IsSoundIn w now change →
       change_of e Nothing ≡ None → ((r : ThreadRecord) (into : Option ℕ) → change_of e (reply r into) ≡ Some (block r.id)) →
       (o : Option Member) → current_of c w.members ≡ o → IsFit e c (leave_action change reply (thread_if o) (seen_under w worker now e c))
   leave_fits e c change reply among sound none word None found = answer_fits e c Nothing none

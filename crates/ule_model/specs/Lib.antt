@@ -16,6 +16,7 @@ pub mod Actions
 pub mod ActionValue
 pub mod ActionStep
 pub mod Step
+pub mod CpuActions
 pub mod Program
 pub mod Rounds
 pub mod Finals
