@@ -6,9 +6,7 @@ pub mod Choice
 pub mod Switch
 pub mod Start
 pub mod Tick
-pub mod Sleep
 pub mod Landing
-pub mod Birth
 pub mod Events
 pub mod Words
 pub mod Action
@@ -27,7 +25,6 @@ pub mod WellMade
 pub mod CpuValue
 pub mod CpuChange
 pub mod CpuNumbers
-pub mod PriorityChange
 pub mod CpuStart
 pub mod Conditions
 pub mod Frames

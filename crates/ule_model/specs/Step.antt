@@ -3,30 +3,28 @@
 use Rattle.std.specs.Prelude.{ℕ, false, not, ◌==◌, List, [], ◌∷◌, Option, Some, None}
 use Rattle.ule_types.specs.declared.event.Event.{Event}
 use Rattle.ule_types.specs.declared.event.Reply.{Reply}
-use Rattle.ule_types.specs.declared.event.Reply.TheVariants.{Nothing, Dropped, Bedded, NotAsleep, Landed, Changed, Hatched, Returned, Buried}
+use Rattle.ule_types.specs.declared.event.Reply.TheVariants.{Nothing, Dropped, Exited, Bedded, NotAsleep, Landed, Changed, Hatched, Returned, Buried}
 use Rattle.ule_model.specs.Action.{action_done}
 use Rattle.ule_model.specs.Actions.{action_of}
 pub use Rattle.ule_model.specs.ActionStep.{Stepped, kept}
 use Rattle.ule_model.specs.ActionStep.{bare_side, named_by, named_held, on_chain, on_limbo, on_queue, seen_in, seen_off, seen_on, seen_under}
 use Rattle.ule_model.specs.ActionValue.{action_in_slots, action_on_cpu}
-use Rattle.ule_model.specs.Birth.{exited_reply}
 use Rattle.ule_model.specs.Events.{handling, locking, locks_of}
-use Rattle.ule_model.specs.CpuChange.{forked_reply, value_changed, value_forked}
-use Rattle.ule_model.specs.Sleep.{woken_reply}
-use Rattle.ule_model.specs.PriorityChange.{gone_answer, unborn_answer}
+use Rattle.ule_model.specs.CpuChange.{forked_reply, value_forked}
+use Rattle.ule_model.specs.Actions.{woken_reply}
+use Rattle.ule_model.specs.Actions.{gone_answer, unborn_answer}
 use Rattle.ule_model.specs.World.{World, on_side}
 use Rattle.ule_prio.specs.Kind.{kind_at}
-use Rattle.ule_score.specs.Changes.{after_change, ran, record_after, sleeps, woken as woken_change}
+use Rattle.ule_score.specs.Changes.{after_change, record_after, woken as woken_change}
 use Rattle.ule_score.specs.declared.place.Place.{Place}
 use Rattle.ule_score.specs.declared.place.Place.TheVariants.{Running, Queued, Asleep, Unborn, Gone, Hand}
 use Rattle.ule_score.specs.declared.record.Change.{Change}
-use Rattle.ule_score.specs.declared.record.Change.TheVariants as change
 use Rattle.ule_score.specs.declared.record.Settings.{Settings}
 use Rattle.ule_score.specs.declared.record.ThreadRecord.{ThreadRecord}
-use Rattle.ule_sleep.specs.Chain.{ChainValue, standing_in, with_sleeper, with_sleeper_changed, without_sleeper}
+use Rattle.ule_sleep.specs.Chain.{ChainValue, with_sleeper, with_sleeper_changed, without_sleeper}
 use Rattle.ule_sleep.specs.Limbo.{LimboValue, with_still, with_still_changed, without_still}
 use Rattle.ule_threads.specs.declared.standing.Standing.{Standing}
-use Rattle.ule_model.specs.CpuValue.{CpuValue, Taken, takes_over_in, value_added, value_switched, value_taken, value_ticked}
+use Rattle.ule_model.specs.CpuValue.{CpuValue, Taken, takes_over_in, value_added}
 use Rattle.ule_model.specs.Insertion.{Ordinary, bucket_of}
 use Rattle.ule_model.specs.LockValue.{LockValue, queue, chain, limbo, nothing}
 
@@ -53,6 +51,10 @@ queue_stepped hand made = record { hand = hand; value = queue made.0; reply = ma
 abbrev pub queue_dropped : Option ThreadRecord → CpuValue × Option Taken → Stepped
 queue_dropped hand (made, None) = kept hand (queue made) Nothing
 queue_dropped hand (made, Some out) = record { hand = Some out.thread; value = queue made; reply = Dropped out.thread.id out.into }
+
+-- what an exit tells of the thread that left with this record: its parent and its run time, and who runs now
+abbrev pub exited_reply : ThreadRecord → Option ℕ → Reply
+exited_reply r into = Exited r.id into r.parent r.hist.run
 
 -- an exit: the thread that left goes to the hand
 abbrev pub queue_exited : Option ThreadRecord → CpuValue × Option Taken → Stepped

@@ -17,15 +17,14 @@ use Rattle.ule_types.specs.declared.event.Reply.TheVariants.{Dropped, Exited, No
 use Rattle.ule_model.specs.Actions.{change_action}
 use Rattle.ule_model.specs.ActionStep.{on_chain, on_limbo, on_queue, seen_in, seen_off}
 use Rattle.ule_model.specs.ActionValue.{action_in_slots, action_on_cpu}
-use Rattle.ule_model.specs.Birth.{exited_reply}
 use Rattle.ule_model.specs.CpuChange.{value_changed}
 use Rattle.ule_model.specs.CpuValue.{CpuValue, Taken, value_switched, value_taken, value_ticked}
 use Rattle.ule_model.specs.Events.{locking, sought_by}
 use Rattle.ule_model.specs.LockConditions.{CanStepChain, CanStepLimbo, CanStepQueue, HasPlaced, HasSleeper, HasStill, MayTakeChain, MayTakeLimbo, MayTakeQueue}
 use Rattle.ule_model.specs.LockValue.{LockValue, found_on}
 use Rattle.ule_model.specs.LockValue as value
-use Rattle.ule_model.specs.PriorityChange.{unborn_answer}
-use Rattle.ule_model.specs.Step.{Stepped, chain_bedded, chain_changed, chain_step, chain_woken, kept, limbo_buried, limbo_changed, limbo_changed_at, limbo_changed_unborn, limbo_hatched, limbo_returned, limbo_step, not_asleep, queue_dropped, queue_exited, queue_forked, queue_landed, queue_step, queue_stepped}
+use Rattle.ule_model.specs.Actions.{unborn_answer}
+use Rattle.ule_model.specs.Step.{Stepped, exited_reply, chain_bedded, chain_changed, chain_step, chain_woken, kept, limbo_buried, limbo_changed, limbo_changed_at, limbo_changed_unborn, limbo_hatched, limbo_returned, limbo_step, not_asleep, queue_dropped, queue_exited, queue_forked, queue_landed, queue_step, queue_stepped}
 use Rattle.ule_laws.proofs.SameValues.{bed_same, bury_same, chain_change_same, chain_wake_same, change_same, fork_same, hatch_same, land_same, leave_same, limbo_change_same, limbo_wake_same, return_same, stepped_left, switch_same, tick_same, wake_same}
 
 -- ---- what a step comes to, where it is that of a change
