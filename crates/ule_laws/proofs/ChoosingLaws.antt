@@ -1,6 +1,7 @@
 -- Changes of records, and the choice of the next thread, on a CPU's value and on the side of a world that it
 -- stands for.
 use Rattle.std.proofs.Common.{◌≡◌, ℕ, ◌<◌, pos, Bool, true, false, List, [], ◌∷◌, ◌++◌, map, length, slice_index_or, slice_set, if◌then◌else◌, Option, Some, None, ⊎_elim, refl, sym, ◌∙◌, ap, subst, arith, length-set, get_or-set_same, get_or-set_other}
+use Rattle.std.proofs.lemmas.List.{set-get_or}
 use Rattle.std.specs.List.{find}
 use Rattle.std.specs.Option.{option_map}
 use Rattle.std.proofs.lemmas.Bool.{cases_eq}
@@ -116,6 +117,23 @@ recorded_stands t change m v s kept stands w = record {
 
     shown : (k : Kind) → ShowsQueue (queue_of k v) v.cpu k (with_record t change s.members)
     shown k = shows-with_record (queue_of k v) v.cpu k s.members t change kept (stands.queues k)
+
+-- a change of the record of a thread on no CPU leaves what a value stands for
+pub elsewhere_recorded : (t : ℕ) (change : ThreadRecord → ThreadRecord) (m : Member) (v : CpuValue) (s : Side) →
+    ((r : ThreadRecord) → (change r).id ≡ r.id) → StandsFor v s → Within t m s.members → is_on v.cpu m.place ≡ false →
+    (thread_in v t ≡ None) × StandsFor v (record s { members = with_record t change s.members })
+elsewhere_recorded t change m v s kept stands w off = (
+  none,
+  subst (λ (threads : List (Option ThreadRecord)). StandsFor (record v { threads = threads }) (record s { members = with_record t change s.members }))
+      (ap (λ (o : Option ThreadRecord). slice_set v.threads t (option_map change o)) none
+      ∙ ap (λ (o : Option ThreadRecord). slice_set v.threads t o) (sym none) ∙ set-get_or v.threads t None)
+      (recorded_stands t change m v s kept stands w),
+)
+  where
+    none : thread_in v t ≡ None
+    none =
+        stands.threads t ∙ ap (option_map (λ (x : Member). x.thread))
+        (thread_on_within v.cpu t m s.members w ∙ ap (λ d. if d then Some m else None) off)
 
 -- a thread's record goes through a change at one time, on the value and on the side
 pub changed_stands : (now t : ℕ) (change : RecordChange) (m : Member) (v : CpuValue) (s : Side) → StandsFor v s → Within t m s.members →

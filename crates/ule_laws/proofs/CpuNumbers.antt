@@ -18,7 +18,7 @@ use Rattle.ule_model.specs.Tick.{load_of}
 use Rattle.ule_model.specs.WellMade.{AllApart, AreApart, IsMade, IsWellMade}
 use Rattle.ule_model.specs.World.{Member, Side, current_of, is_numbered, thread_of}
 use Rattle.ule_laws.proofs.ChoiceLaws.{Agrees, choices_agree}
-use Rattle.ule_laws.proofs.CpuEvents.{current_in_is}
+use Rattle.ule_laws.proofs.EventStands.{current_in_is}
 use Rattle.ule_laws.proofs.CpuPlaces.{runner_of_current}
 use Rattle.ule_laws.proofs.PlaceLaws.{place_from_runs_on, waits_on_place}
 use Rattle.ule_members.proofs.Membership.{all_has, has_within, same_from_number}

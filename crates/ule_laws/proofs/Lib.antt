@@ -9,6 +9,7 @@ pub mod QueueKinds
 pub mod Beside
 pub mod Queueing
 pub mod ChoosingLaws
+pub mod CpuLines
 pub mod CpuLaws
 pub mod CpuPlaces
 pub mod FrameLaws
@@ -18,13 +19,17 @@ pub mod SeekLaws
 pub mod StepFrom
 pub mod SleepLaws
 pub mod SleepCallLaws
-pub mod ChainSteps
+pub mod EventStands
+pub mod SameValues
+pub mod PartStands
+pub mod SlotStands
 pub mod CpuEvents
 pub mod CpuNumbers
 pub mod CpuChanges
-pub mod ChangeSteps
 pub mod StepLaws
 pub mod TellLaws
+pub mod SoughtLaws
+pub mod CallStands
 pub mod StepConditions
 pub mod WorldSteps
 pub mod CpuStarts

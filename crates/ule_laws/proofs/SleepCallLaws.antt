@@ -8,12 +8,11 @@ use Rattle.ule_score.specs.declared.place.Place.TheVariants.{Unborn, Gone}
 use Rattle.ule_sleep.specs.Chain.{with_sleeper_changed, without_sleeper}
 use Rattle.ule_sleep.specs.Limbo.{with_still_changed}
 use Rattle.ule_model.specs.Places.{is_number, is_under, lock_of}
-use Rattle.ule_model.specs.Sleep.{put_in_hand}
 use Rattle.ule_model.specs.World.{Member, World, with_record}
 use Rattle.ule_model.specs.WorldValue.{IsChainOf, IsLimboOf}
 use Rattle.ule_members.proofs.Within.{Within, within_thread}
 use Rattle.ule_laws.proofs.SleepLaws.{chain_joined, chain_left, chain_record_changed, limbo_joined, limbo_left, limbo_record_changed, taken_up_is}
-use Rattle.ule_laws.specs.SleepCalls.{ChainCallsStand, IsThreadOf, LimboCallsStand}
+use Rattle.ule_laws.specs.SleepCalls.{ChainCallsStand, IsThreadOf, LimboCallsStand, with_thread_woken}
 
 -- the thread stands within the list of the world's threads
 thread_within : (w : World) (t : ℕ) (m : Member) → IsThreadOf w t m → Within t m w.members
@@ -29,7 +28,7 @@ chain_calls = record {
   bed = λ w l t channel m v thread is same. chain_joined w l t channel m v (thread_within w t m thread) is same;
   take_out = λ w l t worker now settings m v thread is.
       let within : Within t m w.members = thread_within w t m thread in
-      subst (λ (i : ℕ). IsChainOf (record w { members = put_in_hand settings now worker woken i w.members }) l (without_sleeper t v)) (sym within.number)
+      subst (λ (i : ℕ). IsChainOf (with_thread_woken settings now worker i w) l (without_sleeper t v)) (sym within.number)
       (subst (λ ns. IsChainOf (record w { members = ns }) l (without_sleeper t v))
       (sym (taken_up_is t worker (record_after settings now woken) w.members (change_number settings now woken)))
       (chain_left w l t worker (record_after settings now woken) m v (change_number settings now woken) within is));

@@ -1,34 +1,36 @@
 -- Where a worker can perform an event in a world, the scheduler that shows it has what the step under the
 -- event's lock needs.
-use Rattle.std.proofs.Common.{◌≡◌, ℕ, ◌+◌, ◌%◌, ◌<◌, ◌≤◌, Bool, true, false, ◌==◌, ◌||◌, List, [], ◌∷◌, length, slice_get, Option, Some, None, IfSome, refl, sym, ◌∙◌, ap, subst, arith, mod-lt}
+use Rattle.std.proofs.Common.{◌≡◌, ℕ, ◌+◌, ◌%◌, ◌<◌, ◌≤◌, Bool, true, false, ◌==◌, ◌||◌, List, [], ◌∷◌, length, slice_get, Option, Some, None, IfSome, ⊎_elim, refl, sym, ◌∙◌, ap, subst, arith}
 use Rattle.std.specs.List.{list_any}
 use Rattle.std.specs.Option.{option_map}
-use Rattle.std.proofs.lemmas.Bool.{cond-false, cond-true, eq-eqb, eqb-true, ltb-true, true≢false}
-use Rattle.std.proofs.lemmas.Option.{none-some}
+use Rattle.std.proofs.lemmas.Bool.{cond-false, cond-true, eq-eqb, eqb-true, true≢false}
+use Rattle.std.proofs.lemmas.Option.{none-some, same_Some}
 use Rattle.ule_score.specs.Changes.{IsBy}
 use Rattle.ule_score.specs.declared.place.Place.{Place}
 use Rattle.ule_score.specs.declared.record.ThreadRecord.{ThreadRecord}
 use Rattle.ule_sleep.specs.Chain.{standing_in}
 use Rattle.ule_threads.specs.declared.standing.Standing.{Standing}
 use Rattle.ule_types.specs.declared.event.Event.{Event}
-use Rattle.ule_types.specs.declared.event.Event.TheVariants.{Tick, Switch, Drop, Bed, Wake, Look, Land, Move, Lend, Unlend, Renice, Hatch, Fork, Return, Exit, Bury, Inherit}
+use Rattle.ule_types.specs.declared.event.Event.TheVariants.{Hatch}
 use Rattle.ule_model.specs.Conditions.{IsByIfReached, IsHandled, IsPossible}
 use Rattle.ule_model.specs.CpuValue.{thread_in, thread_on}
-use Rattle.ule_model.specs.Events.{handling, is_reached, lock_of_thread, locking, locks_of}
+use Rattle.ule_model.specs.Events.{handling, is_reached, locking, locks_of, sought_by}
 use Rattle.ule_model.specs.Frames.{thread_in_hand, thread_under}
-use Rattle.ule_model.specs.LockConditions.{CanStepAt}
+use Rattle.ule_model.specs.LockConditions.{CanStepAt, HasPlaced, HasSleeper, HasStill}
 use Rattle.ule_model.specs.LockValue.{LockValue, chain, limbo, nothing, queue}
 use Rattle.ule_model.specs.Places.{hand_of, is_hand_of, is_number, is_under}
 use Rattle.ule_model.specs.WellMade.{IsWellMade}
 use Rattle.ule_sleep.specs.Limbo.{HasUnborn}
-use Rattle.ule_model.specs.World.{Member, World}
-use Rattle.ule_model.specs.WorldValue.{CanStep, Shows, StandsUnder, WorldValue, held_by, if_thread, lock_for, lock_with, standing_of}
+use Rattle.ule_model.specs.World.{Member, World, side_of}
+use Rattle.ule_model.specs.WorldValue.{CanStep, Shows, StandsUnder, WorldValue, held_by, if_thread, lock_for, standing_of}
 use Rattle.ule_members.proofs.Membership.{all_has, has_within}
+use Rattle.ule_members.proofs.Reach.{place_from_hand}
 use Rattle.ule_members.proofs.PlaceFinds.{thread_at_stands, thread_at_within, within_thread_at}
-use Rattle.ule_laws.proofs.ChainSteps.{place_from_hand_of}
 use Rattle.ule_laws.proofs.SeekLaws.{on_is_under}
+use Rattle.ule_laws.proofs.EventStands.{IsUnder, same_lock, under_from_locks}
+use Rattle.ule_laws.proofs.SoughtLaws.{current_numbered, has_placed, has_sleeper, has_still, sought_locks, takes_chain, takes_limbo, takes_queue}
 use Rattle.ule_laws.proofs.StepFrom.{IsAtEvent, slot_of}
-use Rattle.ule_laws.proofs.StepLaws.{IsSought, few_queues, sought_stands, unborn_stands}
+use Rattle.ule_laws.proofs.StepLaws.{HasLock, event_lock, is_pair, pair_unlocked, unborn_stands}
 use Rattle.ule_laws.proofs.WorldLaws.{HasValue, if_some, value_at}
 
 -- ---- reach
@@ -59,7 +61,7 @@ not_under v w worker l r shows held = at_thread (thread_in_hand worker r.id w.me
     at_thread None is = absurd (none-some r (sym (some ∙ ap (option_map (λ (m : Member). m.thread)) is)))
     at_thread (Some m) is =
         thread_at_within (is_under l) r.id m w.members (within_thread_at (is_hand_of worker) r.id m w.members shows.made is) ∙
-        cond-false (is_under l m.place) (Some m) None (ap (is_under l) (place_from_hand_of m.place worker (number_from (hand_of m.place) (thread_at_stands (is_hand_of worker) r.id m w.members is))))
+        cond-false (is_under l m.place) (Some m) None (ap (is_under l) (place_from_hand worker m.place (number_from (hand_of m.place) (thread_at_stands (is_hand_of worker) r.id m w.members is))))
       where
         number_from : (o : Option ℕ) → is_number worker o ≡ true → o ≡ Some worker
         number_from None not = absurd (true≢false (sym not))
@@ -67,9 +69,10 @@ not_under v w worker l r shows held = at_thread (thread_in_hand worker r.id w.me
 
 -- ---- what the step needs
 
--- one lock is one number
-one_number : (l k : ℕ) → l ∷ [] ≡ k ∷ [] → l ≡ k
-one_number l k e = cc
+-- the thread that an event of one lock seeks stands under it
+sought_under : (v : WorldValue) (w : World) (worker : ℕ) (e : Event) (now l t : ℕ) (at : IsAtEvent v w worker e now) → locks_of w e ≡ l ∷ [] → sought_by e ≡ Some t →
+    IsUnder v w worker now at.shows t l
+sought_under v w worker e now l t at locks sought = under_from_locks v w worker now at.shows t l (sym (sought_locks w.members (locking e) t sought) ∙ locks)
 
 -- the step under an event's lock has what it needs
 pub can_step_at : (v : WorldValue) (w : World) (worker : ℕ) (e : Event) (now l : ℕ) (value : LockValue) → IsAtEvent v w worker e now → locks_of w e ≡ l ∷ [] →
@@ -79,7 +82,10 @@ can_step_at v w worker e now l (queue u) at locks is = record {
   in_time = λ t. subst (λ (o : Option ThreadRecord). IfSome o (λ r. r.usage.ltick ≤ now)) (sym (is.stands.threads t)) (on t (thread_on u.cpu t w.members) refl);
   absent = if_some (λ (r : ThreadRecord). thread_in u r.id ≡ None) (held_by v worker) (λ r held. is.stands.threads r.id ∙ ap (option_map (λ (m : Member). m.thread)) (under r.id ∙ not_under v w worker l r at.shows held));
   numbers = at.possible.numbers;
-  cpu = λ t c same. is.cpu ∙ sym (one_number c l (sym (ap (locks_of w) same) ∙ locks));
+  cpu = λ t c same. is.cpu ∙ sym (same_lock c l (sym (ap (locks_of w) same) ∙ locks));
+  lock = takes_queue w.members l (locking e) (let below = is.there in let few = at.shows.cpus in omega arith) locks;
+  runs = current_numbered u (side_of l w) is.stands at.shows.made;
+  sought = if_some (HasPlaced u) (sought_by e) (λ t same. has_placed v w worker now at.shows t l (sought_under v w worker e now l t at locks same) u is);
 }
   where
     under : (t : ℕ) → thread_on u.cpu t w.members ≡ thread_under l t w.members
@@ -93,7 +99,9 @@ can_step_at v w worker e now l (chain c) at locks is = record {
   in_time = λ t. subst (λ (o : Option Standing). IfSome o (λ s. IsBy now s.thread)) (sym (is.under t)) (on t (thread_under l t w.members) refl);
   absent = if_some (λ (r : ThreadRecord). standing_in c.slots r.id ≡ None) (held_by v worker) (λ r held. is.under r.id ∙ ap (option_map standing_of) (not_under v w worker l r at.shows held));
   numbers = at.possible.numbers;
-  channel = λ t channel same. let number = is.number in let lock : 16 + channel % 8 ≡ l = one_number (16 + channel % 8) l (sym (ap (locks_of w) same) ∙ locks) in omega arith;
+  channel = λ t channel same. let number = is.number in let lock : 16 + channel % 8 ≡ l = same_lock (16 + channel % 8) l (sym (ap (locks_of w) same) ∙ locks) in omega arith;
+  lock = takes_chain w.members l (length w.lines) (locking e) (let number = is.number in omega arith) (let number = is.number in let small = is.small in omega arith) at.shows.cpus at.possible.cpus locks;
+  sought = if_some (HasSleeper c) (sought_by e) (λ t same. has_sleeper v w worker now at.shows t l (sought_under v w worker e now l t at locks same) c is);
 }
   where
     on : (t : ℕ) (o : Option Member) → thread_under l t w.members ≡ o → IfSome (option_map standing_of o) (λ s. IsBy now s.thread)
@@ -103,6 +111,8 @@ can_step_at v w worker e now l (limbo c) at locks is = record {
   absent = if_some (λ (r : ThreadRecord). standing_in c.slots r.id ≡ None) (held_by v worker) (λ r held. is.under r.id ∙ ap (option_map standing_of) (not_under v w worker l r at.shows held));
   numbers = at.possible.numbers;
   unborn = λ t same. hatched t same;
+  lock = takes_limbo w.members l (length w.lines) (locking e) is.number at.shows.cpus at.possible.cpus locks;
+  sought = if_some (HasStill c) (sought_by e) (λ t same. has_still v w worker now at.shows t l (sought_under v w worker e now l t at locks same) c is);
 }
   where
     hatched : (t : ℕ) → e ≡ Hatch t → HasUnborn c t
@@ -118,37 +128,15 @@ pub record IsLockOf (w : World) (e : Event) (l : ℕ) : Type 0 where
   pub within : l < 25
   pub locks : locks_of w e ≡ l ∷ []
 
--- a fixed lock
-fixed_lock : (w : World) (e : Event) (k l : ℕ) → Some k ≡ Some l → k < 25 → locks_of w e ≡ k ∷ [] → IsLockOf w e l
-fixed_lock w e k l same within locks = record { within = subst (λ (i : ℕ). i < 25) (equal k l same) within; locks = locks ∙ ap (λ (i : ℕ). i ∷ []) (equal k l same) }
-  where
-    equal : (k l : ℕ) → Some k ≡ Some l → k ≡ l
-    equal k l e = cc
-
--- the lock of a sought thread
-sought_lock : (v : WorldValue) (w : World) (e : Event) (t l : ℕ) → IsSought v w t → lock_with t v.values ≡ Some l → locks_of w e ≡ lock_of_thread w.members t → IsLockOf w e l
-sought_lock v w e t l s lock locks = fixed_lock w e s.lock l (sym s.lock_is ∙ lock) s.within (locks ∙ s.locks)
-
 -- the lock that a scheduler finds for an event is the event's one lock
 pub lock_is_events : (v : WorldValue) (w : World) (worker : ℕ) (e : Event) (now l : ℕ) → IsAtEvent v w worker e now → lock_for v.values (locking e) ≡ Some l → IsLockOf w e l
-lock_is_events v w worker (Tick c) now l at lock = fixed_lock w (Tick c) c l lock (few_queues w c at.shows.cpus (ltb-true c (length w.lines) at.possible.cpus)) refl
-lock_is_events v w worker (Switch c why) now l at lock = fixed_lock w (Switch c why) c l lock (few_queues w c at.shows.cpus (ltb-true c (length w.lines) at.possible.cpus)) refl
-lock_is_events v w worker (Drop c channel) now l at lock = fixed_lock w (Drop c channel) c l lock (few_queues w c at.shows.cpus (ltb-true c (length w.lines) at.possible.cpus)) refl
-lock_is_events v w worker (Bed t channel) now l at lock =
-    fixed_lock w (Bed t channel) (16 + channel % 8) l lock (let small : channel % 8 < 8 = mod-lt channel (omega arith) in omega arith) refl
-lock_is_events v w worker (Wake t) now l at lock = sought_lock v w (Wake t) t l (sought_stands v w worker t at.shows at.possible.declared at.possible.ready at.possible.hand) lock refl
-lock_is_events v w worker (Look c) now l at lock = fixed_lock w (Look c) c l lock (few_queues w c at.shows.cpus (ltb-true c (length w.lines) at.possible.cpus)) refl
-lock_is_events v w worker (Land t c) now l at lock = fixed_lock w (Land t c) c l lock (few_queues w c at.shows.cpus (ltb-true c (length w.lines) at.possible.cpus)) refl
-lock_is_events v w worker (Move a b why) now l at lock = absurd (none-some l lock)
-lock_is_events v w worker (Lend t p) now l at lock = sought_lock v w (Lend t p) t l (sought_stands v w worker t at.shows at.possible.declared at.possible.ready at.possible.hand) lock refl
-lock_is_events v w worker (Unlend t) now l at lock = sought_lock v w (Unlend t) t l (sought_stands v w worker t at.shows at.possible.declared at.possible.ready at.possible.hand) lock refl
-lock_is_events v w worker (Renice t n) now l at lock = sought_lock v w (Renice t n) t l (sought_stands v w worker t at.shows at.possible.declared at.possible.ready at.possible.hand) lock refl
-lock_is_events v w worker (Hatch t) now l at lock = fixed_lock w (Hatch t) 24 l lock (omega arith) refl
-lock_is_events v w worker (Fork c t) now l at lock = fixed_lock w (Fork c t) c l lock (few_queues w c at.shows.cpus (ltb-true c (length w.lines) at.possible.cpus)) refl
-lock_is_events v w worker (Return t) now l at lock = fixed_lock w (Return t) 24 l lock (omega arith) refl
-lock_is_events v w worker (Exit c) now l at lock = fixed_lock w (Exit c) c l lock (few_queues w c at.shows.cpus (ltb-true c (length w.lines) at.possible.cpus)) refl
-lock_is_events v w worker (Bury t) now l at lock = fixed_lock w (Bury t) 24 l lock (omega arith) refl
-lock_is_events v w worker (Inherit t run) now l at lock = sought_lock v w (Inherit t run) t l (sought_stands v w worker t at.shows at.possible.declared at.possible.ready at.possible.hand) lock refl
+lock_is_events v w worker e now l at lock = ⊎_elim two one (event_lock v w worker e now at)
+  where
+    two : is_pair (locking e) ≡ true → IsLockOf w e l
+    two pair = absurd (none-some l (sym (pair_unlocked v.values (locking e) pair) ∙ lock))
+
+    one : HasLock v w e → IsLockOf w e l
+    one has = subst (IsLockOf w e) (same_Some has.lock l (sym has.lock_is ∙ lock)) (record { within = has.within; locks = has.locks })
 
 -- what a scheduler has where it finds a lock for an event
 pub record CanStepUnder (v : WorldValue) (worker : ℕ) (e : Event) (now l : ℕ) : Type 0 where

@@ -1,11 +1,10 @@
 -- How a step of the whole scheduler follows from what its event makes of the value under its lock and of the worker's
 -- hand; and what is known of hands and values where an event is performed.
-use Rattle.std.proofs.Common.{◌≡◌, ℕ, ◌+◌, ◌%◌, ◌<◌, ◌≤◌, true, false, ◌==◌, List, [], ◌∷◌, length, slice_set, Option, Some, None, IfSome, is_some, if◌then◌else◌, option_and_then, ⊎_elim, refl, sym, ◌∙◌, ap, subst, arith, mod-lt}
+use Rattle.std.proofs.Common.{◌≡◌, ℕ, ◌+◌, ◌%◌, ◌<◌, ◌≤◌, true, ◌==◌, List, [], ◌∷◌, length, slice_set, Option, Some, None, IfSome, option_and_then, ⊎_elim, refl, sym, ◌∙◌, ap, subst, arith, mod-lt}
 use Rattle.std.specs.Option.{option_map}
-use Rattle.std.proofs.lemmas.Bool.{cases_eq, cases_lt, cond-true, eq-eqb, cond-false, eqb-true, ne_eqb, true≢false}
+use Rattle.std.proofs.lemmas.Bool.{cases_eq, cases_lt, cond-true, eq-eqb, eqb-true, true≢false}
 use Rattle.std.proofs.lemmas.List.{get_or-set_other, get_or-set_same, set_past}
 use Rattle.std.proofs.lemmas.Option.{none-some}
-use Rattle.ule_score.specs.declared.place.Place.TheVariants.{Hand}
 use Rattle.ule_score.specs.declared.record.ThreadRecord.{ThreadRecord}
 use Rattle.ule_sleep.specs.Chain.{ChainValue, standing_in}
 use Rattle.ule_sleep.specs.Limbo.{LimboValue}
@@ -20,16 +19,14 @@ use Rattle.ule_model.specs.LockValue.{LockValue, chain, limbo, nothing, queue}
 use Rattle.ule_model.specs.Step.{Stepped, lock_step, step}
 use Rattle.ule_model.specs.Places.{hand_of, is_hand_of, is_number, is_under}
 use Rattle.ule_model.specs.WellMade.{IsWellMade, IsWellMadeWorld}
-use Rattle.ule_model.specs.Words.{WordChange, change_of}
 use Rattle.ule_model.specs.World.{Member, World, thread_of}
-use Rattle.ule_model.specs.WorldValue.{IsChainOf, IsHandOf, IsLimboOf, IsQueueOf, Shows, StandsUnder, WorldValue, held_by, if_thread, lock_for, put_back, standing_of, value_step, value_step_at}
+use Rattle.ule_model.specs.WorldValue.{IsChainOf, IsHandOf, IsLimboOf, IsQueueOf, Shows, StandsUnder, WorldValue, held_by, lock_for, put_back, standing_of, value_step, value_step_at}
 use Rattle.ule_members.proofs.PlaceFinds.{thread_at_is, thread_at_stands, thread_at_within}
-use Rattle.ule_members.proofs.Within.{Within, within_thread}
+use Rattle.ule_members.proofs.Within.{within_thread}
 use Rattle.ule_laws.proofs.FrameLaws.{elsewhere_stands}
-use Rattle.ule_members.proofs.Done.{in_hand_after, in_hand_kept}
-use Rattle.ule_members.proofs.Steps.{step_leaves_rest, step_is_made, step_own_hand}
+use Rattle.ule_members.proofs.Steps.{step_leaves_rest, step_is_made}
 use Rattle.ule_members.proofs.Untouched.{step_in_hand, step_under}
-use Rattle.ule_laws.proofs.LockLaws.{AreThese, IsThis}
+use Rattle.ule_laws.proofs.LockLaws.{AreThese}
 use Rattle.ule_laws.proofs.WorldLaws.{HasValue, IsFrame, IsMadeFor, put_back_shows, value_at}
 
 -- ---- hands
@@ -134,21 +131,6 @@ step_frame v w worker e now at =
       elsewhere = elsewhere_stands w worker e now made at.possible;
     }
 
--- what the worker has in hand after an event, by the change of a word
-pub own_hand : (v : WorldValue) (w : World) (worker : ℕ) (e : Event) (now : ℕ) → IsAtEvent v w worker e now → (u : ℕ) →
-    thread_in_hand worker u (step w worker e now).0.members ≡ in_hand_after w worker e now (change_of e (step w worker e now).1) u (thread_in_hand worker u w.members)
-own_hand v w worker e now at = step_own_hand w worker e now (shown_made v w at.shows) at.possible
-
--- where an event changes no word, and nothing of the thread in a hand, the hand stays
-pub hand_stays : (v : WorldValue) (w : World) (worker : ℕ) (e : Event) (now : ℕ) → IsAtEvent v w worker e now →
-    ((old : Option Member) → in_hand_kept w now e old ≡ old) → change_of e (step w worker e now).1 ≡ None →
-    IsHandOf (step w worker e now).0 worker (held_by v worker)
-hand_stays v w worker e now at keeps none u =
-    at.shows.hands worker u ∙
-    ap (option_map (λ (m : Member). m.thread)) (sym (own_hand v w worker e now at u ∙
-    ap (λ (c : Option WordChange). in_hand_after w worker e now c u (thread_in_hand worker u w.members)) none ∙
-    keeps (thread_in_hand worker u w.members)))
-
 -- what a step makes shows a world, and is answered so
 abbrev pub ShowsWithReply : World → Reply → WorldValue × Reply → Type 0
 ShowsWithReply n reply done = Shows done.0 n × (done.1 ≡ reply)
@@ -172,64 +154,3 @@ step_from v w worker e now l at lock locks within made =
     subst (λ (o : Option ℕ). ShowsWithReply n reply (value_step_at o worker e now v)) (sym lock)
     (subst (λ (o : Option LockValue). ShowsWithReply n reply (put_back l worker (option_map (lock_step v.settings worker e now (held_by v worker)) o) v)) (sym has.found)
     (put_back_shows v w worker l e n reply stepped at.shows (step_frame v w worker e now at) locks within at.possible.worker_is (made has)))
-
--- a hand that takes a thread
-pub hand_takes : (worker t : ℕ) (ns ms : List Member) (n : Member) (r : ThreadRecord) → ((u : ℕ) → thread_in_hand worker u ns ≡ (if u == t then Some n else thread_in_hand worker u ms)) →
-    n.thread ≡ r → r.id ≡ t → IsThis worker ms None → IsThis worker ns (Some r)
-hand_takes worker t ns ms n r after is number empty u = ⊎_elim own rest (cases_eq u t)
-  where
-    own : u ≡ t → if_thread u (Some r) ≡ option_map (λ m. m.thread) (thread_in_hand worker u ns)
-    own same =
-        cond-true (r.id == u) (Some r) None (eq-eqb r.id u (number ∙ sym same)) ∙ ap (λ (x : ThreadRecord). Some x) (sym is) ∙
-        sym (ap (option_map (λ (m : Member). m.thread)) (after u ∙ cond-true (u == t) (Some n) (thread_in_hand worker u ms) (eq-eqb u t same)))
-
-    rest : (u ≡ t → ⊥) → if_thread u (Some r) ≡ option_map (λ m. m.thread) (thread_in_hand worker u ns)
-    rest other =
-        cond-false (r.id == u) (Some r) None (ne_eqb r.id u (λ e. other (sym e ∙ number))) ∙ empty u ∙
-        sym (ap (option_map (λ (m : Member). m.thread)) (after u ∙ cond-false (u == t) (Some n) (thread_in_hand worker u ms) (ne_eqb u t other)))
-
--- a hand that gives its thread away
-pub hand_gives : (worker t : ℕ) (ns ms : List Member) (r : ThreadRecord) → ((u : ℕ) → thread_in_hand worker u ns ≡ (if u == t then None else thread_in_hand worker u ms)) →
-    r.id ≡ t → IsThis worker ms (Some r) → IsThis worker ns None
-hand_gives worker t ns ms r after number held u = ⊎_elim own rest (cases_eq u t)
-  where
-    own : u ≡ t → None ≡ option_map (λ m. m.thread) (thread_in_hand worker u ns)
-    own same = sym (ap (option_map (λ (m : Member). m.thread)) (after u ∙ cond-true (u == t) None (thread_in_hand worker u ms) (eq-eqb u t same)))
-
-    rest : (u ≡ t → ⊥) → None ≡ option_map (λ m. m.thread) (thread_in_hand worker u ns)
-    rest other =
-        sym (cond-false (r.id == u) (Some r) None (ne_eqb r.id u (λ e. other (sym e ∙ number)))) ∙ held u ∙
-        sym (ap (option_map (λ (m : Member). m.thread)) (after u ∙ cond-false (u == t) None (thread_in_hand worker u ms) (ne_eqb u t other)))
-
--- a hand whose thread stays in it, with another record
-pub hand_changes : (worker t : ℕ) (ns ms : List Member) (n : Member) (r : ThreadRecord) → IsWellMade ns → thread_of t ns ≡ Some n → n.place ≡ Hand worker →
-    ((u : ℕ) → is_some (thread_in_hand worker u ns) ≡ is_some (thread_in_hand worker u ms)) → r.id ≡ t → IsThis worker ms (Some r) →
-    IsThis worker ns (Some n.thread)
-hand_changes worker t ns ms n r made found place alike number held u = ⊎_elim own rest (cases_eq u t)
-  where
-    within : Within t n ns
-    within = within_thread t ns n made found
-
-    own : u ≡ t → if_thread u (Some n.thread) ≡ option_map (λ m. m.thread) (thread_in_hand worker u ns)
-    own same =
-        cond-true (n.thread.id == u) (Some n.thread) None (eq-eqb n.thread.id u (within.number ∙ sym same)) ∙
-        sym (ap (λ (i : ℕ). option_map (λ (m : Member). m.thread) (thread_in_hand worker i ns)) same ∙
-        ap (option_map (λ (m : Member). m.thread)) (thread_at_within (is_hand_of worker) t n ns within ∙
-        cond-true (is_hand_of worker n.place) (Some n) None (ap (is_hand_of worker) place ∙ eq-eqb worker worker refl)))
-
-    -- what is mapped is there where it is
-    mapped : (o : Option Member) → is_some (option_map (λ (m : Member). m.thread) o) ≡ is_some o
-    mapped None = refl
-    mapped (Some m) = refl
-
-    -- what isn't there is none
-    none : (o : Option Member) → is_some o ≡ false → o ≡ None
-    none None is = refl
-    none (Some m) is = absurd (true≢false is)
-
-    rest : (u ≡ t → ⊥) → if_thread u (Some n.thread) ≡ option_map (λ m. m.thread) (thread_in_hand worker u ns)
-    rest other =
-        cond-false (n.thread.id == u) (Some n.thread) None (ne_eqb n.thread.id u (λ e. other (sym e ∙ within.number))) ∙
-        sym (ap (option_map (λ (m : Member). m.thread)) (none (thread_in_hand worker u ns)
-        (alike u ∙ sym (mapped (thread_in_hand worker u ms)) ∙ ap (λ (o : Option ThreadRecord). is_some o) (sym (held u)) ∙
-        ap (λ (o : Option ThreadRecord). is_some o) (cond-false (r.id == u) (Some r) None (ne_eqb r.id u (λ e. other (sym e ∙ number)))))))

@@ -12,7 +12,7 @@ use Rattle.ule_model.specs.Insertion.{members_in}
 use Rattle.ule_model.specs.Legal.{IsEntryOf, IsReplayed, after_entry, replayed}
 use Rattle.ule_model.specs.Throughout.{HoldsOfEach, HoldsThroughout}
 use Rattle.ule_model.specs.World.{World}
-use Rattle.ule_members.proofs.CalendarEvents.{StepPicks, step_passes, step_picks, turning_goes_on}
+use Rattle.ule_members.proofs.CalendarSteps.{StepPicks, step_passes, step_picks, turning_goes_on}
 use Rattle.ule_members.proofs.CalendarParts.{CpuPassage, IsCalm, entry_by}
 use Rattle.ule_members.proofs.CalendarPlaces.{FindsEach, filed_found, filed_from, filed_itself, filed_at, filing_of, in_bucket_from, waits_where_filed}
 use Rattle.ule_members.proofs.CalendarRules.{IsClose, Passage, close_after, insertion_by_one, lead_after, removal_by_one, stays_nearer}
@@ -49,7 +49,7 @@ entry_calm w e calm is =
 -- an entry chooses none from farther away than the bucket of a thread that stands in the calendar
 pub entry_picks : (c t b : ℕ) (w : World) → IsCalm w → filing_of c w.members t ≡ Some b → (e : Entry) → IsEntryOf w e → ChoosesNoFarther c b w e
 entry_picks c t b w calm stands e is =
-    subst (λ (r : Reply). StepPicks c b w e.worker e.event e.now r) (sym is.reply) (step_picks c t b w calm stands e.worker e.event e.now)
+    subst (λ (r : Reply). StepPicks c b w e.worker e.event e.now r) (sym is.reply) (step_picks c t b w calm stands e.worker e.event e.now is.thread)
 
 -- ---- each world
 

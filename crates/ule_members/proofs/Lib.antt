@@ -10,9 +10,10 @@ pub mod Apart
 pub mod Moves
 pub mod MadeWell
 pub mod Reach
-pub mod Done
-pub mod EventParts
 pub mod Rest
+pub mod PartRest
+pub mod PartDone
+pub mod ActionFits
 pub mod Steps
 pub mod Untouched
 pub mod Numbered
@@ -24,6 +25,7 @@ pub mod CalendarPlaces
 pub mod CalendarRules
 pub mod CalendarMoves
 pub mod CalendarParts
-pub mod CalendarEvents
+pub mod CalendarPhases
+pub mod CalendarSteps
 pub mod CalendarStretches
 pub mod CalendarStarts

@@ -86,13 +86,13 @@ choosing_kept c now s = split (choice_of c s.line.ridx s.members)
 
 -- ---- the whole step
 
--- a CPU whose lock an event doesn't take is another than the one whose lock is all that it takes
-other_cpu : (c d : ℕ) → is_among (c ∷ []) d ≡ false → c ≢ d
-other_cpu c d none = eqb-false c d (or_parts (c == d) false none).0
+-- a lock that an event doesn't take is another than the first that it takes
+other_cpu : (c d : ℕ) (ls : List ℕ) → is_among (c ∷ ls) d ≡ false → c ≢ d
+other_cpu c d ls none = eqb-false c d (or_parts (c == d) (is_among ls d) none).0
 
 -- a side put back leaves the numbers of the other CPUs
-pub side_leaves : (w : World) (e : Event) (c : ℕ) (s : Side) → locks_of w e ≡ c ∷ [] → (c ≢ 0 → s.balance_word ≡ w.balance_word) → LeavesRest w e (with_side c s w)
-side_leaves w e c s locks word = record {
+pub side_leaves : (w : World) (e : Event) (c : ℕ) (s : Side) {ls : List ℕ} → locks_of w e ≡ c ∷ ls → (c ≢ 0 → s.balance_word ≡ w.balance_word) → LeavesRest w e (with_side c s w)
+side_leaves w e c s {ls} locks word = record {
   settings = refl;
   count = length-set w.lines c s.line;
   lines = λ d none. get_or-set_other w.lines c d s.line fresh_line (λ same. other d none (sym same));
@@ -100,7 +100,7 @@ side_leaves w e c s locks word = record {
 }
   where
     other : (d : ℕ) → is_among (locks_of w e) d ≡ false → c ≢ d
-    other d none = other_cpu c d (ap (λ (ls : List ℕ). is_among ls d) (sym locks) ∙ none)
+    other d none = other_cpu c d ls (ap (λ (xs : List ℕ). is_among xs d) (sym locks) ∙ none)
 
 -- an event that changes threads alone leaves the rest
 pub rest_left : (w : World) (e : Event) (ms : List Member) → LeavesRest w e (record w { members = ms })

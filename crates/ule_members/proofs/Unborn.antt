@@ -1,16 +1,18 @@
 -- The unborn threads: each thread that a setup declares unborn is so at the start, and stays so through every event
 -- but its own hatch.
-use Rattle.std.proofs.Common.{◌≡◌, ◌≢◌, ℕ, ◌<◌, ◌≤◌, ◌+◌, ◌%◌, ◌==◌, ◌||◌, pos, Bool, true, false, List, [], ◌∷◌, ◌++◌, flat_map, fold, length, map, nat_le, nat_lt, Option, Some, None, if◌then◌else◌, refl, sym, ◌∙◌, ap, arith}
+use Rattle.std.proofs.Common.{◌≡◌, ◌≢◌, ℕ, ◌≤◌, ◌==◌, ◌||◌, pos, Bool, true, false, List, [], ◌∷◌, ◌++◌, flat_map, fold, length, map, nat_le, nat_lt, Option, Some, None, if◌then◌else◌, inl, inr, ⊎_elim, refl, sym, ◌∙◌, ap, subst}
 use Rattle.std.specs.List.{list_all}
-use Rattle.std.proofs.lemmas.Bool.{and_parts, both_ways, eq-eqb, false_from_ne_true, false≢true, ltb-true, ne_eqb, or_from, or_parts}
+use Rattle.std.specs.Option.{option_map}
+use Rattle.std.specs.Prelude.{IfSome, ◌⊎◌}
+use Rattle.std.proofs.lemmas.Bool.{and_parts, both_ways, eq-eqb, false_from_ne_true, false≢true, or_parts}
 use Rattle.std.proofs.lemmas.List.{append-nil, append_assoc}
 use Rattle.ule_score.proofs.ChangeLaws.{change_number}
-use Rattle.ule_score.specs.Changes.{after_change, changed as change_by, record_after, woken as woken_change}
+use Rattle.ule_prio.specs.declared.kind.Kind.{Kind}
+use Rattle.ule_score.specs.Changes.{RecordChange, after_change, ran, record_after, runs, sleeps}
 use Rattle.ule_score.specs.declared.place.Place.{Place}
 use Rattle.ule_score.specs.declared.place.Place.TheVariants.{Running, Queued, Asleep, Unborn, Gone, Hand}
 use Rattle.ule_score.specs.declared.record.Change.{Change}
 use Rattle.ule_score.specs.declared.record.Change.TheVariants as change
-use Rattle.ule_score.specs.declared.record.Settings.{Settings}
 use Rattle.ule_score.specs.declared.record.ThreadRecord.{ThreadRecord}
 use Rattle.ule_types.proofs.Repeats.{distinct_apart}
 use Rattle.ule_types.specs.Commands.{forked_by, is_among}
@@ -18,30 +20,34 @@ use Rattle.ule_types.specs.Form.{IsOfForm}
 use Rattle.ule_types.specs.Rules.{budget_from, is_distinct}
 use Rattle.ule_types.specs.declared.event.Event.{Event}
 use Rattle.ule_types.specs.declared.event.Event.TheVariants as event
+use Rattle.ule_threads.specs.declared.standing.Standing.{Standing}
 use Rattle.ule_types.specs.declared.event.Reply.{Reply}
+use Rattle.ule_types.specs.declared.event.Reply.TheVariants.{Bedded, Buried, Dropped, Exited, Hatched, Returned, Unmarked}
 use Rattle.ule_types.specs.declared.setup.Setup.{Setup}
+use Rattle.ule_model.specs.Action.{Part, answers, choose, insert, leaving, move, note, part_done, parts_done}
+use Rattle.ule_model.specs.Actions.{Seen, action_of, change_action, change_action_at, fork_action, give_way_action, go_action, land_action, leave_action, note_action, requeue_action, tick_action, unborn_action, wake_action, wake_action_at}
+use Rattle.ule_model.specs.ActionStep.{seen_under}
+use Rattle.ule_model.specs.Choice.{choice_of}
 use Rattle.ule_model.specs.Conditions.{IsPossible}
 use Rattle.ule_model.specs.Events.{holder_of, is_unborn, is_unborn_thread, locks_of}
-use Rattle.ule_model.specs.Frames.{thread_under}
-use Rattle.ule_model.specs.declared.insertion.Insertion.TheVariants.{Borrowing}
-use Rattle.ule_model.specs.Places.{is_under}
-use Rattle.ule_model.specs.PriorityChange.{changed_at, changed_unborn, changed_with, followed_at, priority_changed, thread_changed, thread_changed_with, unborn_answer}
+use Rattle.ule_model.specs.Landing.{current_record}
+use Rattle.ule_model.specs.Places.{waits_on}
+use Rattle.ule_model.specs.Actions.{unborn_answer}
 use Rattle.ule_model.specs.Shows.{numbers_of}
-use Rattle.ule_model.specs.Sleep.{woken, woken_at, woken_with}
 use Rattle.ule_model.specs.Start.{laid, empty_world, unborn_member, unborn_record, with_unborn, world_at_start}
-use Rattle.ule_model.specs.Step.{step}
-use Rattle.ule_model.specs.Switch.{lifted}
-use Rattle.ule_model.specs.WellMade.{IsWellMadeWorld}
-use Rattle.ule_model.specs.World.{Member, Side, World, is_numbered, moved_to, side_of, thread_of, with_change, with_record}
-use Rattle.ule_members.proofs.Membership.{has_thread_of}
-use Rattle.ule_members.proofs.PlaceFinds.{thread_at_is, thread_at_within}
-use Rattle.ule_members.proofs.Reach.{IsHeld, IsUnbornIn, held_found, place_from_hand, unborn_found}
+use Rattle.ule_model.specs.Step.{step, step_under_locks}
+use Rattle.ule_model.specs.Switch.{choosing_next, is_preemption, is_unasked, running_chosen}
+use Rattle.ule_model.specs.WellMade.{IsWellMade, IsWellMadeWorld}
+use Rattle.ule_model.specs.World.{Member, Side, World, current_of, is_numbered, moved_to, side_of, standing_of, thread_of, with_record}
+use Rattle.ule_members.proofs.ActionFits.{event_fits}
+use Rattle.ule_members.proofs.Moves.{choice_stands, within_has}
+use Rattle.ule_members.proofs.PartDone.{Follows, IsReady, Known, Needs, StandsAt, idle_after, known_after, part_step}
+use Rattle.ule_members.proofs.Reach.{held_found, place_from_hand}
+use Rattle.ule_members.proofs.Rest.{index_of}
 use Rattle.ule_members.proofs.Setups.{setup_rules, setup_specs}
 use Rattle.ule_members.proofs.Starts.{declared_laid, queued_numbers}
-use Rattle.ule_members.proofs.Steps.{step_is_made}
-use Rattle.ule_members.proofs.Threads.{thread_of-moved_other, thread_of-queued_other}
-use Rattle.ule_members.proofs.Untouched.{step_under}
-use Rattle.ule_members.proofs.Within.{within_thread}
+use Rattle.ule_members.proofs.Steps.{first_among}
+use Rattle.ule_members.proofs.Threads.{thread_of-moved_other, thread_of-queued_other, thread_of_within}
 
 -- the thread that an event hatches, if it is a hatch
 abbrev pub hatched_by : Event → List ℕ
@@ -96,153 +102,179 @@ unborn_recorded t u f (m ∷ ms) kept = by_number (is_numbered u m) (unborn_reco
 pub unborn_moved : (t u : ℕ) (place : Place) (ms : List Member) → t ≢ u → IsStillUnborn t ms → IsStillUnborn t (moved_to u place (pos 0) ms)
 unborn_moved t u place ms apart unborn = ap is_unborn_thread (thread_of-moved_other t u place (pos 0) ms apart) ∙ unborn
 
--- ---- changes of a priority
+-- ---- parts
 
--- a change of a priority leaves the number
-changed_number : (settings : Settings) (change : Change) (r : ThreadRecord) → (after_change settings change r).id ≡ r.id
-changed_number settings change r = change_number settings 0 (change_by change) r
+-- a queued thread is born
+waits_born : (c : ℕ) (place : Place) → waits_on c place ≡ true → is_unborn place ≡ false
+waits_born c (Running d) waits = refl
+waits_born c (Queued d k b) waits = refl
+waits_born c (Asleep channel) waits = refl
+waits_born c Unborn waits = absurd (false≢true waits)
+waits_born c Gone waits = refl
+waits_born c (Hand w) waits = refl
 
--- what follows from a change of another thread on a CPU leaves an unborn one so
-followed_unborn : (place : Place) (better : Bool) (t c worker : ℕ) (m : Member) (s : Side) → t ≢ m.thread.id → IsStillUnborn t s.members →
-    IsStillUnborn t (followed_at place better c worker m s).0.members
-followed_unborn (Running d) better t c worker m s apart unborn = unborn
-followed_unborn (Queued d k b) true t c worker m s apart unborn =
-    ap is_unborn_thread (thread_of-queued_other Borrowing c t m.thread.id (lifted c m s) apart) ∙ unborn
-followed_unborn (Queued d k b) false t c worker m s apart unborn = unborn
-followed_unborn (Asleep channel) better t c worker m s apart unborn = unborn
-followed_unborn Unborn better t c worker m s apart unborn = unborn
-followed_unborn Gone better t c worker m s apart unborn = unborn
-followed_unborn (Hand h) better t c worker m s apart unborn = unborn
+-- a part moves no unborn thread, or another than thread t
+abbrev IsSpared : ℕ → Part → Type 0
+IsSpared t (move u from to) = (is_unborn from ≡ false) ⊎ (t ≢ u)
+IsSpared t (insert u from how) = is_unborn from ≡ false
+IsSpared t p = Unit {0}
 
--- a change of another thread's priority on a CPU leaves an unborn one so
-priority_changed_unborn : (t u c worker : ℕ) (change : Change) (s : Side) → t ≢ u → IsStillUnborn t s.members →
-    IsStillUnborn t (priority_changed u change c worker s).0.members
-priority_changed_unborn t u c worker change s apart unborn = split (thread_of u s.members) refl
-  where
-    split : (o : Option Member) → thread_of u s.members ≡ o → IsStillUnborn t (changed_with o change c worker s).0.members
-    split None found = unborn
-    split (Some m) found =
-        let n : Member = record m { thread = after_change s.settings change m.thread } in
-        followed_unborn m.place (nat_lt n.thread.priority m.thread.priority) t c worker n
-        (record s { members = with_record m.thread.id (after_change s.settings change) s.members })
-        (λ same. apart (same ∙ changed_number s.settings change m.thread ∙ (has_thread_of u m s.members found).1))
-        (unborn_recorded t m.thread.id (after_change s.settings change) s.members (changed_number s.settings change) ∙ unborn)
+-- so each of these parts
+abbrev AreSpared : ℕ → List Part → Type 0
+AreSpared t [] = Unit {0}
+AreSpared t (p ∷ ps) = IsSpared t p × AreSpared t ps
 
--- a change of a priority leaves unborn threads so, whichever thread's it is
-pub thread_changed_unborn : (t u worker : ℕ) (change : Change) (w : World) → IsStillUnborn t w.members →
-    IsStillUnborn t (thread_changed u change worker w).0.members
-thread_changed_unborn t u worker change w unborn = split (thread_of u w.members) refl
-  where
-    still : (m : Member) → IsStillUnborn t (with_record m.thread.id (after_change w.settings change) w.members)
-    still m = unborn_recorded t m.thread.id (after_change w.settings change) w.members (changed_number w.settings change) ∙ unborn
+module _ (w : World) (worker : ℕ) (e : Event) (now c t : ℕ) where
+  -- where the next thread is chosen, an unborn one stays so
+  choice_spares : (s : Side) → IsWellMade s.members → IsStillUnborn t s.members → IsStillUnborn t (choosing_next c now s).0.members
+  choice_spares s made unborn = split (choice_of c s.line.ridx s.members) refl
+    where
+      split : (o : Option Member) → choice_of c s.line.ridx s.members ≡ o → IsStillUnborn t (running_chosen c now o s).0.members
+      split None found = unborn
+      split (Some m) found =
+          let at = choice_stands c s.line.ridx m s.members found in
+          let is = thread_of_within m.thread.id m s.members (within_has m s.members made at.0) in
+          unborn_recorded t m.thread.id (record_after s.settings now runs) (moved_to m.thread.id (Running c) (pos 0) s.members) (change_number s.settings now runs) ∙
+          unborn_moved t m.thread.id (Running c) s.members (unborn_apart t m.thread.id m s.members unborn is (waits_born c m.place at.1)) unborn
 
-    apart : (m : Member) → thread_of u w.members ≡ Some m → (place : Place) → m.place ≡ place → is_unborn place ≡ false → t ≢ m.thread.id
-    apart m found place is off same =
-        unborn_apart t u m w.members unborn found (ap is_unborn is ∙ off) (same ∙ (has_thread_of u m w.members found).1)
+  -- a part that spares it leaves an unborn thread so
+  part_spares : (p : Part) (known : Known) (idle : Type 0) (s : Side) (into : Option ℕ) → IsReady w worker e now c known idle s → Needs w worker e now c p known idle → IsSpared t p →
+      IsStillUnborn t s.members → IsStillUnborn t (part_done c now p (s, into)).0.members
+  part_spares (note u place change) known idle s into ready needs spared unborn =
+      unborn_recorded t u (record_after s.settings now change) s.members (change_number s.settings now change) ∙ unborn
+  part_spares (move u from to) known idle s into ready needs spared unborn =
+      let at = ready.stands u from needs.0 in
+      ⊎_elim
+      (λ (off : is_unborn from ≡ false). unborn_moved t u to s.members (unborn_apart t u at.member s.members unborn at.found (ap is_unborn at.place_is ∙ off)) unborn)
+      (λ (other : t ≢ u). unborn_moved t u to s.members other unborn) spared
+  part_spares (insert u from how) known idle s into ready needs spared unborn =
+      let at = ready.stands u from needs.0 in
+      ap is_unborn_thread (thread_of-queued_other how c t u (leaving from c u s) (unborn_apart t u at.member s.members unborn at.found (ap is_unborn at.place_is ∙ spared))) ∙ unborn
+  part_spares choose known idle s into ready needs spared unborn = choice_spares s ready.made unborn
+  part_spares p known idle s into ready needs spared unborn = unborn
 
-    on_cpu : (m : Member) (c : ℕ) → t ≢ m.thread.id → IsStillUnborn t (priority_changed m.thread.id change c worker (side_of c w)).0.members
-    on_cpu m c other = priority_changed_unborn t m.thread.id c worker change (side_of c w) other unborn
-
-    answered : (o : Option Reply) (m : Member) → IsStillUnborn t (changed_unborn o change m w).0.members
-    answered None m = still m
-    answered (Some refusal) m = unborn
-
-    at_place : (m : Member) → thread_of u w.members ≡ Some m → (place : Place) → m.place ≡ place → IsStillUnborn t (changed_at place change worker m w).0.members
-    at_place m found (Running c) is = on_cpu m c (apart m found (Running c) is refl)
-    at_place m found (Queued c k b) is = on_cpu m c (apart m found (Queued c k b) is refl)
-    at_place m found (Asleep channel) is = still m
-    at_place m found Unborn is = answered (unborn_answer change) m
-    at_place m found Gone is = unborn
-    at_place m found (Hand h) is = unborn
-
-    split : (o : Option Member) → thread_of u w.members ≡ o → IsStillUnborn t (thread_changed_with o change worker w).0.members
-    split None found = unborn
-    split (Some m) found = at_place m found m.place refl
+  -- so parts do
+  parts_spare : (ps : List Part) (known : Known) (idle : Type 0) (s : Side) (into : Option ℕ) → is_among (locks_of w e) c ≡ true → IsReady w worker e now c known idle s →
+      Follows w worker e now c known idle ps → AreSpared t ps → IsStillUnborn t s.members → IsStillUnborn t (parts_done c now ps (s, into)).0.members
+  parts_spare [] known idle s into among ready follows spared unborn = unborn
+  parts_spare (p ∷ ps) known idle s into among ready follows spared unborn =
+      let next = part_done c now p (s, into) in
+      parts_spare ps (known_after p known) (idle_after c p idle) next.0 next.1 among (part_step w worker e now c p known idle s into among ready follows.0).ready follows.2 spared.1
+      (part_spares p known idle s into ready follows.0 spared.0 unborn)
 
 -- ---- each event
 
--- a wake leaves unborn threads so
-woken_unborn : (t u worker now : ℕ) (w : World) → IsStillUnborn t w.members → IsStillUnborn t (woken u worker now w.settings w.members).0
-woken_unborn t u worker now w unborn = split (thread_of u w.members) refl
+module _ (t : ℕ) where
+  give_way_spares : (p : Bool) (o : Option ThreadRecord) (at : Seen) → AreSpared t (give_way_action p o at).parts
+  give_way_spares p None at = (tt, (tt, tt))
+  give_way_spares p (Some r) at = (tt, (tt, (tt, (refl, (tt, tt)))))
+
+  switch_spares : (d p : Bool) (o : Option ThreadRecord) (at : Seen) → AreSpared t (if d then answers Unmarked else give_way_action p o at).parts
+  switch_spares true p o at = tt
+  switch_spares false p o at = give_way_spares p o at
+
+  tick_spares : (o : Option ThreadRecord) (at : Seen) → AreSpared t (tick_action o at).parts
+  tick_spares None at = (tt, tt)
+  tick_spares (Some r) at = (tt, (tt, (tt, tt)))
+
+  leave_spares : (change : RecordChange) (reply : ThreadRecord → Option ℕ → Reply) (o : Option ThreadRecord) (at : Seen) → AreSpared t (leave_action change reply o at).parts
+  leave_spares change reply None at = tt
+  leave_spares change reply (Some r) at = (inl refl, (tt, (tt, (tt, (tt, tt)))))
+
+  go_spares : (u : ℕ) (to : Place) (reply : Reply) (o : Option Standing) → IfSome o (λ s. (is_unborn s.place ≡ false) ⊎ (t ≢ u)) → AreSpared t (go_action u to reply o).parts
+  go_spares u to reply None spared = tt
+  go_spares u to reply (Some s) spared = (spared, tt)
+
+  land_spares : (u : ℕ) (o : Option Standing) (at : Seen) → AreSpared t (land_action u o at).parts
+  land_spares u None at = tt
+  land_spares u (Some s) at = (tt, (refl, (tt, tt)))
+
+  fork_spares : (u : ℕ) (o : Option ThreadRecord) (child : Option Standing) (at : Seen) → AreSpared t (fork_action u o child at).parts
+  fork_spares u None child at = tt
+  fork_spares u (Some r) None at = tt
+  fork_spares u (Some r) (Some s) at = (tt, (tt, tt))
+
+  wake_spares : (u : ℕ) (o : Option Standing) (at : Seen) → AreSpared t (wake_action u o at).parts
+  wake_spares u None at = tt
+  wake_spares u (Some s) at = at_place s.place
+    where
+      at_place : (place : Place) → AreSpared t (wake_action_at place u s.thread at).parts
+      at_place (Asleep channel) = (inl refl, (tt, tt))
+      at_place (Running c) = tt
+      at_place (Queued c k b) = tt
+      at_place Unborn = tt
+      at_place Gone = tt
+      at_place (Hand h) = tt
+
+  change_spares : (given : Change) (u : ℕ) (o : Option Standing) (at : Seen) → AreSpared t (change_action given u o at).parts
+  change_spares given u None at = tt
+  change_spares given u (Some s) at = at_place s.place
+    where
+      new : ThreadRecord
+      new = after_change at.settings given s.thread
+
+      if_better : (better : Bool) (c b : ℕ) (k : Kind) → AreSpared t (if better then requeue_action (Queued c k b) given u new at else note_action (Queued c k b) given u new).parts
+      if_better true c b k = (tt, (refl, (tt, tt)))
+      if_better false c b k = (tt, tt)
+
+      unborn : (answer : Option Reply) → AreSpared t (unborn_action answer given u new).parts
+      unborn None = (tt, tt)
+      unborn (Some refusal) = tt
+
+      at_place : (place : Place) → AreSpared t (change_action_at place given u s.thread new at).parts
+      at_place (Running c) = (tt, tt)
+      at_place (Queued c k b) = if_better (nat_lt new.priority s.thread.priority) c b k
+      at_place (Asleep channel) = (tt, tt)
+      at_place Unborn = unborn (unborn_answer given)
+      at_place Gone = tt
+      at_place (Hand h) = tt
+
+-- a thread that an event has in hand is born
+held_born : (w : World) (worker t u : ℕ) → holder_of w.members u ≡ Some worker → IfSome (option_map standing_of (thread_of u w.members)) (λ s. (is_unborn s.place ≡ false) ⊎ (t ≢ u))
+held_born w worker t u held =
+    let h = held_found w.members u worker held in
+    subst (λ (o : Option Member). IfSome (option_map standing_of o) (λ s. (is_unborn s.place ≡ false) ⊎ (t ≢ u))) (sym h.found) (inl (ap is_unborn (place_from_hand worker h.member.place h.hand)))
+
+-- every event but its own hatch spares thread t
+event_spares : (w : World) (worker : ℕ) (e : Event) (now l t : ℕ) → IsPossible w worker e now → is_among (hatched_by e) t ≡ false → AreSpared t (action_of e (seen_under w worker now e l)).parts
+event_spares w worker (event.Tick c) now l t possible other = tick_spares t (current_record l w.members) (seen_under w worker now (event.Tick c) l)
+event_spares w worker (event.Switch c why) now l t possible other =
+    switch_spares t (is_unasked why (side_of l w).line.resched) (is_preemption why (side_of l w).line.slice_end) (current_record l w.members) (seen_under w worker now (event.Switch c why) l)
+event_spares w worker (event.Drop c channel) now l t possible other = leave_spares t sleeps (λ r into. Dropped r.id into) (current_record l w.members) (seen_under w worker now (event.Drop c channel) l)
+event_spares w worker (event.Bed u channel) now l t possible other = go_spares t u (Asleep channel) Bedded (option_map standing_of (thread_of u w.members)) (held_born w worker t u possible.hand)
+event_spares w worker (event.Wake u) now l t possible other = wake_spares t u (option_map standing_of (thread_of u w.members)) (seen_under w worker now (event.Wake u) l)
+event_spares w worker (event.Look c) now l t possible other = tt
+event_spares w worker (event.Land u c) now l t possible other = land_spares t u (option_map standing_of (thread_of u w.members)) (seen_under w worker now (event.Land u c) l)
+event_spares w worker (event.Move a b why) now l t possible other = tt
+event_spares w worker (event.Lend u p) now l t possible other = change_spares t (change.Lend p) u (option_map standing_of (thread_of u w.members)) (seen_under w worker now (event.Lend u p) l)
+event_spares w worker (event.Unlend u) now l t possible other = change_spares t change.Unlend u (option_map standing_of (thread_of u w.members)) (seen_under w worker now (event.Unlend u) l)
+event_spares w worker (event.Renice u n) now l t possible other = change_spares t (change.Renice n) u (option_map standing_of (thread_of u w.members)) (seen_under w worker now (event.Renice u n) l)
+event_spares w worker (event.Hatch u) now l t possible other =
+    go_spares t u (Hand worker) Hatched (option_map standing_of (thread_of u w.members))
+    (every (option_map standing_of (thread_of u w.members)) (λ same. both_ways (u == t) (or_parts (u == t) false other).0 (eq-eqb u t (sym same))))
   where
-    asleep : (m : Member) (channel : ℕ) → thread_of u w.members ≡ Some m → m.place ≡ Asleep channel →
-        IsStillUnborn t (woken_at (Asleep channel) worker now w.settings m w.members).0
-    asleep m channel found is =
-        unborn_moved t m.thread.id (Hand worker) (with_change w.settings now m.thread.id woken_change w.members)
-        (λ same. unborn_apart t u m w.members unborn found (ap is_unborn is) (same ∙ (has_thread_of u m w.members found).1))
-        (unborn_recorded t m.thread.id (record_after w.settings now woken_change) w.members (change_number w.settings now woken_change) ∙ unborn)
-
-    at_place : (m : Member) → thread_of u w.members ≡ Some m → (place : Place) → m.place ≡ place →
-        IsStillUnborn t (woken_at place worker now w.settings m w.members).0
-    at_place m found (Asleep channel) is = asleep m channel found is
-    at_place m found (Running c) is = unborn
-    at_place m found (Queued c k b) is = unborn
-    at_place m found Unborn is = unborn
-    at_place m found Gone is = unborn
-    at_place m found (Hand h) is = unborn
-
-    split : (o : Option Member) → thread_of u w.members ≡ o → IsStillUnborn t (woken_with o worker now w.settings w.members).0
-    split None found = unborn
-    split (Some m) found = at_place m found m.place refl
-
--- where the thread in a worker's hand is put down, an unborn one stays so
-put_unborn : (t u worker : ℕ) (place : Place) (ms : List Member) → holder_of ms u ≡ Some worker → IsStillUnborn t ms →
-    IsStillUnborn t (moved_to u place (pos 0) ms)
-put_unborn t u worker place ms held unborn =
-    let there : IsHeld ms u worker = held_found ms u worker held in
-    unborn_moved t u place ms
-    (unborn_apart t u there.member ms unborn there.found (ap is_unborn (place_from_hand worker there.member.place there.hand))) unborn
-
--- an event that doesn't take the lock of the unborn leaves them so
-unborn_under : (w : World) (worker : ℕ) (e : Event) (now t : ℕ) → IsWellMadeWorld w → IsPossible w worker e now → is_among (locks_of w e) 24 ≡ false →
-    IsStillUnborn t w.members → IsStillUnborn t (step w worker e now).0.members
-unborn_under w worker e now t made possible none unborn =
-    let there : IsUnbornIn w.members t = unborn_found w.members t unborn in
-    let m : Member = there.member in
-    let before : thread_under 24 t w.members ≡ Some m =
-    thread_at_within (is_under 24) t m w.members (within_thread t w.members m made.members there.found) ∙
-    ap (λ (p : Place). if is_under 24 p then Some m else None) there.place in
-    let after : thread_under 24 t (step w worker e now).0.members ≡ Some m = step_under w worker e now made possible 24 t none ∙ before in
-    ap is_unborn_thread (thread_at_is (is_under 24) t m (step w worker e now).0.members (step_is_made w worker e now made possible).members after) ∙
-    ap is_unborn there.place
-
--- the lock of a CPU that there is isn't that of the unborn
-cpu_apart : (c cpus : ℕ) → cpus ≤ 16 → nat_lt c cpus ≡ true → is_among (c ∷ []) 24 ≡ false
-cpu_apart c cpus few there = let below : c < cpus = ltb-true c cpus there in or_from (c == 24) false (ne_eqb c 24 (λ same. omega arith)) refl
-
--- the lock of a sleep chain isn't that of the unborn
-chain_apart : (channel : ℕ) → is_among ((16 + channel % 8) ∷ []) 24 ≡ false
-chain_apart channel = or_from (16 + channel % 8 == 24) false (ne_eqb (16 + channel % 8) 24 (λ same. omega arith)) refl
+    every : (o : Option Standing) → t ≢ u → IfSome o (λ s. (is_unborn s.place ≡ false) ⊎ (t ≢ u))
+    every None apart = tt
+    every (Some s) apart = inr apart
+event_spares w worker (event.Fork c u) now l t possible other =
+    fork_spares t u (current_record l w.members) (option_map standing_of (thread_of u w.members)) (seen_under w worker now (event.Fork c u) l)
+event_spares w worker (event.Return u) now l t possible other = go_spares t u Unborn Returned (option_map standing_of (thread_of u w.members)) (held_born w worker t u possible.hand)
+event_spares w worker (event.Exit c) now l t possible other = leave_spares t ran (λ r into. Exited r.id into r.parent r.hist.run) (current_record l w.members) (seen_under w worker now (event.Exit c) l)
+event_spares w worker (event.Bury u) now l t possible other = go_spares t u Gone Buried (option_map standing_of (thread_of u w.members)) (held_born w worker t u possible.hand)
+event_spares w worker (event.Inherit u run) now l t possible other = change_spares t (change.Inherit run) u (option_map standing_of (thread_of u w.members)) (seen_under w worker now (event.Inherit u run) l)
 
 -- an unborn thread stays so through every event but its own hatch
 pub unborn_stays : (w : World) (worker : ℕ) (e : Event) (now t : ℕ) → IsWellMadeWorld w → IsPossible w worker e now → length w.lines ≤ 16 →
     is_among (hatched_by e) t ≡ false → IsStillUnborn t w.members → IsStillUnborn t (step w worker e now).0.members
-unborn_stays w worker (event.Tick c) now t made possible few other unborn =
-    unborn_under w worker (event.Tick c) now t made possible (cpu_apart c (length w.lines) few possible.cpus) unborn
-unborn_stays w worker (event.Switch c why) now t made possible few other unborn =
-    unborn_under w worker (event.Switch c why) now t made possible (cpu_apart c (length w.lines) few possible.cpus) unborn
-unborn_stays w worker (event.Drop c channel) now t made possible few other unborn =
-    unborn_under w worker (event.Drop c channel) now t made possible (cpu_apart c (length w.lines) few possible.cpus) unborn
-unborn_stays w worker (event.Bed u channel) now t made possible few other unborn =
-    unborn_under w worker (event.Bed u channel) now t made possible (chain_apart channel) unborn
-unborn_stays w worker (event.Wake u) now t made possible few other unborn = woken_unborn t u worker now w unborn
-unborn_stays w worker (event.Look c) now t made possible few other unborn =
-    unborn_under w worker (event.Look c) now t made possible (cpu_apart c (length w.lines) few possible.cpus) unborn
-unborn_stays w worker (event.Land u c) now t made possible few other unborn =
-    unborn_under w worker (event.Land u c) now t made possible (cpu_apart c (length w.lines) few possible.cpus) unborn
-unborn_stays w worker (event.Move a b why) now t made possible few other unborn = unborn
-unborn_stays w worker (event.Lend u p) now t made possible few other unborn = thread_changed_unborn t u worker (change.Lend p) w unborn
-unborn_stays w worker (event.Unlend u) now t made possible few other unborn = thread_changed_unborn t u worker change.Unlend w unborn
-unborn_stays w worker (event.Renice u n) now t made possible few other unborn = thread_changed_unborn t u worker (change.Renice n) w unborn
-unborn_stays w worker (event.Hatch u) now t made possible few other unborn =
-    unborn_moved t u (Hand worker) w.members (λ same. both_ways (u == t) (or_parts (u == t) false other).0 (eq-eqb u t (sym same))) unborn
-unborn_stays w worker (event.Fork c u) now t made possible few other unborn =
-    unborn_under w worker (event.Fork c u) now t made possible (cpu_apart c (length w.lines) few possible.cpus) unborn
-unborn_stays w worker (event.Return u) now t made possible few other unborn = put_unborn t u worker Unborn w.members possible.hand unborn
-unborn_stays w worker (event.Exit c) now t made possible few other unborn =
-    unborn_under w worker (event.Exit c) now t made possible (cpu_apart c (length w.lines) few possible.cpus) unborn
-unborn_stays w worker (event.Bury u) now t made possible few other unborn = put_unborn t u worker Gone w.members possible.hand unborn
-unborn_stays w worker (event.Inherit u run) now t made possible few other unborn = thread_changed_unborn t u worker (change.Inherit run) w unborn
+unborn_stays w worker e now t made possible few other unborn = split (locks_of w e) refl
+  where
+    split : (ls : List ℕ) → locks_of w e ≡ ls → IsStillUnborn t (step_under_locks ls w worker e now).0.members
+    split [] is = unborn
+    split (l ∷ ls) is =
+        let among = ap (λ (xs : List ℕ). is_among xs l) is ∙ first_among l ls in
+        parts_spare w worker e now l t (action_of e (seen_under w worker now e l)).parts (λ u place. StandsAt u place w.members) (current_of l w.members ≡ None) (side_of l w) None among
+        (record { settings = refl; made = made.members; index = index_of w l made.indexes; stands = λ u place is. is; none = λ is. is })
+        (event_fits w worker now made e possible l among).follows (event_spares w worker e now l t possible other) unborn
 
 -- ---- the start
 

@@ -5,24 +5,25 @@ use Rattle.std.specs.Option.{option_map}
 use Rattle.ule_prio.specs.declared.kind.Kind.TheVariants.{Batch}
 use Rattle.ule_score.specs.declared.place.Place.TheVariants.{Queued}
 use Rattle.ule_score.specs.declared.record.CpuLine.{CpuLine}
-use Rattle.ule_score.specs.declared.record.Why.{Why}
 use Rattle.ule_types.specs.declared.command.Command.{Command}
 use Rattle.ule_types.specs.declared.event.Entry.{Entry}
 use Rattle.ule_types.specs.declared.event.Event.{Event}
 use Rattle.ule_types.specs.declared.event.Event.TheVariants as event
 use Rattle.ule_types.specs.declared.event.Reply.{Reply}
-use Rattle.ule_types.specs.declared.event.Reply.TheVariants.{Ticked, Unmarked, Nothing, Switched, Dropped, Bedded, NotAsleep, Woken, Seen, Landed, Moved, NoneMovable, Changed, NotAllowed, Hatched, Forked, Returned, Exited, Buried, ParentGone}
+use Rattle.ule_types.specs.declared.event.Reply.TheVariants.{Switched, Dropped, Changed, Exited}
 use Rattle.ule_types.specs.declared.setup.Setup.{Setup}
+use Rattle.ule_model.specs.Action.{Part, choose, part_done}
+use Rattle.ule_model.specs.Actions.{action_of}
+use Rattle.ule_model.specs.ActionStep.{seen_under}
 use Rattle.ule_model.specs.CalendarIndexes.{distance_of}
-use Rattle.ule_model.specs.Events.{sought_by}
+use Rattle.ule_model.specs.Events.{locks_of, sought_by}
 use Rattle.ule_model.specs.Insertion.{members_in}
 use Rattle.ule_model.specs.Legal.{IsLegal, after_entry, replayed}
 use Rattle.ule_model.specs.Places.{is_number}
 use Rattle.ule_model.specs.Start.{world_at_start}
-use Rattle.ule_model.specs.Switch.{given_way, is_preemption, unmarked}
 use Rattle.ule_model.specs.Throughout.{HoldsOfEach, HoldsThroughout}
 use Rattle.ule_model.specs.Words.{moved_by}
-use Rattle.ule_model.specs.World.{Member, Side, World, current_of, side_of, thread_of}
+use Rattle.ule_model.specs.World.{Member, Side, World, side_of, thread_of}
 
 -- ---- a calendar in a world
 
@@ -51,92 +52,25 @@ AllHaveCloseIndexes w = (c : ℕ) → HasCloseIndexes c w
 
 -- the thread that a reply says was chosen to run next
 abbrev pub chosen_by : Reply → Option ℕ
-chosen_by (Ticked cur due end) = None
-chosen_by Unmarked = None
-chosen_by Nothing = None
 chosen_by (Switched out into preempted) = into
 chosen_by (Dropped out into) = into
-chosen_by Bedded = None
-chosen_by (NotAsleep place) = None
-chosen_by (Woken priority bound last last_run) = None
-chosen_by (Seen load movable low) = None
-chosen_by (Landed kind bucket takes) = None
-chosen_by (Moved t kind bucket takes) = None
-chosen_by (NoneMovable a movable b) = None
-chosen_by (Changed priority requeued marked) = None
-chosen_by (NotAllowed place) = None
-chosen_by Hatched = None
-chosen_by (Forked parent priority) = None
-chosen_by Returned = None
 chosen_by (Exited out into parent run) = into
-chosen_by Buried = None
-chosen_by ParentGone = None
+chosen_by _ = None
 
 -- the thread that a reply says was preempted
 abbrev pub preempted_by : Reply → Option ℕ
-preempted_by (Ticked cur due end) = None
-preempted_by Unmarked = None
-preempted_by Nothing = None
 preempted_by (Switched out into preempted) = if preempted then out else None
-preempted_by (Dropped out into) = None
-preempted_by Bedded = None
-preempted_by (NotAsleep place) = None
-preempted_by (Woken priority bound last last_run) = None
-preempted_by (Seen load movable low) = None
-preempted_by (Landed kind bucket takes) = None
-preempted_by (Moved t kind bucket takes) = None
-preempted_by (NoneMovable a movable b) = None
-preempted_by (Changed priority requeued marked) = None
-preempted_by (NotAllowed place) = None
-preempted_by Hatched = None
-preempted_by (Forked parent priority) = None
-preempted_by Returned = None
-preempted_by (Exited out into parent run) = None
-preempted_by Buried = None
-preempted_by ParentGone = None
+preempted_by _ = None
 
 -- whether a reply says that the thread whose priority changed was requeued
 abbrev pub tells_requeued : Reply → Bool
-tells_requeued (Ticked cur due end) = false
-tells_requeued Unmarked = false
-tells_requeued Nothing = false
-tells_requeued (Switched out into preempted) = false
-tells_requeued (Dropped out into) = false
-tells_requeued Bedded = false
-tells_requeued (NotAsleep place) = false
-tells_requeued (Woken priority bound last last_run) = false
-tells_requeued (Seen load movable low) = false
-tells_requeued (Landed kind bucket takes) = false
-tells_requeued (Moved t kind bucket takes) = false
-tells_requeued (NoneMovable a movable b) = false
 tells_requeued (Changed priority requeued marked) = requeued
-tells_requeued (NotAllowed place) = false
-tells_requeued Hatched = false
-tells_requeued (Forked parent priority) = false
-tells_requeued Returned = false
-tells_requeued (Exited out into parent run) = false
-tells_requeued Buried = false
-tells_requeued ParentGone = false
+tells_requeued _ = false
 
 -- the thread that an event lands on a CPU
 abbrev pub landed_by : Event → Option ℕ
-landed_by (event.Tick c) = None
-landed_by (event.Switch c why) = None
-landed_by (event.Drop c channel) = None
-landed_by (event.Bed t channel) = None
-landed_by (event.Wake t) = None
-landed_by (event.Look c) = None
 landed_by (event.Land t c) = Some t
-landed_by (event.Move a b why) = None
-landed_by (event.Lend t p) = None
-landed_by (event.Unlend t) = None
-landed_by (event.Renice t n) = None
-landed_by (event.Hatch t) = None
-landed_by (event.Fork c t) = None
-landed_by (event.Return t) = None
-landed_by (event.Exit c) = None
-landed_by (event.Bury t) = None
-landed_by (event.Inherit t run) = None
+landed_by _ = None
 
 -- whether an entry requeued thread t, whose priority it made better
 abbrev pub requeues : ℕ → Entry → Bool
@@ -186,22 +120,7 @@ removal_advances c w (e ∷ es) =
 -- whether an event is a tick of CPU c
 abbrev pub is_tick_of : ℕ → Event → Bool
 is_tick_of c (event.Tick d) = c == d
-is_tick_of c (event.Switch d why) = false
-is_tick_of c (event.Drop d channel) = false
-is_tick_of c (event.Bed t channel) = false
-is_tick_of c (event.Wake t) = false
-is_tick_of c (event.Look d) = false
-is_tick_of c (event.Land t d) = false
-is_tick_of c (event.Move a b why) = false
-is_tick_of c (event.Lend t p) = false
-is_tick_of c (event.Unlend t) = false
-is_tick_of c (event.Renice t n) = false
-is_tick_of c (event.Hatch t) = false
-is_tick_of c (event.Fork d t) = false
-is_tick_of c (event.Return t) = false
-is_tick_of c (event.Exit d) = false
-is_tick_of c (event.Bury t) = false
-is_tick_of c (event.Inherit t run) = false
+is_tick_of c _ = false
 
 -- whether an entry is a tick of CPU c that finds its indexes equal
 abbrev pub is_turning : ℕ → World → Entry → Bool
@@ -214,37 +133,25 @@ turning_ticks c w (e ∷ es) = (if is_turning c w e then 1 else 0) + turning_tic
 
 -- ---- the choice
 
--- the side of CPU c where this current thread, if there is one, has given way for this reason
-abbrev pub side_of_switch : Option Member → ℕ → Why → ℕ → Side → Side
-side_of_switch None c why now s = unmarked s
-side_of_switch (Some m) c why now s = given_way c (is_preemption why s.line.slice_end) now m.thread.id (unmarked s)
+-- the side from which these parts choose the next thread, if they do
+abbrev pub choosing_from : ℕ → ℕ → List Part → Side × Option ℕ → Option Side
+choosing_from c now [] at = None
+choosing_from c now (choose ∷ ps) (s, into) = Some s
+choosing_from c now (p ∷ ps) at = choosing_from c now ps (part_done c now p at)
 
--- the side of CPU c from which an event of the CPU chooses the next thread; a thread that a drop or an exit takes off the
--- CPU stands in no queue before
-abbrev pub choosing_side : ℕ → World → Event → ℕ → Option Side
-choosing_side c w (event.Switch d why) now =
-    if c == d then Some (side_of_switch (current_of c w.members) c why now (side_of c w)) else None
-choosing_side c w (event.Drop d channel) now = if c == d then Some (side_of c w) else None
-choosing_side c w (event.Exit d) now = if c == d then Some (side_of c w) else None
-choosing_side c w (event.Tick d) now = None
-choosing_side c w (event.Bed t channel) now = None
-choosing_side c w (event.Wake t) now = None
-choosing_side c w (event.Look d) now = None
-choosing_side c w (event.Land t d) now = None
-choosing_side c w (event.Move a b why) now = None
-choosing_side c w (event.Lend t p) now = None
-choosing_side c w (event.Unlend t) now = None
-choosing_side c w (event.Renice t n) now = None
-choosing_side c w (event.Hatch t) now = None
-choosing_side c w (event.Fork d t) now = None
-choosing_side c w (event.Return t) now = None
-choosing_side c w (event.Bury t) now = None
-choosing_side c w (event.Inherit t run) now = None
+-- this, where lock c is the first of these
+abbrev pub if_first : ℕ → List ℕ → Option Side → Option Side
+if_first c [] s = None
+if_first c (l ∷ ls) s = if c == l then s else None
+
+-- the side of CPU c from which an event of a worker chooses the next thread, if it does
+abbrev pub choosing_side : ℕ → World → ℕ → Event → ℕ → Option Side
+choosing_side c w worker e now = if_first c (locks_of w e) (choosing_from c now (action_of e (seen_under w worker now e c)).parts (side_of c w, None))
 
 -- a thread that an entry chose from CPU c's calendar stood there no farther from the removal index than bucket b
 abbrev pub ChoosesNoFarther : (c b : ℕ) → World → Entry → Type 0
 ChoosesNoFarther c b w e =
-    (s : Side) (u a : ℕ) → choosing_side c w e.event e.now ≡ Some s → chosen_by e.reply ≡ Some u → IsInBucket c a u s.members →
+    (s : Side) (u a : ℕ) → choosing_side c w e.worker e.event e.now ≡ Some s → chosen_by e.reply ≡ Some u → IsInBucket c a u s.members →
     distance_of s.line.ridx a ≤ distance_of s.line.ridx b
 
 -- ---- a stretch

@@ -1,72 +1,47 @@
 -- The step of the sequential scheduler: what each event does to the world, and what it does to the value under its
 -- lock and the worker's hand; and what it answers.
-use Rattle.std.specs.Prelude.{ℕ, false, not, ◌==◌, Option, Some, None}
+use Rattle.std.specs.Prelude.{ℕ, false, not, ◌==◌, List, [], ◌∷◌, Option, Some, None}
 use Rattle.ule_types.specs.declared.event.Event.{Event}
-use Rattle.ule_types.specs.declared.event.Event.TheVariants.{Tick, Switch, Drop, Bed, Wake, Look, Land, Move, Lend, Unlend, Renice, Hatch, Fork, Return, Exit, Bury, Inherit}
 use Rattle.ule_types.specs.declared.event.Reply.{Reply}
-use Rattle.ule_types.specs.declared.event.Reply.TheVariants.{Nothing, Dropped, Bedded, NotAsleep, Landed, Changed, Hatched, Returned, Buried}
-use Rattle.ule_model.specs.Birth.{buried, exited, exited_reply, hatched, returned}
-use Rattle.ule_model.specs.CpuChange.{forked_reply, value_changed, value_forked}
-use Rattle.ule_model.specs.Landing.{landed}
-use Rattle.ule_model.specs.Sleep.{bedded, dropped, woken, woken_reply}
-use Rattle.ule_model.specs.Switch.{switched}
-use Rattle.ule_model.specs.Tick.{ticked}
-use Rattle.ule_model.specs.PriorityChange.{forked_on, gone_answer, thread_changed, unborn_answer}
-use Rattle.ule_model.specs.World.{World, on_members, on_side}
+use Rattle.ule_types.specs.declared.event.Reply.TheVariants.{Nothing, Dropped, Exited, Bedded, NotAsleep, Landed, Changed, Hatched, Returned, Buried}
+use Rattle.ule_model.specs.Action.{action_done}
+use Rattle.ule_model.specs.Actions.{action_of}
+pub use Rattle.ule_model.specs.ActionStep.{Stepped, kept}
+use Rattle.ule_model.specs.ActionStep.{bare_side, named_by, named_held, on_chain, on_limbo, on_queue, seen_in, seen_off, seen_on, seen_under}
+use Rattle.ule_model.specs.ActionValue.{action_in_slots, action_on_cpu}
+use Rattle.ule_model.specs.Events.{handling, locking, locks_of}
+use Rattle.ule_model.specs.CpuChange.{forked_reply, value_forked}
+use Rattle.ule_model.specs.Actions.{woken_reply}
+use Rattle.ule_model.specs.Actions.{gone_answer, unborn_answer}
+use Rattle.ule_model.specs.World.{World, on_side}
 use Rattle.ule_prio.specs.Kind.{kind_at}
-use Rattle.ule_score.specs.Changes.{after_change, ran, record_after, sleeps, woken as woken_change}
+use Rattle.ule_score.specs.Changes.{after_change, record_after, woken as woken_change}
 use Rattle.ule_score.specs.declared.place.Place.{Place}
 use Rattle.ule_score.specs.declared.place.Place.TheVariants.{Running, Queued, Asleep, Unborn, Gone, Hand}
 use Rattle.ule_score.specs.declared.record.Change.{Change}
-use Rattle.ule_score.specs.declared.record.Change.TheVariants as change
 use Rattle.ule_score.specs.declared.record.Settings.{Settings}
 use Rattle.ule_score.specs.declared.record.ThreadRecord.{ThreadRecord}
-use Rattle.ule_sleep.specs.Chain.{ChainValue, standing_in, with_sleeper, with_sleeper_changed, without_sleeper}
+use Rattle.ule_sleep.specs.Chain.{ChainValue, with_sleeper, with_sleeper_changed, without_sleeper}
 use Rattle.ule_sleep.specs.Limbo.{LimboValue, with_still, with_still_changed, without_still}
 use Rattle.ule_threads.specs.declared.standing.Standing.{Standing}
-use Rattle.ule_model.specs.CpuValue.{CpuValue, Taken, takes_over_in, value_added, value_switched, value_taken, value_ticked}
+use Rattle.ule_model.specs.CpuValue.{CpuValue, Taken, takes_over_in, value_added}
 use Rattle.ule_model.specs.Insertion.{Ordinary, bucket_of}
-use Rattle.ule_model.specs.LockValue.{LockValue, queue, chain, limbo, nothing, found_on}
+use Rattle.ule_model.specs.LockValue.{LockValue, queue, chain, limbo, nothing}
 
 -- ---- the step on a world
 
--- an event that has no step yet changes nothing; no command makes one
-abbrev pub not_built : World → World × Reply
-not_built w = (w, Nothing)
+-- the step under these locks: an event whose thread is under none changes nothing
+abbrev pub step_under_locks : List ℕ → World → ℕ → Event → ℕ → World × Reply
+step_under_locks [] w worker e now = (w, (action_of e (seen_on 0 worker now (named_by w e) (bare_side w))).reply None)
+step_under_locks (l ∷ ls) w worker e now = on_side l (action_done l now (action_of e (seen_under w worker now e l))) w
 
 -- the step
 abbrev pub step : World → ℕ → Event → ℕ → World × Reply
-step w worker (Tick c) now = on_side c (ticked c now) w
-step w worker (Switch c why) now = on_side c (switched c why now) w
-step w worker (Drop c channel) now = on_side c (dropped c worker now) w
-step w worker (Bed t channel) now = on_members (bedded t channel) w
-step w worker (Wake t) now = on_members (woken t worker now w.settings) w
-step w worker (Look c) now = not_built w
-step w worker (Land t c) now = on_side c (landed t c worker now) w
-step w worker (Move a b why) now = not_built w
-step w worker (Lend t p) now = thread_changed t (change.Lend p) worker w
-step w worker (Unlend t) now = thread_changed t change.Unlend worker w
-step w worker (Renice t n) now = thread_changed t (change.Renice n) worker w
-step w worker (Hatch t) now = on_members (hatched t worker) w
-step w worker (Fork c t) now = on_side c (forked_on c t now) w
-step w worker (Return t) now = on_members (returned t) w
-step w worker (Exit c) now = on_side c (exited c worker now) w
-step w worker (Bury t) now = on_members (buried t) w
-step w worker (Inherit t run) now = thread_changed t (change.Inherit run) worker w
+step w worker e now = step_under_locks (locks_of w e) w worker e now
 
 -- ---- the step under a lock
 
--- what an event makes of the hand, the value and the reply
-pub record Stepped : Type 0 where
-  pub hand : Option ThreadRecord
-  pub value : LockValue
-  pub reply : Reply
-
 -- ---- the events of a CPU
-
--- nothing changes
-abbrev pub kept : Option ThreadRecord → LockValue → Reply → Stepped
-kept hand value reply = record { hand = hand; value = value; reply = reply }
 
 -- an event that leaves the hand
 abbrev pub queue_stepped : Option ThreadRecord → CpuValue × Reply → Stepped
@@ -76,6 +51,10 @@ queue_stepped hand made = record { hand = hand; value = queue made.0; reply = ma
 abbrev pub queue_dropped : Option ThreadRecord → CpuValue × Option Taken → Stepped
 queue_dropped hand (made, None) = kept hand (queue made) Nothing
 queue_dropped hand (made, Some out) = record { hand = Some out.thread; value = queue made; reply = Dropped out.thread.id out.into }
+
+-- what an exit tells of the thread that left with this record: its parent and its run time, and who runs now
+abbrev pub exited_reply : ThreadRecord → Option ℕ → Reply
+exited_reply r into = Exited r.id into r.parent r.hist.run
 
 -- an exit: the thread that left goes to the hand
 abbrev pub queue_exited : Option ThreadRecord → CpuValue × Option Taken → Stepped
@@ -163,71 +142,29 @@ limbo_changed settings given t hand (Some s) v = limbo_changed_at s.place settin
 
 -- ---- the step under one lock
 
--- an event on a CPU
+-- an event of a worker on a CPU
 abbrev pub queue_step : ℕ → Event → ℕ → Option ThreadRecord → CpuValue → Stepped
-queue_step worker (Tick c) now hand v = queue_stepped hand (value_ticked now v)
-queue_step worker (Switch c why) now hand v = queue_stepped hand (value_switched why now v)
-queue_step worker (Drop c channel) now hand v = queue_dropped hand (value_taken sleeps now v)
-queue_step worker (Bed t channel) now hand v = kept hand (queue v) Nothing
-queue_step worker (Wake t) now hand v = kept hand (queue v) (not_asleep (found_on v t))
-queue_step worker (Look c) now hand v = kept hand (queue v) Nothing
-queue_step worker (Land t c) now hand v = queue_landed worker hand v
-queue_step worker (Move a b why) now hand v = kept hand (queue v) Nothing
-queue_step worker (Lend t p) now hand v = queue_stepped hand (value_changed t (change.Lend p) (not (worker == v.cpu)) v)
-queue_step worker (Unlend t) now hand v = queue_stepped hand (value_changed t change.Unlend (not (worker == v.cpu)) v)
-queue_step worker (Renice t n) now hand v = queue_stepped hand (value_changed t (change.Renice n) (not (worker == v.cpu)) v)
-queue_step worker (Hatch t) now hand v = kept hand (queue v) Nothing
-queue_step worker (Fork c t) now hand v = queue_forked now hand v
-queue_step worker (Return t) now hand v = kept hand (queue v) Nothing
-queue_step worker (Exit c) now hand v = queue_exited hand (value_taken ran now v)
-queue_step worker (Bury t) now hand v = kept hand (queue v) Nothing
-queue_step worker (Inherit t run) now hand v = queue_stepped hand (value_changed t (change.Inherit run) (not (worker == v.cpu)) v)
+queue_step worker e now hand v =
+    let named = named_held (locking e) (handling e) worker (queue v) hand in
+    on_queue (action_on_cpu now (action_of e (seen_in worker now named v)) (record { hand = hand; value = v }))
 
--- an event on a sleep chain
-abbrev pub chain_step : Settings → Event → ℕ → Option ThreadRecord → ChainValue → Stepped
-chain_step settings (Tick c) now hand v = kept hand (chain v) Nothing
-chain_step settings (Switch c why) now hand v = kept hand (chain v) Nothing
-chain_step settings (Drop c channel) now hand v = kept hand (chain v) Nothing
-chain_step settings (Bed t channel) now hand v = chain_bedded channel hand v
-chain_step settings (Wake t) now hand v = chain_woken settings now t hand (standing_in v.slots t) v
-chain_step settings (Look c) now hand v = kept hand (chain v) Nothing
-chain_step settings (Land t c) now hand v = kept hand (chain v) Nothing
-chain_step settings (Move a b why) now hand v = kept hand (chain v) Nothing
-chain_step settings (Lend t p) now hand v = chain_changed settings (change.Lend p) t hand (standing_in v.slots t) v
-chain_step settings (Unlend t) now hand v = chain_changed settings change.Unlend t hand (standing_in v.slots t) v
-chain_step settings (Renice t n) now hand v = chain_changed settings (change.Renice n) t hand (standing_in v.slots t) v
-chain_step settings (Hatch t) now hand v = kept hand (chain v) Nothing
-chain_step settings (Fork c t) now hand v = kept hand (chain v) Nothing
-chain_step settings (Return t) now hand v = kept hand (chain v) Nothing
-chain_step settings (Exit c) now hand v = kept hand (chain v) Nothing
-chain_step settings (Bury t) now hand v = kept hand (chain v) Nothing
-chain_step settings (Inherit t run) now hand v = chain_changed settings (change.Inherit run) t hand (standing_in v.slots t) v
+-- on a sleep chain
+abbrev pub chain_step : Settings → ℕ → Event → ℕ → Option ThreadRecord → ChainValue → Stepped
+chain_step settings worker e now hand v =
+    let named = named_held (locking e) (handling e) worker (chain v) hand in
+    on_chain v (action_in_slots settings now (action_of e (seen_off worker now settings named)) (record { hand = hand; slots = v.slots }))
 
--- an event on limbo
-abbrev pub limbo_step : Settings → Event → Option ThreadRecord → LimboValue → Stepped
-limbo_step settings (Tick c) hand v = kept hand (limbo v) Nothing
-limbo_step settings (Switch c why) hand v = kept hand (limbo v) Nothing
-limbo_step settings (Drop c channel) hand v = kept hand (limbo v) Nothing
-limbo_step settings (Bed t channel) hand v = kept hand (limbo v) Nothing
-limbo_step settings (Wake t) hand v = kept hand (limbo v) (not_asleep (standing_in v.slots t))
-limbo_step settings (Look c) hand v = kept hand (limbo v) Nothing
-limbo_step settings (Land t c) hand v = kept hand (limbo v) Nothing
-limbo_step settings (Move a b why) hand v = kept hand (limbo v) Nothing
-limbo_step settings (Lend t p) hand v = limbo_changed settings (change.Lend p) t hand (standing_in v.slots t) v
-limbo_step settings (Unlend t) hand v = limbo_changed settings change.Unlend t hand (standing_in v.slots t) v
-limbo_step settings (Renice t n) hand v = limbo_changed settings (change.Renice n) t hand (standing_in v.slots t) v
-limbo_step settings (Hatch t) hand v = limbo_hatched t hand (standing_in v.slots t) v
-limbo_step settings (Fork c t) hand v = kept hand (limbo v) Nothing
-limbo_step settings (Return t) hand v = limbo_returned hand v
-limbo_step settings (Exit c) hand v = kept hand (limbo v) Nothing
-limbo_step settings (Bury t) hand v = limbo_buried hand v
-limbo_step settings (Inherit t run) hand v = limbo_changed settings (change.Inherit run) t hand (standing_in v.slots t) v
+-- in limbo
+abbrev pub limbo_step : Settings → ℕ → Event → ℕ → Option ThreadRecord → LimboValue → Stepped
+limbo_step settings worker e now hand v =
+    let named = named_held (locking e) (handling e) worker (limbo v) hand in
+    on_limbo v (action_in_slots settings now (action_of e (seen_off worker now settings named)) (record { hand = hand; slots = v.slots }))
 
 -- the step of an event under one lock
 abbrev pub lock_step : Settings → ℕ → Event → ℕ → Option ThreadRecord → LockValue → Stepped
 lock_step settings worker e now hand (queue v) = queue_step worker e now hand v
-lock_step settings worker e now hand (chain v) = chain_step settings e now hand v
-lock_step settings worker e now hand (limbo v) = limbo_step settings e hand v
+lock_step settings worker e now hand (chain v) = chain_step settings worker e now hand v
+lock_step settings worker e now hand (limbo v) = limbo_step settings worker e now hand v
 lock_step settings worker e now hand nothing = kept hand nothing Nothing
 
 -- the step of an event under two locks: no event under two has one yet

@@ -5,6 +5,7 @@ use Rattle.ule_score.specs.declared.place.Place.{Place}
 use Rattle.ule_score.specs.declared.record.CpuLine.{CpuLine}
 use Rattle.ule_score.specs.declared.record.Settings.{Settings}
 use Rattle.ule_score.specs.declared.record.ThreadRecord.{ThreadRecord}
+use Rattle.ule_threads.specs.declared.standing.Standing.{Standing}
 use Rattle.ule_types.specs.declared.event.Reply.{Reply}
 use Rattle.ule_model.specs.Places.{runs_on}
 
@@ -13,6 +14,10 @@ pub record Member : Type 0 where
   pub thread : ThreadRecord
   pub place : Place
   pub order : ℤ
+
+-- a thread of the world with its place
+abbrev pub standing_of : Member → Standing
+standing_of m = record { thread = m.thread; place = m.place }
 
 -- the world: the threads have distinct numbers, and CPU c's numbers stand at place c
 pub record World : Type 0 where

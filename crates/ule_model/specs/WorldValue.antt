@@ -23,7 +23,8 @@ use Rattle.ule_model.specs.LockValue.{LockValue, chain, has_under, limbo, line_u
 use Rattle.ule_model.specs.Step.{Stepped, lock_step}
 use Rattle.ule_model.specs.Step.{step}
 use Rattle.ule_model.specs.WellMade.{HaveIndexes, IsWellMade}
-use Rattle.ule_model.specs.World.{Member, World, side_of}
+use Rattle.ule_model.specs.World.{World, side_of}
+pub use Rattle.ule_model.specs.World.{standing_of}
 
 -- lock l's value at place l, worker w's hand at place w
 pub record WorldValue : Type 0 where
@@ -108,10 +109,6 @@ abbrev pub value_lines : WorldValue → List ThreadLine
 value_lines v = filter_map (line_at v) (range_with_len 0 256)
 
 -- ---- the world that a value shows
-
--- a thread of the world with its place
-abbrev pub standing_of : Member → Standing
-standing_of m = record { thread = m.thread; place = m.place }
 
 -- the value of CPU l
 pub record IsQueueOf (w : World) (l : ℕ) (v : CpuValue) : Type 0 where

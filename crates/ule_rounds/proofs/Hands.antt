@@ -78,9 +78,9 @@ pub agree_step : (w : World) (worker : ℕ) (e : Event) (now : ℕ) (courses : L
 agree_step w worker e now courses course reached st made can got agree before at after =
     agree_set courses worker course reached w.members (step w worker e now).0.members got agree
     (λ h t other. ap (λ o. is_some o) (step_in_hand w worker e now made can h t other))
-    (λ t. ap (λ o. is_some o) (step_own_hand w worker e now made can t) ∙
+    (λ t. step_own_hand w worker e now made can t ∙
     at_event (λ x. IsHandled w worker (handling x) → FollowsHand w worker now st x) (λ k. Unit {0}) worker st e (hand_follows w worker now st made.members) at can.hand t
-    (thread_in_hand worker t w.members)
+    (is_some (thread_in_hand worker t w.members))
     (agree worker t ∙ ap (is_number t) before) ∙ ap (is_number t) (sym after))
 
 -- ---- what an event needs

@@ -1,7 +1,7 @@
 -- The laws of programs, with a line for each stage: that items run out, the time that they add, that each item names
 -- threads and CPUs that there are, and what an item and its reply do to the worker's hand and to the next stage.
 use Rattle.std.proofs.Common.{◌≡◌, ℕ, ◌+◌, ◌*◌, ◌^◌, ◌<◌, ◌≤◌, ◌==◌, ◌&&◌, true, nat_lt, List, [], ◌∷◌, Option, Some, None, IfSome, IsTrue, refl, sym, ◌∙◌, subst, lt-ltb, arith, Bool, false, is_some, if◌then◌else◌, ap}
-use Rattle.std.proofs.lemmas.Bool.{and_parts, cond_both}
+use Rattle.std.proofs.lemmas.Bool.{and_parts, cond_both, false≢true}
 use Rattle.ule_prio.specs.Class.{is_within}
 use Rattle.ule_score.specs.TimesharePriority.{IsNice}
 use Rattle.ule_types.specs.Commands.{forked_by, greatest_of, greatest_of_tick, is_among, is_command, is_nice}
@@ -12,11 +12,12 @@ use Rattle.ule_types.specs.declared.event.Item.{Item}
 use Rattle.ule_types.specs.declared.event.Item.TheVariants as item
 use Rattle.ule_types.specs.declared.event.Reply.{Reply}
 use Rattle.ule_types.specs.declared.event.Reply.TheVariants as reply
-use Rattle.ule_model.specs.Birth.{exited_with, exited}
+use Rattle.ule_model.specs.Actions.{Seen, fork_action, go_action, leave_action, wake_action, wake_action_at}
+use Rattle.ule_model.specs.ActionStep.{seen_on, seen_under}
 use Rattle.ule_model.specs.Conditions.{HasSoundNumbers, IsHandled}
 use Rattle.ule_model.specs.Events.{Handling, any, empty, handling, has, is_unborn_thread, names_cpus, sought_by, unborn}
 use Rattle.ule_model.specs.Legal.{amount_of}
-use Rattle.ule_model.specs.PriorityChange.{forked_with}
+use Rattle.ule_model.specs.Landing.{current_record}
 use Rattle.ule_model.specs.Program.{Stage, after_burial, after_drop, after_exit, after_forking, after_giving, after_hatch, after_wake, first_stage, in_hand, item_at, most_from, stage_after, landing_cpu}
 use Rattle.ule_types.specs.declared.stage.Stage.TheVariants as stage
 use Rattle.std.specs.Option.{option_map}
@@ -24,20 +25,19 @@ use Rattle.ule_score.specs.declared.place.Place.{Place}
 use Rattle.ule_score.specs.declared.place.Place.TheVariants.{Running, Queued, Asleep, Unborn, Gone, Hand}
 use Rattle.ule_types.specs.declared.event.Event.TheVariants as event
 use Rattle.ule_model.specs.Places.{is_number, runs_on}
-use Rattle.ule_model.specs.Sleep.{dropped_with, woken_at, woken_with, woken as woken_of}
 use Rattle.ule_model.specs.Step.{step}
 use Rattle.ule_model.specs.WellMade.{IsWellMade}
 use Rattle.ule_model.specs.Words.{change_of}
-use Rattle.ule_model.specs.World.{Member, Side, World, current_of, side_of, thread_of}
-use Rattle.ule_members.proofs.Done.{held_member, in_hand_after, kept_some, taken_member, taken_record}
-use Rattle.ule_members.proofs.Reach.{takes_itself, unborn_found}
+use Rattle.ule_model.specs.World.{Member, Side, World, current_of, side_of, standing_of, thread_of}
+use Rattle.ule_members.proofs.Steps.{in_hand_after, step_reply}
+use Rattle.ule_members.proofs.Reach.{takes_itself}
 use Rattle.ule_members.proofs.Starts.{nice_is, within_byte}
-use Rattle.ule_members.proofs.Threads.{thread_of_within, within_current}
 use Rattle.ule_members.proofs.Unborn.{hatched_by}
 use Rattle.std.specs.List.{AllByRecursion}
 use Rattle.ule_score.specs.Bounds.{KeepsBounds}
-use Rattle.ule_score.specs.Changes.{after_sleep, woken}
-use Rattle.ule_score.specs.declared.record.Settings.{Settings}
+use Rattle.ule_score.specs.Changes.{after_sleep, ran, sleeps, woken}
+use Rattle.ule_score.specs.declared.record.ThreadRecord.{ThreadRecord}
+use Rattle.ule_threads.specs.declared.standing.Standing.{Standing}
 use Rattle.ule_members.proofs.Membership.{Has, all_has, has_between, has_thread_of}
 use Rattle.ule_members.proofs.Within.{found_at}
 use Rattle.ule_rounds.proofs.Bindings.{change_binds}
@@ -423,102 +423,65 @@ first_hand (Look c) = refl
 -- ---- the hand after an event
 
 -- a thread that is taken is the one that is found in the hand
-found_taken : (u t : ℕ) (taken old : Option Member) → is_some taken ≡ true → is_some old ≡ false → is_some (if u == t then taken else old) ≡ (u == t)
-found_taken u t taken old some none = by_test (u == t)
+found_taken : (u t : ℕ) (old : Bool) → old ≡ false → (if u == t then true else old) ≡ (u == t)
+found_taken u t old none = by_test (u == t)
   where
-    by_test : (b : Bool) → is_some (if b then taken else old) ≡ b
-    by_test true = some
+    by_test : (b : Bool) → (if b then true else old) ≡ b
+    by_test true = refl
     by_test false = none
 
 -- a thread that is put down is found in the hand no longer
-found_put : (u t : ℕ) (old : Option Member) → is_some old ≡ (u == t) → is_some (if u == t then None else old) ≡ false
+found_put : (u t : ℕ) (old : Bool) → old ≡ (u == t) → (if u == t then false else old) ≡ false
 found_put u t old was = by_test (u == t) was
   where
-    by_test : (b : Bool) → is_some old ≡ b → is_some (if b then None else old) ≡ false
+    by_test : (b : Bool) → old ≡ b → (if b then false else old) ≡ false
     by_test true was = refl
     by_test false was = was
 
--- the worker's hand after the step of an event, by look-up, is the one that the stage after the reply says
-abbrev pub FollowsHand : World → ℕ → ℕ → Stage → Event → Type 0
-FollowsHand w worker now st e =
-    (u : ℕ) (old : Option Member) → is_some old ≡ is_number u (in_hand st) →
-    is_some (in_hand_after w worker e now (change_of e (step w worker e now).1) u old) ≡ is_number u (in_hand (stage_after (step w worker e now).1 st))
+-- the worker's hand after a reply to an event, by look-up, is the one that the stage after the reply says
+abbrev FollowsReply : Stage → Event → ℕ → Bool → Reply → Type 0
+FollowsReply st e u old r = in_hand_after (change_of e r) u old ≡ is_number u (in_hand (stage_after r st))
 
--- a thread that stands in the world can be taken
-taken_some : (w : World) (worker now : ℕ) (e : Event) (t : ℕ) (m : Member) → thread_of t w.members ≡ Some m → is_some (taken_member w worker e now t) ≡ true
-taken_some w worker now e t m found =
-    ap (λ o. is_some (option_map (λ (n : Member). held_member worker (taken_record w.settings now e n.thread)) o)) found
+-- so it is after the step of an event
+abbrev pub FollowsHand : World → ℕ → ℕ → Stage → Event → Type 0
+FollowsHand w worker now st e = (u : ℕ) (old : Bool) → old ≡ is_number u (in_hand st) → FollowsReply st e u old (step w worker e now).1
 
 -- after a drop the thread that left is in the hand
-drop_follows : (w : World) (worker channel now : ℕ) → IsWellMade w.members → FollowsHand w worker now (stage.Drops channel) (event.Drop worker channel)
-drop_follows w worker channel now made u old was = at_current (current_of worker w.members) refl
-  where
-    e : Event
-    e = event.Drop worker channel
-
-    at_current : (o : Option Member) → current_of worker w.members ≡ o →
-        is_some (in_hand_after w worker e now (change_of e (dropped_with o worker worker now (side_of worker w)).1) u old) ≡
-        is_number u (in_hand (stage_after (dropped_with o worker worker now (side_of worker w)).1 (stage.Drops channel)))
-    at_current None none = was
-    at_current (Some m) found =
-        found_taken u m.thread.id (taken_member w worker e now m.thread.id) old
-        (taken_some w worker now e m.thread.id m (thread_of_within m.thread.id m w.members (within_current worker w.members m made found))) was
-
--- after a wake the woken thread is in the hand
-wake_follows : (w : World) (worker t now : ℕ) → FollowsHand w worker now (stage.Wakes t) (event.Wake t)
-wake_follows w worker t now u old was = at_thread (thread_of t w.members) refl
-  where
-    e : Event
-    e = event.Wake t
-
-    at_place : (m : Member) → thread_of t w.members ≡ Some m → (place : Place) →
-        is_some (in_hand_after w worker e now (change_of e (woken_at place worker now w.settings m w.members).1) u old) ≡
-        is_number u (in_hand (stage_after (woken_at place worker now w.settings m w.members).1 (stage.Wakes t)))
-    at_place m found (Asleep channel) = found_taken u t (taken_member w worker e now t) old (taken_some w worker now e t m found) was
-    at_place m found (Running c) = was
-    at_place m found (Queued c k b) = was
-    at_place m found Unborn = was
-    at_place m found Gone = was
-    at_place m found (Hand h) = was
-
-    at_thread : (o : Option Member) → thread_of t w.members ≡ o →
-        is_some (in_hand_after w worker e now (change_of e (woken_with o worker now w.settings w.members).1) u old) ≡
-        is_number u (in_hand (stage_after (woken_with o worker now w.settings w.members).1 (stage.Wakes t)))
-    at_thread None none = was
-    at_thread (Some m) found = at_place m found m.place
+drop_follows : (channel c u : ℕ) (old : Bool) → old ≡ false → (o : Option ThreadRecord) (at : Seen) (into : Option ℕ) →
+    FollowsReply (stage.Drops channel) (event.Drop c channel) u old ((leave_action sleeps (λ r next. reply.Dropped r.id next) o at).reply into)
+drop_follows channel c u old was None at into = was
+drop_follows channel c u old was (Some r) at into = found_taken u r.id old was
 
 -- after an exit the thread that left is in the hand
-exit_follows : (w : World) (worker now : ℕ) → IsWellMade w.members → FollowsHand w worker now stage.Exits (event.Exit worker)
-exit_follows w worker now made u old was = at_current (current_of worker w.members) refl
-  where
-    e : Event
-    e = event.Exit worker
+exit_follows : (c u : ℕ) (old : Bool) → old ≡ false → (o : Option ThreadRecord) (at : Seen) (into : Option ℕ) →
+    FollowsReply stage.Exits (event.Exit c) u old ((leave_action ran (λ r next. reply.Exited r.id next r.parent r.hist.run) o at).reply into)
+exit_follows c u old was None at into = was
+exit_follows c u old was (Some r) at into = found_taken u r.id old was
 
-    at_current : (o : Option Member) → current_of worker w.members ≡ o →
-        is_some (in_hand_after w worker e now (change_of e (exited_with o worker worker now (side_of worker w)).1) u old) ≡
-        is_number u (in_hand (stage_after (exited_with o worker worker now (side_of worker w)).1 stage.Exits))
-    at_current None none = was
-    at_current (Some m) found =
-        found_taken u m.thread.id (taken_member w worker e now m.thread.id) old
-        (taken_some w worker now e m.thread.id m (thread_of_within m.thread.id m w.members (within_current worker w.members m made found))) was
+-- after a wake the woken thread is in the hand
+wake_follows : (t u : ℕ) (old : Bool) → old ≡ false → (o : Option Standing) (at : Seen) (into : Option ℕ) → FollowsReply (stage.Wakes t) (event.Wake t) u old ((wake_action t o at).reply into)
+wake_follows t u old was None at into = was
+wake_follows t u old was (Some s) at into = at_place s.place
+  where
+    at_place : (place : Place) → FollowsReply (stage.Wakes t) (event.Wake t) u old ((wake_action_at place t s.thread at).reply into)
+    at_place (Asleep channel) = found_taken u t old was
+    at_place (Running c) = was
+    at_place (Queued c k b) = was
+    at_place Unborn = was
+    at_place Gone = was
+    at_place (Hand h) = was
 
 -- after a hatch the thread that was unborn is in the hand
-hatch_follows : (w : World) (worker t now : ℕ) → is_unborn_thread (thread_of t w.members) ≡ true → FollowsHand w worker now (stage.Hatches t) (event.Hatch t)
-hatch_follows w worker t now still u old was =
-    let there = unborn_found w.members t still in
-    found_taken u t (taken_member w worker (event.Hatch t) now t) old (taken_some w worker now (event.Hatch t) t there.member there.found) was
+hatch_follows : (t worker u : ℕ) (old : Bool) → old ≡ false → (o : Option Member) → is_unborn_thread o ≡ true → (into : Option ℕ) →
+    FollowsReply (stage.Hatches t) (event.Hatch t) u old ((go_action t (Hand worker) reply.Hatched (option_map standing_of o)).reply into)
+hatch_follows t worker u old was None still into = absurd (false≢true still)
+hatch_follows t worker u old was (Some m) still into = found_taken u t old was
 
 -- after a fork the child is still in the hand, also where none ran to fork it
-forked_stays : (t c now : ℕ) (parent child : Option Member) (s : Side) → in_hand (after_forking t (forked_with parent child c now s).1) ≡ Some t
-forked_stays t c now None child s = refl
-forked_stays t c now (Some m) None s = refl
-forked_stays t c now (Some m) (Some child) s = refl
-
--- after a fork the thread that was in the hand is in it
-fork_follows : (w : World) (worker t now : ℕ) → FollowsHand w worker now (stage.Forks t) (event.Fork worker t)
-fork_follows w worker t now u old was =
-    kept_some w now (event.Fork worker t) old ∙ was ∙
-    ap (is_number u) (sym (forked_stays t worker now (current_of worker w.members) (thread_of t w.members) (side_of worker w)))
+forked_stays : (t : ℕ) (o : Option ThreadRecord) (child : Option Standing) (at : Seen) (into : Option ℕ) → in_hand (after_forking t ((fork_action t o child at).reply into)) ≡ Some t
+forked_stays t None child at into = refl
+forked_stays t (Some r) None at into = refl
+forked_stays t (Some r) (Some s) at into = refl
 
 -- the hand follows what the event at a stage and its reply did to it, where it was as the event needs it
 pub hand_follows : (w : World) (worker now : ℕ) (st : Stage) → IsWellMade w.members →
@@ -527,17 +490,22 @@ hand_follows w worker now stage.Ended made = tt
 hand_follows w worker now stage.Ticks made = λ handled u old was. was
 hand_follows w worker now (stage.Advances k) made = tt
 hand_follows w worker now (stage.Switches why) made = λ handled u old was. was
-hand_follows w worker now (stage.Drops channel) made = λ handled. drop_follows w worker channel now made
+hand_follows w worker now (stage.Drops channel) made =
+    λ handled u old was. drop_follows channel worker u old was (current_record worker w.members) (seen_under w worker now (event.Drop worker channel) worker) _
 hand_follows w worker now (stage.Beds t channel) made = λ handled u old was. found_put u t old was
-hand_follows w worker now (stage.Wakes t) made = λ handled. wake_follows w worker t now
+hand_follows w worker now (stage.Wakes t) made =
+    λ handled u old was. step_reply (FollowsReply (stage.Wakes t) (event.Wake t) u old) w worker (event.Wake t) now
+    (λ l s settings into. wake_follows t u old was (option_map standing_of (thread_of t w.members)) (seen_on l worker now (thread_of t w.members) s) into)
 hand_follows w worker now (stage.Lands t c) made = λ handled u old was. found_put u t old was
 hand_follows w worker now (stage.Lends t p) made = λ handled u old was. was
 hand_follows w worker now (stage.Unlends t) made = λ handled u old was. was
 hand_follows w worker now (stage.Renices t n) made = λ handled u old was. was
-hand_follows w worker now (stage.Hatches t) made = λ handled. hatch_follows w worker t now handled.1
-hand_follows w worker now (stage.Forks t) made = λ handled. fork_follows w worker t now
+hand_follows w worker now (stage.Hatches t) made = λ handled u old was. hatch_follows t worker u old was (thread_of t w.members) handled.1 _
+hand_follows w worker now (stage.Forks t) made =
+    λ handled u old was. was ∙ ap (is_number u) (sym (forked_stays t (current_record worker w.members) (option_map standing_of (thread_of t w.members)) (seen_under w worker now (event.Fork worker t) worker) _))
 hand_follows w worker now (stage.Returns t) made = λ handled u old was. found_put u t old was
-hand_follows w worker now stage.Exits made = λ handled. exit_follows w worker now made
+hand_follows w worker now stage.Exits made =
+    λ handled u old was. exit_follows worker u old was (current_record worker w.members) (seen_under w worker now (event.Exit worker) worker) _
 hand_follows w worker now (stage.Buries t parent run) made = λ handled u old was. found_put u t old was ∙ ap (is_number u) (sym (burial_leads (λ next. in_hand next ≡ None) parent run refl (λ p. refl)))
 hand_follows w worker now (stage.Inherits t run) made = λ handled u old was. was
 
@@ -717,23 +685,24 @@ landing_within cpus None some within = some
 landing_within cpus (Some c) some within = within
 
 -- the reply of a wake says that the thread lands on one of them
-wake_lands : (cpus now t worker : ℕ) (settings : Settings) (ms : List Member) → 0 < cpus → AllByRecursion (λ m. IfSome m.thread.bound (λ c. c < cpus)) ms →
-    LandsWithin cpus (woken_of t worker now settings ms).1
-wake_lands cpus now t worker settings ms some bound = at_thread (thread_of t ms) refl
+wake_lands : (cpus now t worker : ℕ) (w : World) → 0 < cpus → AllByRecursion (λ m. IfSome m.thread.bound (λ c. c < cpus)) w.members →
+    LandsWithin cpus (step w worker (event.Wake t) now).1
+wake_lands cpus now t worker w some bound =
+    step_reply (LandsWithin cpus) w worker (event.Wake t) now (λ l s settings into. at_thread l s into (thread_of t w.members) refl)
   where
-    at_place : (m : Member) → thread_of t ms ≡ Some m → (place : Place) → LandsWithin cpus (woken_at place worker now settings m ms).1
-    at_place m found (Asleep channel) =
-        landing_within cpus (after_sleep settings now m.thread).bound some
-        (change_binds (λ c. c < cpus) settings now woken m.thread (all_has (λ n. IfSome n.thread.bound (λ c. c < cpus)) m ms bound (has_thread_of t m ms found).0))
-    at_place m found (Running c) = tt
-    at_place m found (Queued c k b) = tt
-    at_place m found Unborn = tt
-    at_place m found Gone = tt
-    at_place m found (Hand w) = tt
+    at_place : (m : Member) → thread_of t w.members ≡ Some m → (place : Place) (at : Seen) (into : Option ℕ) → LandsWithin cpus ((wake_action_at place t m.thread at).reply into)
+    at_place m found (Asleep channel) at into =
+        landing_within cpus (after_sleep at.settings at.now m.thread).bound some
+        (change_binds (λ c. c < cpus) at.settings at.now woken m.thread (all_has (λ n. IfSome n.thread.bound (λ c. c < cpus)) m w.members bound (has_thread_of t m w.members found).0))
+    at_place m found (Running c) at into = tt
+    at_place m found (Queued c k b) at into = tt
+    at_place m found Unborn at into = tt
+    at_place m found Gone at into = tt
+    at_place m found (Hand h) at into = tt
 
-    at_thread : (o : Option Member) → thread_of t ms ≡ o → LandsWithin cpus (woken_with o worker now settings ms).1
-    at_thread None none = tt
-    at_thread (Some m) found = at_place m found m.place
+    at_thread : (l : ℕ) (s : Side) (into : Option ℕ) (o : Option Member) → thread_of t w.members ≡ o → LandsWithin cpus ((wake_action t (option_map standing_of o) (seen_on l worker now o s)).reply into)
+    at_thread l s into None none = tt
+    at_thread l s into (Some m) found = at_place m found m.place (seen_on l worker now (Some m) s) into
 
 -- ---- what an exited thread's parent is charged
 
@@ -742,17 +711,15 @@ abbrev pub HasDeclaredParent : List ℕ → Member → Type 0
 HasDeclaredParent ids m = IfSome m.thread.parent (λ p. is_among ids p ≡ true)
 
 -- the reply of an exit says that the parent is declared, and a run time in range
-exit_charges : (ids : List ℕ) (c worker now : ℕ) (s : Side) → AllByRecursion (HasDeclaredParent ids) s.members → AllByRecursion (λ m. KeepsBounds m.thread) s.members →
-    ChargesSoundly ids (exited c worker now s).1
-exit_charges ids c worker now s parents bounds = at_current (current_of c s.members) refl
-  where
-    at_current : (o : Option Member) → current_of c s.members ≡ o → ChargesSoundly ids (exited_with o c worker now s).1
-    at_current None none = tt
-    at_current (Some m) found =
-        let at = found_at (λ n. runs_on c n.place) s.members m found in
-        let has : Has m s.members = subst (Has m) (sym at.whole) (has_between at.before m at.after) in
-        let bounded : KeepsBounds m.thread = all_has (λ n. KeepsBounds n.thread) m s.members bounds has in
-        (all_has (HasDeclaredParent ids) m s.members parents has, omega (arith, bounded.history))
+exit_charges : (ids : List ℕ) (c : ℕ) (ms : List Member) → AllByRecursion (HasDeclaredParent ids) ms → AllByRecursion (λ m. KeepsBounds m.thread) ms → (o : Option Member) →
+    current_of c ms ≡ o → (at : Seen) (into : Option ℕ) →
+    ChargesSoundly ids ((leave_action ran (λ r next. reply.Exited r.id next r.parent r.hist.run) (option_map (λ m. m.thread) o) at).reply into)
+exit_charges ids c ms parents bounds None none at into = tt
+exit_charges ids c ms parents bounds (Some m) found at into =
+    let place = found_at (λ n. runs_on c n.place) ms m found in
+    let has : Has m ms = subst (Has m) (sym place.whole) (has_between place.before m place.after) in
+    let bounded : KeepsBounds m.thread = all_has (λ n. KeepsBounds n.thread) m ms bounds has in
+    (all_has (HasDeclaredParent ids) m ms parents has, omega (arith, bounded.history))
 
 -- the reply to the event at a stage makes the next stage sound
 pub step_replies : (ids : List ℕ) (cpus : ℕ) (w : World) (worker now : ℕ) (st : Stage) → 0 < cpus →
@@ -764,7 +731,7 @@ step_replies ids cpus w worker now (stage.Advances k) some bound parents bounds 
 step_replies ids cpus w worker now (stage.Switches why) some bound parents bounds = tt
 step_replies ids cpus w worker now (stage.Drops channel) some bound parents bounds = tt
 step_replies ids cpus w worker now (stage.Beds t channel) some bound parents bounds = tt
-step_replies ids cpus w worker now (stage.Wakes t) some bound parents bounds = wake_lands cpus now t worker w.settings w.members some bound
+step_replies ids cpus w worker now (stage.Wakes t) some bound parents bounds = wake_lands cpus now t worker w some bound
 step_replies ids cpus w worker now (stage.Lands t c) some bound parents bounds = tt
 step_replies ids cpus w worker now (stage.Lends t p) some bound parents bounds = tt
 step_replies ids cpus w worker now (stage.Unlends t) some bound parents bounds = tt
@@ -772,6 +739,7 @@ step_replies ids cpus w worker now (stage.Renices t n) some bound parents bounds
 step_replies ids cpus w worker now (stage.Hatches t) some bound parents bounds = tt
 step_replies ids cpus w worker now (stage.Forks t) some bound parents bounds = some
 step_replies ids cpus w worker now (stage.Returns t) some bound parents bounds = tt
-step_replies ids cpus w worker now stage.Exits some bound parents bounds = exit_charges ids worker worker now (side_of worker w) parents bounds
+step_replies ids cpus w worker now stage.Exits some bound parents bounds =
+    exit_charges ids worker w.members parents bounds (current_of worker w.members) refl (seen_under w worker now (event.Exit worker) worker) _
 step_replies ids cpus w worker now (stage.Buries t parent run) some bound parents bounds = tt
 step_replies ids cpus w worker now (stage.Inherits t run) some bound parents bounds = tt

@@ -4,7 +4,7 @@ ghost use Rattle.ule_model.specs.CpuChange.{value_changed};
 ghost use Rattle.ule_model.specs.CpuValue.{IsNoEarlier, thread_in, value_taken};
 ghost use Rattle.ule_model.specs.LockConditions.{CanStepAt, CanStepChain, CanStepLimbo, CanStepQueue, IsTime};
 ghost use Rattle.ule_model.specs.LockValue.{found_on, has_under, line_under, standing_line};
-ghost use Rattle.ule_model.specs.PriorityChange.{gone_answer, unborn_answer};
+ghost use Rattle.ule_model.specs.Actions.{gone_answer, unborn_answer};
 ghost use Rattle.ule_model.specs.Step.{chain_bedded, chain_changed, chain_step, chain_woken, limbo_buried, limbo_changed, limbo_changed_unborn, limbo_hatched, limbo_returned, limbo_step, lock_step, not_asleep, queue_dropped, queue_exited, queue_forked, queue_landed, queue_step};
 ghost use Rattle.ule_model.specs.LockValue as value;
 ghost use Rattle.ule_model.specs.Places.{lock_of};
@@ -179,9 +179,9 @@ fn land(worker: u8, c: Cpu, hand: &mut Hand, tdq: &mut Tdq) -> Reply
 fn step_chain(settings: &Settings, hand: &mut Hand, chain: &mut Chain, e: &Event, now: u64) -> Reply
     requires settings { IsTrue (are_settings settings.now) }
     requires step { CanStepChain chain.old hand.old e.now now }
-    ensures hand { hand.new ≡ (chain_step settings.now e.now now hand.old chain.old).hand }
-    ensures value { value.chain chain.new ≡ (chain_step settings.now e.now now hand.old chain.old).value }
-    ensures reply { result ≡ (chain_step settings.now e.now now hand.old chain.old).reply }
+    ensures hand { (worker : ℕ) → hand.new ≡ (chain_step settings.now worker e.now now hand.old chain.old).hand }
+    ensures value { (worker : ℕ) → value.chain chain.new ≡ (chain_step settings.now worker e.now now hand.old chain.old).value }
+    ensures reply { (worker : ℕ) → result ≡ (chain_step settings.now worker e.now now hand.old chain.old).reply }
 {
     match *e {
         Event::Bed(_, channel) => bed(hand, chain, channel),
@@ -254,9 +254,9 @@ fn change_asleep(settings: &Settings, chain: &mut Chain, t: ThreadId, change: Ch
 fn step_limbo(settings: &Settings, hand: &mut Hand, limbo: &mut Limbo, e: &Event) -> Reply
     requires settings { IsTrue (are_settings settings.now) }
     requires step { CanStepLimbo limbo.old hand.old e.now }
-    ensures hand { hand.new ≡ (limbo_step settings.now e.now hand.old limbo.old).hand }
-    ensures value { value.limbo limbo.new ≡ (limbo_step settings.now e.now hand.old limbo.old).value }
-    ensures reply { result ≡ (limbo_step settings.now e.now hand.old limbo.old).reply }
+    ensures hand { (worker now : ℕ) → hand.new ≡ (limbo_step settings.now worker e.now now hand.old limbo.old).hand }
+    ensures value { (worker now : ℕ) → value.limbo limbo.new ≡ (limbo_step settings.now worker e.now now hand.old limbo.old).value }
+    ensures reply { (worker now : ℕ) → result ≡ (limbo_step settings.now worker e.now now hand.old limbo.old).reply }
 {
     match *e {
         Event::Hatch(t) => hatch(hand, limbo, t),
