@@ -18,20 +18,20 @@ use Rattle.ule_types.specs.declared.event.Event.TheVariants.{Tick, Switch, Drop,
 use Rattle.ule_types.specs.declared.event.Reply.{Reply}
 use Rattle.ule_types.specs.declared.event.Reply.TheVariants.{Bedded, Buried, Dropped, Exited, Hatched, NotAsleep, Nothing, Returned, Unmarked}
 use Rattle.ule_model.specs.Action.{Action, Part, answers, move}
-use Rattle.ule_model.specs.Actions.{Seen, action_of, change_action, change_action_at, fork_action, give_way_action, go_action, land_action, leave_action, note_action, requeue_action, switch_action, tick_action, unborn_action, wake_action, wake_action_at}
+use Rattle.ule_model.specs.Actions.{action_of, change_action, change_action_at, fork_action, give_way_action, go_action, land_action, leave_action, note_action, requeue_action, switch_action, tick_action, unborn_action, wake_action, wake_action_at}
 use Rattle.ule_model.specs.ActionStep.{seen_under}
 use Rattle.ule_model.specs.Conditions.{IsByIfReached, IsPossible}
 use Rattle.ule_model.specs.Events.{lock_of_thread, locks_of}
-use Rattle.ule_model.specs.Frames.{IsParent, IsSoundIn}
+use Rattle.ule_model.specs.Frames.{IsSoundIn}
 use Rattle.ule_model.specs.Places.{is_on, lock_of, runs_on}
 use Rattle.ule_model.specs.PriorityChange.{gone_answer, unborn_answer}
 use Rattle.ule_model.specs.Switch.{is_preemption, is_unasked}
 use Rattle.ule_model.specs.WellMade.{IsPlace, IsWellMadeWorld}
 use Rattle.ule_model.specs.Words.{WordChange, block, change_of}
-use Rattle.ule_model.specs.World.{Member, Side, World, current_of, side_of, standing_of, thread_of}
-use Rattle.ule_members.proofs.Membership.{all_has, has_thread_of, has_within}
-use Rattle.ule_members.proofs.PartDone.{Agree, AreDone, Follows, IsActedOn, IsWay, StandsAt, none_done, parts_follow, word_between, word_of_parts}
-use Rattle.ule_members.proofs.Reach.{IsHeld, IsUnbornIn, held_found, lock_where_runs, place_from_hand, reached_by_hand, reached_by_lock, takes_itself, unborn_found}
+use Rattle.ule_model.specs.World.{Member, World, current_of, side_of, standing_of, thread_of}
+use Rattle.ule_members.proofs.Membership.{all_has, has_within}
+use Rattle.ule_members.proofs.PartDone.{Agree, Follows, IsActedOn, IsWay, StandsAt, word_between, word_of_parts}
+use Rattle.ule_members.proofs.Reach.{IsHeld, held_found, lock_where_runs, place_from_hand, reached_by_hand, reached_by_lock, takes_itself, unborn_found}
 use Rattle.ule_members.proofs.Threads.{current_runs, thread_of_within, within_current}
 
 -- a place where a thread runs on a CPU is that of its current thread
@@ -202,11 +202,7 @@ module _ (w : World) (worker now : ℕ) (made : IsWellMadeWorld w) where
     );
     word = λ into. refl;
   }
-  wake_fits t l m (Running c) among at under = answer_fits (Wake t) l (NotAsleep (Running c)) refl
-  wake_fits t l m (Queued c k b) among at under = answer_fits (Wake t) l (NotAsleep (Queued c k b)) refl
-  wake_fits t l m Unborn among at under = answer_fits (Wake t) l (NotAsleep Unborn) refl
-  wake_fits t l m Gone among at under = answer_fits (Wake t) l (NotAsleep Gone) refl
-  wake_fits t l m (Hand h) among at under = answer_fits (Wake t) l (NotAsleep (Hand h)) refl
+  wake_fits t l m place among at under = answer_fits (Wake t) l (NotAsleep place) refl
 
   -- a change of a priority, by an event that changes no word
   module _ (e : Event) (t : ℕ) (given : Change) (sound : IsSoundChange now (changed given)) (none : (r : Reply) → change_of e r ≡ None) where

@@ -7,24 +7,21 @@ use Rattle.ule_prio.specs.declared.kind.Kind.TheVariants.{Batch}
 use Rattle.ule_score.proofs.ChangeLaws.{change_number}
 use Rattle.ule_score.specs.Changes.{record_after}
 use Rattle.ule_score.specs.declared.place.Place.{Place}
-use Rattle.ule_score.specs.declared.place.Place.TheVariants.{Running, Queued, Asleep, Unborn, Gone, Hand}
-use Rattle.ule_types.specs.Commands.{is_among}
-use Rattle.ule_types.specs.declared.event.Event.{Event}
+use Rattle.ule_score.specs.declared.place.Place.TheVariants.{Queued}
 use Rattle.ule_model.specs.CalendarIndexes.{distance_of, idx_after_turn, ridx_after_turn}
 use Rattle.ule_model.specs.CalendarPromise.{IsInBucket, choosing_from}
-use Rattle.ule_model.specs.Events.{locks_of}
 use Rattle.ule_model.specs.declared.insertion.Insertion.{Insertion}
 use Rattle.ule_model.specs.declared.insertion.Insertion.TheVariants.{Ordinary}
 use Rattle.ule_model.specs.Insertion.{members_in, queued}
 use Rattle.ule_model.specs.Switch.{choosing_next}
 use Rattle.ule_score.specs.declared.record.CpuLine.{CpuLine}
 use Rattle.ule_members.proofs.Membership.{has_thread_of}
-use Rattle.ule_model.specs.World.{Member, Side, World, current_of, thread_of}
+use Rattle.ule_model.specs.World.{Member, Side, thread_of}
 use Rattle.ule_members.proofs.CalendarMoves.{AreMoved, Others, choosing_moved, moved, moved_finds, noted_moved, queued_moved, unmoved}
 use Rattle.ule_members.proofs.CalendarParts.{HasJoined, IsNextIf, Joins, SidePassage, chosen_no_farther, choosing_chose, joined_came, joined_chose, joined_passes, lifted_rule, nobody_joins, queued_joins, unaltered, without_itself, without_one, without_other, without_within}
 use Rattle.ule_members.proofs.CalendarPlaces.{Filing, FindsEach, IsFiled, filed_at, filed_elsewhere, filed_found, filed_from, filing_found, filing_moved_aside, filing_of, filing_recorded, none_where_filed, some_filed}
 use Rattle.ule_members.proofs.CalendarRules.{IndexRule, IsClose, TellsEmpty, indexes_within, rule_from, turns}
-use Rattle.ule_model.specs.Action.{Part, choose, clear_marks, clock, count_switch, end_slice_if, insert, leaving, mark_if, move, note, part_done, parts_done}
+use Rattle.ule_model.specs.Action.{Part, choose, clock, insert, leaving, move, note, part_done, parts_done}
 use Rattle.ule_members.proofs.PartDone.{HasMover, IsKnown, Known, StandsAt, known_after, known_then}
 
 -- how far parts have come in a calendar: nothing happened there, a thread joined, or the index rule was applied
@@ -36,69 +33,39 @@ pub data Phase : Type 0 where
 -- a place in no calendar of any CPU
 abbrev pub IsOff : Place → Type 0
 IsOff (Queued d k b) = ⊥
-IsOff (Running d) = Unit {0}
-IsOff (Asleep channel) = Unit {0}
-IsOff Unborn = Unit {0}
-IsOff Gone = Unit {0}
-IsOff (Hand w) = Unit {0}
+IsOff place = Unit {0}
 
 off_filed : (d : ℕ) (place : Place) → IsOff place → filed_at d place ≡ None
 off_filed d (Queued e k b) off = absurd off
-off_filed d (Running e) off = refl
-off_filed d (Asleep channel) off = refl
-off_filed d Unborn off = refl
-off_filed d Gone off = refl
-off_filed d (Hand w) off = refl
+off_filed d place off = refl
 
 -- what an insertion needs that leaves this place: one that leaves a queue of the CPU is taken up, and goes next
 abbrev pub NeedsInsert : (taken next : ℕ → Bool) → ℕ → ℕ → Place → Insertion → Type 0
 NeedsInsert taken next c t (Queued d k b) how = (d ≡ c) × IsNextIf how (next t ≡ true) × (next t ≡ true) × (taken t ≡ true)
-NeedsInsert taken next c t (Running d) how = IsNextIf how (next t ≡ true)
-NeedsInsert taken next c t (Asleep channel) how = IsNextIf how (next t ≡ true)
-NeedsInsert taken next c t Unborn how = IsNextIf how (next t ≡ true)
-NeedsInsert taken next c t Gone how = IsNextIf how (next t ≡ true)
-NeedsInsert taken next c t (Hand w) how = IsNextIf how (next t ≡ true)
+NeedsInsert taken next c t place how = IsNextIf how (next t ≡ true)
 
 -- the phase after it
 abbrev pub inserted_phase : Place → Phase
 inserted_phase (Queued d k b) = passed
-inserted_phase (Running d) = joined
-inserted_phase (Asleep channel) = joined
-inserted_phase Unborn = joined
-inserted_phase Gone = joined
-inserted_phase (Hand w) = joined
+inserted_phase place = joined
 
 -- what a part on CPU c needs in a phase, of which threads stand where, and of who is taken up and goes next
 abbrev pub NeedsPhase : (taken next : ℕ → Bool) → ℕ → Part → Known → Phase → Type 0
-NeedsPhase taken next c (note t place change) known phase = Unit {0}
 NeedsPhase taken next c (move t from to) known fresh = known t from × IsOff from × IsOff to
-NeedsPhase taken next c (move t from to) known joined = ⊥
-NeedsPhase taken next c (move t from to) known passed = ⊥
+NeedsPhase taken next c (move t from to) known phase = ⊥
 NeedsPhase taken next c (insert t from how) known fresh = known t from × NeedsInsert taken next c t from how
-NeedsPhase taken next c (insert t from how) known joined = ⊥
-NeedsPhase taken next c (insert t from how) known passed = ⊥
-NeedsPhase taken next c choose known fresh = Unit {0}
-NeedsPhase taken next c choose known joined = Unit {0}
+NeedsPhase taken next c (insert t from how) known phase = ⊥
 NeedsPhase taken next c choose known passed = ⊥
-NeedsPhase taken next c clear_marks known phase = Unit {0}
-NeedsPhase taken next c count_switch known phase = Unit {0}
-NeedsPhase taken next c (mark_if takes) known phase = Unit {0}
-NeedsPhase taken next c (end_slice_if ended) known phase = Unit {0}
 NeedsPhase taken next c clock known fresh = Unit {0}
-NeedsPhase taken next c clock known joined = ⊥
-NeedsPhase taken next c clock known passed = ⊥
+NeedsPhase taken next c clock known phase = ⊥
+NeedsPhase taken next c p known phase = Unit {0}
 
 -- the phase after a part
 abbrev pub phase_after : Part → Phase → Phase
-phase_after (note t place change) phase = phase
-phase_after (move t from to) phase = phase
 phase_after (insert t from how) phase = inserted_phase from
 phase_after choose phase = passed
-phase_after clear_marks phase = phase
-phase_after count_switch phase = phase
-phase_after (mark_if takes) phase = phase
-phase_after (end_slice_if ended) phase = phase
 phase_after clock phase = passed
+phase_after p phase = phase
 
 -- that parts have what they need, one after another
 abbrev pub FollowsPhase : (taken next : ℕ → Bool) → ℕ → Known → Phase → List Part → Type 0
@@ -159,11 +126,7 @@ module _ (taken next : ℕ → Bool) (c now : ℕ) (s : Side) (close : IsClose s
   -- a thread that leaves a place in no calendar leaves the numbers
   leaving_off : (from : Place) (t : ℕ) (n : Side) → IsOff from → (leaving from c t n).line ≡ n.line
   leaving_off (Queued d k b) t n off = absurd off
-  leaving_off (Running d) t n off = refl
-  leaving_off (Asleep channel) t n off = refl
-  leaving_off Unborn t n off = refl
-  leaving_off Gone t n off = refl
-  leaving_off (Hand w) t n off = refl
+  leaving_off from t n off = refl
 
   -- a thread that stands at a place in no calendar is filed in none
   stands_unfiled : (t : ℕ) (from : Place) (ms : List Member) → StandsAt t from ms → IsOff from → (d : ℕ) → filing_of d ms t ≡ None
@@ -246,11 +209,7 @@ module _ (taken next : ℕ → Bool) (c now : ℕ) (s : Side) (close : IsClose s
   insert_passes : (t : ℕ) (from : Place) (how : Insertion) (n : Side) → StandsAt t from n.members → NeedsInsert taken next c t from how → IsAsItWas n → AreMoved (Others c) s.members n.members →
       IsAt (inserted_phase from) (queued how c t (leaving from c t n)) × AreMoved (Others c) s.members (queued how c t (leaving from c t n)).members
   insert_passes t (Queued d k b) how n stands goes at moves = requeue_passes t d b k how n stands goes at moves
-  insert_passes t (Running d) how n stands goes at moves = joins_passes t (Running d) how n stands tt goes at moves
-  insert_passes t (Asleep channel) how n stands goes at moves = joins_passes t (Asleep channel) how n stands tt goes at moves
-  insert_passes t Unborn how n stands goes at moves = joins_passes t Unborn how n stands tt goes at moves
-  insert_passes t Gone how n stands goes at moves = joins_passes t Gone how n stands tt goes at moves
-  insert_passes t (Hand h) how n stands goes at moves = joins_passes t (Hand h) how n stands tt goes at moves
+  insert_passes t from how n stands goes at moves = joins_passes t from how n stands tt goes at moves
 
   part_passes : (p : Part) (known : Known) (phase : Phase) (n : Side) (into : Option ℕ) → IsKnown known n.members → NeedsPhase taken next c p known phase → IsAt phase n →
       AreMoved (Others c) s.members n.members → IsAt (phase_after p phase) (part_done c now p (n, into)).0 × AreMoved (Others c) s.members (part_done c now p (n, into)).0.members
@@ -279,10 +238,6 @@ module _ (taken next : ℕ → Bool) (c now : ℕ) (s : Side) (close : IsClose s
       let each = moved_finds (Others c) s.members n.members finds moves in
       (joined_chose taken next c s close at.how at.joiner n (choosing_next c now n).0 at.goes at.joins (choosing_chose c now n each), choosing_moved (Others c) s.members c now n (λ d other. other) each moves)
   part_passes choose known passed n into is goes at moves = absurd goes
-  part_passes clear_marks known phase n into is goes at moves = (at_alike phase n (part_done c now clear_marks (n, into)).0 refl refl (λ u. refl) at, moves)
-  part_passes count_switch known phase n into is goes at moves = (at_alike phase n (part_done c now count_switch (n, into)).0 refl refl (λ u. refl) at, moves)
-  part_passes (mark_if takes) known phase n into is goes at moves = (at_alike phase n (part_done c now (mark_if takes) (n, into)).0 refl refl (λ u. refl) at, moves)
-  part_passes (end_slice_if ended) known phase n into is goes at moves = (at_alike phase n (part_done c now (end_slice_if ended) (n, into)).0 refl refl (λ u. refl) at, moves)
   part_passes clock known fresh n into is goes at moves =
       let each = moved_finds (Others c) s.members n.members finds moves in
       let empty : Bool = length (members_in c Batch n.line.ridx n.members) == 0 in (
@@ -299,20 +254,14 @@ module _ (taken next : ℕ → Bool) (c now : ℕ) (s : Side) (close : IsClose s
       )
   part_passes clock known joined n into is goes at moves = absurd goes
   part_passes clock known passed n into is goes at moves = absurd goes
+  part_passes p known phase n into is goes at moves = (at_alike phase n (part_done c now p (n, into)).0 refl refl (λ u. refl) at, moves)
 
   -- what a part needs to be known of whom it moves
   mover_known : (p : Part) (known : Known) (phase : Phase) → NeedsPhase taken next c p known phase → HasMover p known
-  mover_known (note t place change) known phase needs = tt
   mover_known (move t from to) known fresh needs = needs.0
   mover_known (move t from to) known joined needs = absurd needs
   mover_known (move t from to) known passed needs = absurd needs
-  mover_known (insert t from how) known phase needs = tt
-  mover_known choose known phase needs = tt
-  mover_known clear_marks known phase needs = tt
-  mover_known count_switch known phase needs = tt
-  mover_known (mark_if takes) known phase needs = tt
-  mover_known (end_slice_if ended) known phase needs = tt
-  mover_known clock known phase needs = tt
+  mover_known p known phase needs = tt
 
   -- ---- and one induction
 
@@ -335,15 +284,11 @@ module _ (taken next : ℕ → Bool) (c now : ℕ) (s : Side) (close : IsClose s
   -- after the choice no part chooses again
   into_kept : (ps : List Part) (known : Known) (n : Side) (into : Option ℕ) → FollowsPhase taken next c known passed ps → (parts_done c now ps (n, into)).1 ≡ into
   into_kept [] known n into goes = refl
-  into_kept (note t place change ∷ ps) known n into goes = into_kept ps known (part_done c now (note t place change) (n, into)).0 into goes.1
   into_kept (move t from to ∷ ps) known n into goes = absurd goes.0
   into_kept (insert t from how ∷ ps) known n into goes = absurd goes.0
   into_kept (choose ∷ ps) known n into goes = absurd goes.0
-  into_kept (clear_marks ∷ ps) known n into goes = into_kept ps known (part_done c now clear_marks (n, into)).0 into goes.1
-  into_kept (count_switch ∷ ps) known n into goes = into_kept ps known (part_done c now count_switch (n, into)).0 into goes.1
-  into_kept (mark_if takes ∷ ps) known n into goes = into_kept ps known (part_done c now (mark_if takes) (n, into)).0 into goes.1
-  into_kept (end_slice_if ended ∷ ps) known n into goes = into_kept ps known (part_done c now (end_slice_if ended) (n, into)).0 into goes.1
   into_kept (clock ∷ ps) known n into goes = absurd goes.0
+  into_kept (p ∷ ps) known n into goes = into_kept ps (known_after p known) (part_done c now p (n, into)).0 into goes.1
 
   module _ (t b : ℕ) (stands : filing_of c s.members t ≡ Some b) where
     -- what these parts choose from a side is no farther than bucket b
@@ -370,38 +315,10 @@ module _ (taken next : ℕ → Bool) (c now : ℕ) (s : Side) (close : IsClose s
     parts_pick [] known phase n into is goes at moves = λ g u a from chosen old. absurd (none-some g from)
     parts_pick (choose ∷ ps) known phase n into is goes at moves =
         chosen_near ps (known_after choose known) n into goes.1 moves (stands_still phase n known goes.0 at)
-    parts_pick (note v place change ∷ ps) known phase n into is goes at moves =
-        let one = part_passes (note v place change) known phase n into is goes.0 at moves in
-        let m = part_done c now (note v place change) (n, into) in
-        parts_pick ps (known_after (note v place change) known) (phase_after (note v place change) phase) m.0 m.1 (known_then c now (note v place change) known n into is (mover_known (note v place change) known phase goes.0)) goes.1 one.0 one.1
-    parts_pick (move v from to ∷ ps) known phase n into is goes at moves =
-        let one = part_passes (move v from to) known phase n into is goes.0 at moves in
-        let m = part_done c now (move v from to) (n, into) in
-        parts_pick ps (known_after (move v from to) known) (phase_after (move v from to) phase) m.0 m.1 (known_then c now (move v from to) known n into is (mover_known (move v from to) known phase goes.0)) goes.1 one.0 one.1
-    parts_pick (insert v from how ∷ ps) known phase n into is goes at moves =
-        let one = part_passes (insert v from how) known phase n into is goes.0 at moves in
-        let m = part_done c now (insert v from how) (n, into) in
-        parts_pick ps (known_after (insert v from how) known) (phase_after (insert v from how) phase) m.0 m.1 (known_then c now (insert v from how) known n into is (mover_known (insert v from how) known phase goes.0)) goes.1 one.0 one.1
-    parts_pick (clear_marks ∷ ps) known phase n into is goes at moves =
-        let one = part_passes clear_marks known phase n into is goes.0 at moves in
-        let m = part_done c now clear_marks (n, into) in
-        parts_pick ps (known_after clear_marks known) (phase_after clear_marks phase) m.0 m.1 (known_then c now clear_marks known n into is (mover_known clear_marks known phase goes.0)) goes.1 one.0 one.1
-    parts_pick (count_switch ∷ ps) known phase n into is goes at moves =
-        let one = part_passes count_switch known phase n into is goes.0 at moves in
-        let m = part_done c now count_switch (n, into) in
-        parts_pick ps (known_after count_switch known) (phase_after count_switch phase) m.0 m.1 (known_then c now count_switch known n into is (mover_known count_switch known phase goes.0)) goes.1 one.0 one.1
-    parts_pick (mark_if takes ∷ ps) known phase n into is goes at moves =
-        let one = part_passes (mark_if takes) known phase n into is goes.0 at moves in
-        let m = part_done c now (mark_if takes) (n, into) in
-        parts_pick ps (known_after (mark_if takes) known) (phase_after (mark_if takes) phase) m.0 m.1 (known_then c now (mark_if takes) known n into is (mover_known (mark_if takes) known phase goes.0)) goes.1 one.0 one.1
-    parts_pick (end_slice_if ended ∷ ps) known phase n into is goes at moves =
-        let one = part_passes (end_slice_if ended) known phase n into is goes.0 at moves in
-        let m = part_done c now (end_slice_if ended) (n, into) in
-        parts_pick ps (known_after (end_slice_if ended) known) (phase_after (end_slice_if ended) phase) m.0 m.1 (known_then c now (end_slice_if ended) known n into is (mover_known (end_slice_if ended) known phase goes.0)) goes.1 one.0 one.1
-    parts_pick (clock ∷ ps) known phase n into is goes at moves =
-        let one = part_passes clock known phase n into is goes.0 at moves in
-        let m = part_done c now clock (n, into) in
-        parts_pick ps (known_after clock known) (phase_after clock phase) m.0 m.1 (known_then c now clock known n into is (mover_known clock known phase goes.0)) goes.1 one.0 one.1
+    parts_pick (p ∷ ps) known phase n into is goes at moves =
+        let one = part_passes p known phase n into is goes.0 at moves in
+        let m = part_done c now p (n, into) in
+        parts_pick ps (known_after p known) (phase_after p phase) m.0 m.1 (known_then c now p known n into is (mover_known p known phase goes.0)) goes.1 one.0 one.1
 
     -- what parts choose, from their own side
     pub parts_choose : (ps : List Part) → FollowsPhase taken next c (λ u place. StandsAt u place s.members) fresh ps → IsNoFarther ps (s, None)

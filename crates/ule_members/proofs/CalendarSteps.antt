@@ -1,8 +1,8 @@
 -- What each event makes of the calendars, and what it chooses from them: a line or two an event; and so for each step.
-use Rattle.std.proofs.Common.{◌≡◌, ℕ, ◌<◌, ◌≤◌, ◌==◌, ◌%◌, ◌+◌, Bool, true, false, length, List, [], ◌∷◌, Option, Some, None, if◌then◌else◌, refl, sym, ◌∙◌, ap, subst, get_or-set_same}
+use Rattle.std.proofs.Common.{◌≡◌, ℕ, ◌<◌, ◌≤◌, ◌==◌, Bool, true, false, length, List, [], ◌∷◌, Option, Some, None, if◌then◌else◌, refl, sym, ◌∙◌, ap, subst, get_or-set_same}
 use Rattle.std.specs.Option.{option_map}
-use Rattle.std.specs.Prelude.{nat_lt, option_and_then}
-use Rattle.std.proofs.lemmas.Bool.{both_ways, eq-eqb, eqb-true, false≢true, or_left, or_right}
+use Rattle.std.specs.Prelude.{nat_lt}
+use Rattle.std.proofs.lemmas.Bool.{eq-eqb, eqb-true, false≢true, or_left, or_right}
 use Rattle.std.proofs.lemmas.Option.{none-some}
 use Rattle.ule_score.specs.Changes.{RecordChange, after_change, ran, sleeps}
 use Rattle.ule_score.specs.declared.place.Place.{Place}
@@ -13,13 +13,12 @@ use Rattle.ule_score.specs.declared.record.CpuLine.{CpuLine}
 use Rattle.ule_score.specs.declared.record.ThreadRecord.{ThreadRecord}
 use Rattle.ule_score.specs.declared.record.Why.{Why}
 use Rattle.ule_types.specs.Commands.{is_among}
-use Rattle.ule_types.specs.declared.event.Entry.{Entry}
 use Rattle.ule_types.specs.declared.event.Event.{Event}
 use Rattle.ule_types.specs.declared.event.Event.TheVariants.{Tick, Switch, Drop, Bed, Wake, Look, Land, Move, Lend, Unlend, Renice, Hatch, Fork, Return, Exit, Bury, Inherit}
 use Rattle.ule_types.specs.declared.event.Reply.{Reply}
 use Rattle.ule_types.specs.declared.event.Reply.TheVariants.{Bedded, Buried, Changed, Dropped, Exited, Hatched, NotAllowed, NotAsleep, Nothing, ParentGone, Returned, Switched, Unmarked}
 use Rattle.ule_model.specs.Action.{Action, action_done, answers, move, parts_done}
-use Rattle.ule_model.specs.Actions.{Seen, action_of, change_action, change_action_at, fork_action, give_way_action, go_action, land_action, leave_action, note_action, requeue_action, switch_action, tick_action, unborn_action, wake_action, wake_action_at}
+use Rattle.ule_model.specs.Actions.{action_of, change_action, change_action_at, fork_action, give_way_action, go_action, land_action, leave_action, note_action, requeue_action, switch_action, tick_action, unborn_action, wake_action, wake_action_at}
 use Rattle.ule_model.specs.ActionStep.{bare_side, named_by, seen_on, seen_under}
 use Rattle.ule_model.specs.Step.{step, step_under_locks}
 use Rattle.ule_model.specs.CalendarIndexes.{distance_of, idx_after_turn}
@@ -29,7 +28,7 @@ use Rattle.ule_model.specs.Landing.{current_record}
 use Rattle.ule_model.specs.Places.{lock_of}
 use Rattle.ule_model.specs.PriorityChange.{gone_answer, unborn_answer}
 use Rattle.ule_model.specs.Switch.{insertion_of, is_preemption, is_unasked, started_reply}
-use Rattle.ule_model.specs.World.{Member, Side, World, current_of, fresh_line, on_side, side_of, standing_of, thread_of, with_side}
+use Rattle.ule_model.specs.World.{Member, Side, World, current_of, fresh_line, side_of, standing_of, thread_of}
 use Rattle.ule_members.proofs.ActionFits.{IsUnder, only_lock, running_at, sought_under}
 use Rattle.ule_members.proofs.CalendarMoves.{has_found}
 use Rattle.ule_members.proofs.CalendarParts.{IsCalm, IsNextIf, StepPasses, entry_by, nothing_passes, side_passes}
@@ -137,11 +136,7 @@ module _ (w : World) (worker now : ℕ) (calm : IsCalm w) where
 
   wake_comes : (t l : ℕ) (m : Member) (place : Place) → StandsAt t place w.members → Comes (Wake t) l (wake_action_at place t m.thread (seen_under w worker now (Wake t) l))
   wake_comes t l m (Asleep channel) at = record { follows = λ into. ((at, tt, tt), (tt, tt)); tells = λ into u is. absurd (none-some u is) }
-  wake_comes t l m (Running c) at = answer_comes (Wake t) l (NotAsleep (Running c)) refl
-  wake_comes t l m (Queued c k b) at = answer_comes (Wake t) l (NotAsleep (Queued c k b)) refl
-  wake_comes t l m Unborn at = answer_comes (Wake t) l (NotAsleep Unborn) refl
-  wake_comes t l m Gone at = answer_comes (Wake t) l (NotAsleep Gone) refl
-  wake_comes t l m (Hand h) at = answer_comes (Wake t) l (NotAsleep (Hand h)) refl
+  wake_comes t l m place at = answer_comes (Wake t) l (NotAsleep place) refl
 
   module _ (e : Event) (t : ℕ) (given : Change) (sought : sought_by e ≡ Some t) where
     note_comes : (l : ℕ) (place : Place) (new : ThreadRecord) → Comes e l (note_action place given t new)

@@ -33,7 +33,7 @@ use Rattle.ule_members.proofs.Touches.{all_touched_further, comes_by_one, comes_
 use Rattle.ule_members.proofs.Within.{Within, within_found}
 use Rattle.ule_members.proofs.WordLaws.{IsOnWordOf, word_blocked, word_pointed, words_between, words_stay}
 use Rattle.ule_members.proofs.Rest.{after_leaving_within}
-use Rattle.ule_model.specs.Action.{Part, choose, clear_marks, clock, count_switch, end_slice_if, insert, leaving, mark_if, move, note, part_done, parts_done}
+use Rattle.ule_model.specs.Action.{Part, choose, insert, leaving, move, note, part_done, parts_done}
 use Rattle.ule_members.proofs.PartRest.{part_kept}
 
 -- ---- the word of an action
@@ -47,15 +47,9 @@ word_between t (Some k) (Some l) = None
 
 -- how a part on CPU c changes a word
 abbrev pub word_of_part : ℕ → Part → Option WordChange
-word_of_part c (note t place change) = None
 word_of_part c (move t from to) = word_between t (lock_of from) (lock_of to)
 word_of_part c (insert t from how) = word_between t (lock_of from) (Some c)
-word_of_part c choose = None
-word_of_part c clear_marks = None
-word_of_part c count_switch = None
-word_of_part c (mark_if takes) = None
-word_of_part c (end_slice_if ended) = None
-word_of_part c clock = None
+word_of_part c p = None
 
 -- a change of a word and then another
 abbrev pub word_then : Option WordChange → Option WordChange → Option WordChange
@@ -105,26 +99,16 @@ Known = ℕ → Place → Type 0
 
 -- what is known after a part, of threads and, if anything, of there being no current one
 abbrev pub known_after : Part → Known → Known
-known_after (note t place change) known = known
 known_after (move t from to) known = λ u place. (u ≡ t) × (place ≡ to)
 known_after (insert t from how) known = λ u place. ⊥
 known_after choose known = λ u place. ⊥
-known_after clear_marks known = known
-known_after count_switch known = known
-known_after (mark_if takes) known = known
-known_after (end_slice_if ended) known = known
-known_after clock known = known
+known_after p known = known
 
 abbrev pub idle_after : ℕ → Part → Type 0 → Type 0
-idle_after c (note t place change) idle = idle
 idle_after c (move t from to) idle = from ≡ Running c
 idle_after c (insert t from how) idle = from ≡ Running c
 idle_after c choose idle = ⊥
-idle_after c clear_marks idle = idle
-idle_after c count_switch idle = idle
-idle_after c (mark_if takes) idle = idle
-idle_after c (end_slice_if ended) idle = idle
-idle_after c clock idle = idle
+idle_after c p idle = idle
 
 -- what is known after all parts
 abbrev pub known_after_all : List Part → Known → Known
@@ -166,15 +150,8 @@ move_stands t from to ms at = record {
 
 -- what is to be known of the thread that a part moves
 abbrev pub HasMover : Part → Known → Type 0
-HasMover (note t place change) known = Unit {0}
 HasMover (move t from to) known = known t from
-HasMover (insert t from how) known = Unit {0}
-HasMover choose known = Unit {0}
-HasMover clear_marks known = Unit {0}
-HasMover count_switch known = Unit {0}
-HasMover (mark_if takes) known = Unit {0}
-HasMover (end_slice_if ended) known = Unit {0}
-HasMover clock known = Unit {0}
+HasMover p known = Unit {0}
 
 -- what is known after a part is so
 pub known_then : (c now : ℕ) (p : Part) (known : Known) (s : Side) (into : Option ℕ) → IsKnown known s.members → HasMover p known →
@@ -185,11 +162,7 @@ known_then c now (move t from to) known s into is mover u at here =
     (subst (λ (x : Place). StandsAt t x (moved_to t to (pos 0) s.members)) (sym here.1) (move_stands t from to s.members (is t from mover)))
 known_then c now (insert t from how) known s into is mover u at here = absurd here
 known_then c now choose known s into is mover u at here = absurd here
-known_then c now clear_marks known s into is mover u at here = is u at here
-known_then c now count_switch known s into is mover u at here = is u at here
-known_then c now (mark_if takes) known s into is mover u at here = is u at here
-known_then c now (end_slice_if ended) known s into is mover u at here = is u at here
-known_then c now clock known s into is mover u at here = is u at here
+known_then c now p known s into is mover u at here = is u at here
 
 module _ (w : World) (worker : ℕ) (e : Event) (now : ℕ) where
   -- ---- what is shown
@@ -366,11 +339,7 @@ module _ (w : World) (worker : ℕ) (e : Event) (now : ℕ) where
         known t from × IsActedOn w worker e from × IsActedOn w worker e to × IsWay (lock_of from) (lock_of to) × IsPlace to × ((d : ℕ) → is_on d to ≡ false)
     Needs (insert t from how) known idle = known t from × IsActedOn w worker e from × IsWay (lock_of from) (Some c)
     Needs choose known idle = idle
-    Needs clear_marks known idle = Unit {0}
-    Needs count_switch known idle = Unit {0}
-    Needs (mark_if takes) known idle = Unit {0}
-    Needs (end_slice_if ended) known idle = Unit {0}
-    Needs clock known idle = Unit {0}
+    Needs p known idle = Unit {0}
 
     -- that parts have what they need, one after another, and change one thread's word
     abbrev pub Follows : Known → Type 0 → List Part → Type 0
@@ -561,16 +530,8 @@ module _ (w : World) (worker : ℕ) (e : Event) (now : ℕ) where
             none = λ is. absurd is;
           };
         }
-    part_step clear_marks known idle s into among ready needs =
-        record { done = none_done s.members ready.made; ready = same_ready known idle s (part_done c now clear_marks (s, into)).0 ready refl refl (λ at. at) }
-    part_step count_switch known idle s into among ready needs =
-        record { done = none_done s.members ready.made; ready = same_ready known idle s (part_done c now count_switch (s, into)).0 ready refl refl (λ at. at) }
-    part_step (mark_if takes) known idle s into among ready needs =
-        record { done = none_done s.members ready.made; ready = same_ready known idle s (part_done c now (mark_if takes) (s, into)).0 ready refl refl (λ at. at) }
-    part_step (end_slice_if ended) known idle s into among ready needs =
-        record { done = none_done s.members ready.made; ready = same_ready known idle s (part_done c now (end_slice_if ended) (s, into)).0 ready refl refl (λ at. at) }
-    part_step clock known idle s into among ready needs =
-        record { done = none_done s.members ready.made; ready = same_ready known idle s (part_done c now clock (s, into)).0 ready refl refl (part_kept c now clock s into).index }
+    part_step p known idle s into among ready needs =
+        record { done = none_done s.members ready.made; ready = same_ready known idle s (part_done c now p (s, into)).0 ready refl refl (part_kept c now p s into).index }
 
     -- ---- and one induction
 

@@ -1,5 +1,5 @@
 -- What the step of each event does to the threads of a world and leaves of the rest: the laws of a step.
-use Rattle.std.proofs.Common.{◌≡◌, ℕ, ◌<◌, ◌==◌, ◌%◌, ◌+◌, Bool, true, false, List, [], ◌∷◌, Option, Some, None, is_some, if◌then◌else◌, slice_index_or, slice_set, refl, sym, ◌∙◌, ap, subst}
+use Rattle.std.proofs.Common.{◌≡◌, ℕ, ◌==◌, ◌%◌, ◌+◌, Bool, true, false, List, [], ◌∷◌, Option, Some, None, is_some, if◌then◌else◌, refl, sym, ◌∙◌, ap, subst}
 use Rattle.std.specs.Option.{option_map, option_to_list}
 use Rattle.std.specs.Prelude.{max, min, option_and_then}
 use Rattle.std.proofs.lemmas.Option.{none-some}
@@ -20,9 +20,9 @@ use Rattle.ule_model.specs.Frames.{LeavesRest, StepIsMade, StepLeavesRest, StepM
 use Rattle.ule_model.specs.Places.{hand_of, is_hand_of, is_number, lock_of}
 use Rattle.ule_model.specs.WellMade.{HaveIndexes, IsWellMade, IsWellMadeWorld}
 use Rattle.ule_model.specs.Words.{WordChange, block, change_of, point}
-use Rattle.ule_model.specs.World.{Member, Side, World, current_of, fresh_line, on_side, side_of, standing_of, thread_of, with_side}
+use Rattle.ule_model.specs.World.{Member, Side, World, current_of, on_side, side_of, standing_of, thread_of}
 use Rattle.ule_members.proofs.ActionFits.{IsFit, event_fits}
-use Rattle.ule_members.proofs.PartDone.{AreDone, StandsAt, holder_after, none_done, parts_follow, word_of_parts}
+use Rattle.ule_members.proofs.PartDone.{AreDone, StandsAt, holder_after, none_done, parts_follow}
 use Rattle.ule_members.proofs.PlaceFinds.{thread_at_none, thread_at_within}
 use Rattle.ule_members.proofs.PartRest.{parts_kept}
 use Rattle.ule_members.proofs.Rest.{index_of, rest_left, side_indexes, side_leaves}

@@ -1,10 +1,10 @@
 -- The unborn threads: each thread that a setup declares unborn is so at the start, and stays so through every event
 -- but its own hatch.
-use Rattle.std.proofs.Common.{◌≡◌, ◌≢◌, ℕ, ◌<◌, ◌≤◌, ◌+◌, ◌%◌, ◌==◌, ◌||◌, pos, Bool, true, false, List, [], ◌∷◌, ◌++◌, flat_map, fold, length, map, nat_le, nat_lt, Option, Some, None, if◌then◌else◌, inl, inr, ⊎_elim, refl, sym, ◌∙◌, ap, subst, arith}
+use Rattle.std.proofs.Common.{◌≡◌, ◌≢◌, ℕ, ◌≤◌, ◌==◌, ◌||◌, pos, Bool, true, false, List, [], ◌∷◌, ◌++◌, flat_map, fold, length, map, nat_le, nat_lt, Option, Some, None, if◌then◌else◌, inl, inr, ⊎_elim, refl, sym, ◌∙◌, ap, subst}
 use Rattle.std.specs.List.{list_all}
 use Rattle.std.specs.Option.{option_map}
 use Rattle.std.specs.Prelude.{IfSome, ◌⊎◌}
-use Rattle.std.proofs.lemmas.Bool.{and_parts, both_ways, eq-eqb, false_from_ne_true, false≢true, ltb-true, ne_eqb, or_from, or_parts}
+use Rattle.std.proofs.lemmas.Bool.{and_parts, both_ways, eq-eqb, false_from_ne_true, false≢true, or_parts}
 use Rattle.std.proofs.lemmas.List.{append-nil, append_assoc}
 use Rattle.ule_score.proofs.ChangeLaws.{change_number}
 use Rattle.ule_prio.specs.declared.kind.Kind.{Kind}
@@ -24,7 +24,7 @@ use Rattle.ule_threads.specs.declared.standing.Standing.{Standing}
 use Rattle.ule_types.specs.declared.event.Reply.{Reply}
 use Rattle.ule_types.specs.declared.event.Reply.TheVariants.{Bedded, Buried, Dropped, Exited, Hatched, Returned, Unmarked}
 use Rattle.ule_types.specs.declared.setup.Setup.{Setup}
-use Rattle.ule_model.specs.Action.{Part, answers, choose, clear_marks, clock, count_switch, end_slice_if, insert, leaving, mark_if, move, note, part_done, parts_done}
+use Rattle.ule_model.specs.Action.{Part, answers, choose, insert, leaving, move, note, part_done, parts_done}
 use Rattle.ule_model.specs.Actions.{Seen, action_of, change_action, change_action_at, fork_action, give_way_action, go_action, land_action, leave_action, note_action, requeue_action, tick_action, unborn_action, wake_action, wake_action_at}
 use Rattle.ule_model.specs.ActionStep.{seen_under}
 use Rattle.ule_model.specs.Choice.{choice_of}
@@ -115,15 +115,9 @@ waits_born c (Hand w) waits = refl
 
 -- a part moves no unborn thread, or another than thread t
 abbrev IsSpared : ℕ → Part → Type 0
-IsSpared t (note u place change) = Unit {0}
 IsSpared t (move u from to) = (is_unborn from ≡ false) ⊎ (t ≢ u)
 IsSpared t (insert u from how) = is_unborn from ≡ false
-IsSpared t choose = Unit {0}
-IsSpared t clear_marks = Unit {0}
-IsSpared t count_switch = Unit {0}
-IsSpared t (mark_if takes) = Unit {0}
-IsSpared t (end_slice_if ended) = Unit {0}
-IsSpared t clock = Unit {0}
+IsSpared t p = Unit {0}
 
 -- so each of these parts
 abbrev AreSpared : ℕ → List Part → Type 0
@@ -157,11 +151,7 @@ module _ (w : World) (worker : ℕ) (e : Event) (now c t : ℕ) where
       let at = ready.stands u from needs.0 in
       ap is_unborn_thread (thread_of-queued_other how c t u (leaving from c u s) (unborn_apart t u at.member s.members unborn at.found (ap is_unborn at.place_is ∙ spared))) ∙ unborn
   part_spares choose known idle s into ready needs spared unborn = choice_spares s ready.made unborn
-  part_spares clear_marks known idle s into ready needs spared unborn = unborn
-  part_spares count_switch known idle s into ready needs spared unborn = unborn
-  part_spares (mark_if takes) known idle s into ready needs spared unborn = unborn
-  part_spares (end_slice_if ended) known idle s into ready needs spared unborn = unborn
-  part_spares clock known idle s into ready needs spared unborn = unborn
+  part_spares p known idle s into ready needs spared unborn = unborn
 
   -- so parts do
   parts_spare : (ps : List Part) (known : Known) (idle : Type 0) (s : Side) (into : Option ℕ) → is_among (locks_of w e) c ≡ true → IsReady w worker e now c known idle s →

@@ -3,7 +3,7 @@ use Rattle.std.specs.Prelude.{ℕ, ◌+◌, ◌-◌, List, [], ◌∷◌, slice_
 use Rattle.std.specs.Option.{option_map}
 use Rattle.ule_score.specs.Changes.{RecordChange, record_after}
 use Rattle.ule_score.specs.declared.place.Place.{Place}
-use Rattle.ule_score.specs.declared.place.Place.TheVariants.{Running, Queued, Asleep, Unborn, Gone, Hand}
+use Rattle.ule_score.specs.declared.place.Place.TheVariants.{Running, Queued, Hand}
 use Rattle.ule_score.specs.declared.record.Settings.{Settings}
 use Rattle.ule_score.specs.declared.record.ThreadRecord.{ThreadRecord}
 use Rattle.ule_sleep.specs.Chain.{standing_in, thread_standing, with_standing, without_standing}
@@ -27,19 +27,12 @@ pub record HandAndCpu : Type 0 where
 abbrev pub value_leaving : Place → ℕ → CpuValue → CpuValue
 value_leaving (Running c) t v = record v { current = None }
 value_leaving (Queued c k b) t v = removed_from k t v
-value_leaving (Asleep channel) t v = v
-value_leaving Unborn t v = v
-value_leaving Gone t v = v
-value_leaving (Hand w) t v = v
+value_leaving place t v = v
 
 -- the record of thread t changes in the hand, or else on the CPU
 abbrev pub noted_on_cpu : Place → ℕ → ℕ → RecordChange → HandAndCpu → HandAndCpu
-noted_on_cpu (Running c) now t change h = record h { value = with_thread_after now t change h.value }
-noted_on_cpu (Queued c k b) now t change h = record h { value = with_thread_after now t change h.value }
-noted_on_cpu (Asleep channel) now t change h = record h { value = with_thread_after now t change h.value }
-noted_on_cpu Unborn now t change h = record h { value = with_thread_after now t change h.value }
-noted_on_cpu Gone now t change h = record h { value = with_thread_after now t change h.value }
 noted_on_cpu (Hand w) now t change h = record h { hand = option_map (record_after h.value.settings now change) h.hand }
+noted_on_cpu place now t change h = record h { value = with_thread_after now t change h.value }
 
 -- the CPU with one thread more, queued so
 abbrev pub value_joined : Insertion → ThreadRecord → CpuValue → CpuValue
@@ -60,12 +53,8 @@ inserted_anew place how t v = let left = value_leaving place t v in inserted_thr
 
 -- thread t is queued, from the hand or from its place on the CPU
 abbrev pub inserted_on_cpu : Place → Insertion → ℕ → HandAndCpu → HandAndCpu
-inserted_on_cpu (Running c) how t h = record h { value = inserted_anew (Running c) how t h.value }
-inserted_on_cpu (Queued c k b) how t h = record h { value = inserted_anew (Queued c k b) how t h.value }
-inserted_on_cpu (Asleep channel) how t h = record h { value = inserted_anew (Asleep channel) how t h.value }
-inserted_on_cpu Unborn how t h = record h { value = inserted_anew Unborn how t h.value }
-inserted_on_cpu Gone how t h = record h { value = inserted_anew Gone how t h.value }
 inserted_on_cpu (Hand w) how t h = inserted_from_hand how h.hand h
+inserted_on_cpu place how t h = record h { value = inserted_anew place how t h.value }
 
 -- a part on the hand and a CPU, and the thread that was chosen so far; a thread that leaves the CPU goes to the hand
 abbrev pub part_on_cpu : ℕ → Part → HandAndCpu × Option ℕ → HandAndCpu × Option ℕ
@@ -107,12 +96,8 @@ with_noted settings now t change slots = slice_set slots t (option_map (standing
 
 -- the record of thread t changes in the hand, or else under the lock
 abbrev pub noted_in_slots : Place → Settings → ℕ → ℕ → RecordChange → HandAndSlots → HandAndSlots
-noted_in_slots (Running c) settings now t change h = record h { slots = with_noted settings now t change h.slots }
-noted_in_slots (Queued c k b) settings now t change h = record h { slots = with_noted settings now t change h.slots }
-noted_in_slots (Asleep channel) settings now t change h = record h { slots = with_noted settings now t change h.slots }
-noted_in_slots Unborn settings now t change h = record h { slots = with_noted settings now t change h.slots }
-noted_in_slots Gone settings now t change h = record h { slots = with_noted settings now t change h.slots }
 noted_in_slots (Hand w) settings now t change h = record h { hand = option_map (record_after settings now change) h.hand }
+noted_in_slots place settings now t change h = record h { slots = with_noted settings now t change h.slots }
 
 -- this thread comes from the hand to a place under the lock
 abbrev pub put_down : Place → Option ThreadRecord → HandAndSlots → HandAndSlots
@@ -125,24 +110,14 @@ picked_up t h = record { hand = thread_standing (standing_in h.slots t); slots =
 
 -- thread t goes from the hand to a place under the lock, or else from under the lock to the hand
 abbrev pub moved_in_slots : Place → Place → ℕ → HandAndSlots → HandAndSlots
-moved_in_slots (Running c) to t h = picked_up t h
-moved_in_slots (Queued c k b) to t h = picked_up t h
-moved_in_slots (Asleep channel) to t h = picked_up t h
-moved_in_slots Unborn to t h = picked_up t h
-moved_in_slots Gone to t h = picked_up t h
 moved_in_slots (Hand w) to t h = put_down to h.hand h
+moved_in_slots place to t h = picked_up t h
 
 -- a part on the hand and the threads under the lock: the parts of a CPU do nothing
 abbrev pub part_in_slots : Settings → ℕ → Part → HandAndSlots → HandAndSlots
 part_in_slots settings now (note t place change) h = noted_in_slots place settings now t change h
 part_in_slots settings now (move t from to) h = moved_in_slots from to t h
-part_in_slots settings now (insert t from how) h = h
-part_in_slots settings now choose h = h
-part_in_slots settings now clear_marks h = h
-part_in_slots settings now count_switch h = h
-part_in_slots settings now (mark_if takes) h = h
-part_in_slots settings now (end_slice_if ended) h = h
-part_in_slots settings now clock h = h
+part_in_slots settings now p h = h
 
 -- parts, one after another
 abbrev pub parts_in_slots : Settings → ℕ → List Part → HandAndSlots → HandAndSlots

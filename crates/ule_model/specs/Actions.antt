@@ -102,11 +102,7 @@ wake_action_at (Asleep channel) t r at = record {
   parts = move t (Asleep channel) (Hand at.worker) ∷ note t (Hand at.worker) woken ∷ [];
   reply = λ into. woken_reply (after_sleep at.settings at.now r);
 }
-wake_action_at (Running c) t r at = answers (NotAsleep (Running c))
-wake_action_at (Queued c k b) t r at = answers (NotAsleep (Queued c k b))
-wake_action_at Unborn t r at = answers (NotAsleep Unborn)
-wake_action_at Gone t r at = answers (NotAsleep Gone)
-wake_action_at (Hand w) t r at = answers (NotAsleep (Hand w))
+wake_action_at place t r at = answers (NotAsleep place)
 
 abbrev pub wake_action : ℕ → Option Standing → Seen → Action
 wake_action t None at = answers Nothing

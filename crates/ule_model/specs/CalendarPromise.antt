@@ -12,7 +12,7 @@ use Rattle.ule_types.specs.declared.event.Event.TheVariants as event
 use Rattle.ule_types.specs.declared.event.Reply.{Reply}
 use Rattle.ule_types.specs.declared.event.Reply.TheVariants.{Switched, Dropped, Changed, Exited}
 use Rattle.ule_types.specs.declared.setup.Setup.{Setup}
-use Rattle.ule_model.specs.Action.{Part, choose, clear_marks, clock, count_switch, end_slice_if, insert, mark_if, move, note, part_done}
+use Rattle.ule_model.specs.Action.{Part, choose, part_done}
 use Rattle.ule_model.specs.Actions.{action_of}
 use Rattle.ule_model.specs.ActionStep.{seen_under}
 use Rattle.ule_model.specs.CalendarIndexes.{distance_of}
@@ -137,14 +137,7 @@ turning_ticks c w (e ∷ es) = (if is_turning c w e then 1 else 0) + turning_tic
 abbrev pub choosing_from : ℕ → ℕ → List Part → Side × Option ℕ → Option Side
 choosing_from c now [] at = None
 choosing_from c now (choose ∷ ps) (s, into) = Some s
-choosing_from c now (note t place change ∷ ps) at = choosing_from c now ps (part_done c now (note t place change) at)
-choosing_from c now (move t from to ∷ ps) at = choosing_from c now ps (part_done c now (move t from to) at)
-choosing_from c now (insert t from how ∷ ps) at = choosing_from c now ps (part_done c now (insert t from how) at)
-choosing_from c now (clear_marks ∷ ps) at = choosing_from c now ps (part_done c now clear_marks at)
-choosing_from c now (count_switch ∷ ps) at = choosing_from c now ps (part_done c now count_switch at)
-choosing_from c now (mark_if takes ∷ ps) at = choosing_from c now ps (part_done c now (mark_if takes) at)
-choosing_from c now (end_slice_if ended ∷ ps) at = choosing_from c now ps (part_done c now (end_slice_if ended) at)
-choosing_from c now (clock ∷ ps) at = choosing_from c now ps (part_done c now clock at)
+choosing_from c now (p ∷ ps) at = choosing_from c now ps (part_done c now p at)
 
 -- this, where lock c is the first of these
 abbrev pub if_first : ℕ → List ℕ → Option Side → Option Side
