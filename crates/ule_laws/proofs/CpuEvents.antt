@@ -1,9 +1,8 @@
 -- What a tick, a switch, a drop and a landing make of a CPU's value and of the worker's hand is what they make of its
 -- side of a world.
-use Rattle.std.proofs.Common.{◌≡◌, ℕ, ◌+◌, ◌-◌, ◌<◌, ◌==◌, Bool, false, not, pos, List, ◌++◌, length, slice_set, if◌then◌else◌, Option, Some, None, refl, sym, ◌∙◌, ap, subst, set-set, option_and_then}
+use Rattle.std.proofs.Common.{◌≡◌, ℕ, ◌+◌, ◌-◌, ◌==◌, Bool, false, not, pos, List, ◌++◌, slice_set, if◌then◌else◌, Option, Some, None, refl, sym, ◌∙◌, ap, subst, set-set, option_and_then}
 use Rattle.std.specs.Prelude.{option_and_then}
 use Rattle.std.specs.Option.{option_map}
-use Rattle.std.proofs.lemmas.Bool.{or_left}
 use Rattle.ule_prio.specs.Kind.{kind_at}
 use Rattle.ule_prio.specs.Preemption.{takes_over}
 use Rattle.ule_score.proofs.ChangeLaws.{change_number}
@@ -14,29 +13,26 @@ use Rattle.ule_score.specs.declared.record.Settings.{Settings}
 use Rattle.ule_score.specs.declared.record.ThreadRecord.{ThreadRecord}
 use Rattle.ule_types.specs.declared.event.Reply.{Reply}
 use Rattle.ule_types.specs.declared.event.Reply.TheVariants.{Landed, Nothing, Ticked}
-use Rattle.ule_model.specs.CpuValue.{CpuValue, StandsFor, Taken, chosen_next, current_in, takes_over_in, thread_in, value_added, value_clocked, value_laid, value_taken, value_taken_from, value_taken_with, value_ticked, value_ticked_with, with_thread_after, without_current, value_switched}
+use Rattle.ule_model.specs.CpuValue.{CpuValue, StandsFor, Taken, chosen_next, current_in, takes_over_in, thread_in, value_added, value_clocked, value_laid, value_taken, value_taken_from, value_taken_with, value_ticked, value_ticked_with, with_thread_after, without_current}
 use Rattle.ule_model.specs.Insertion.{bucket_of, queued}
 use Rattle.ule_model.specs.declared.insertion.Insertion.TheVariants.{Ordinary}
 use Rattle.ule_model.specs.Landing.{current_priority, current_record, is_taking_over, landed, landed_with, marked_if}
-use Rattle.ule_model.specs.Places.{is_on, runs_on, waits_on}
+use Rattle.ule_model.specs.Places.{is_on}
 use Rattle.ule_model.specs.Sleep.{departed, departed_with, dropped, dropped_reply, taken}
-use Rattle.ule_model.specs.Switch.{choosing_next, one_more, switched}
+use Rattle.ule_model.specs.Switch.{choosing_next, one_more}
 use Rattle.ule_model.specs.Tick.{clocked, is_due, load_of, marked_at_end, ticked, ticked_with}
 use Rattle.ule_model.specs.WellMade.{IsWellMade}
-use Rattle.ule_model.specs.World.{Member, Side, current_of, moved_to, thread_of, with_change, World, fresh_line, side_of, with_side}
+use Rattle.ule_model.specs.World.{Member, Side, current_of, moved_to, thread_of, with_change}
 use Rattle.ule_laws.proofs.Beside.{StandsBeside, absent_lifted, gone_put, running_lifted}
 use Rattle.ule_laws.proofs.ChoosingLaws.{AreChosen, changed_stands, choosing_stands}
 use Rattle.ule_laws.proofs.EventStands.{current_in_is}
-use Rattle.ule_laws.proofs.CpuLaws.{ActsAlike, switched_stands}
+use Rattle.ule_laws.proofs.CpuLaws.{ActsAlike}
 use Rattle.ule_laws.proofs.CpuLines.{clocked_stands, with_line_stands}
 use Rattle.ule_laws.proofs.Queueing.{IsJoined, inserted_stands}
 use Rattle.ule_laws.proofs.WellMade.{well_made-with_change, well_made_off}
 use Rattle.ule_members.proofs.Rest.{choosing_kept}
-use Rattle.ule_members.proofs.Threads.{current_runs, thread_of-changed, thread_on_within, within_current, thread_of_within}
+use Rattle.ule_members.proofs.Threads.{current_runs, thread_of-changed, thread_on_within, within_current}
 use Rattle.ule_members.proofs.Within.{Within, within_thread}
-use Rattle.std.proofs.lemmas.List.{get_or-set_same, length-set}
-use Rattle.std.proofs.lemmas.Option.{none-some, same_Some}
-use Rattle.ule_score.specs.declared.record.Why.{Why}
 
 -- ---- a tick
 

@@ -1,6 +1,6 @@
 -- What the action of an event makes of the value under its lock and of the hand is what the event's own function makes of
 -- them: until the functions are actions themselves.
-use Rattle.std.proofs.Common.{◌≡◌, ◌≢◌, ℕ, ◌<◌, ◌==◌, Bool, true, false, not, ⊎_elim, [], ◌∷◌, length, slice_set, Option, Some, None, if◌then◌else◌, option_and_then, refl, sym, ◌∙◌, ap}
+use Rattle.std.proofs.Common.{◌≡◌, ℕ, ◌==◌, Bool, true, false, not, ⊎_elim, [], ◌∷◌, slice_set, Option, Some, None, if◌then◌else◌, option_and_then, refl, sym, ◌∙◌, ap}
 use Rattle.std.specs.Option.{option_map}
 use Rattle.std.specs.Prelude.{nat_lt}
 use Rattle.std.proofs.lemmas.List.{get_or-set_other, get_or-set_same}
@@ -24,7 +24,7 @@ use Rattle.ule_model.specs.Action.{Action, answers, move}
 use Rattle.ule_model.specs.Actions.{Seen, change_action, change_action_at, fork_action, give_way_action, go_action, land_action, leave_action, note_action, requeue_action, switch_action, tick_action, unborn_action, wake_action, wake_action_at}
 use Rattle.ule_model.specs.ActionStep.{on_chain, on_limbo, on_queue, seen_in, seen_off}
 use Rattle.ule_model.specs.ActionValue.{action_in_slots, action_on_cpu}
-use Rattle.ule_model.specs.CpuChange.{kind_queued, value_changed, value_changed_from, value_followed, value_forked_from, value_forked_with, forked_reply, value_recorded, value_requeued}
+use Rattle.ule_model.specs.CpuChange.{value_changed, value_changed_from, value_followed, value_forked_from, value_forked_with, forked_reply, value_recorded, value_requeued}
 use Rattle.ule_model.specs.CpuValue.{CpuValue, Taken, chosen_next, current_in, inserted, inserted_thread, removed_from, takes_over_in, thread_in, value_clocked, value_switched, value_switched_from, value_taken, value_taken_from, value_taken_with, value_ticked, value_ticked_with, without_current, without_marks}
 use Rattle.ule_model.specs.Landing.{current_priority, marked_if}
 use Rattle.ule_model.specs.LockConditions.{IsOnCpu, IsPlacedOn, queue_kind}
@@ -35,7 +35,7 @@ use Rattle.ule_model.specs.Sleep.{woken_reply}
 use Rattle.ule_model.specs.declared.insertion.Insertion.TheVariants.{Borrowing}
 use Rattle.ule_model.specs.Switch.{is_preemption, is_unasked}
 use Rattle.ule_model.specs.Tick.{is_due}
-use Rattle.ule_laws.proofs.SleepLaws.{IsStill}
+use Rattle.ule_laws.proofs.SlotStands.{IsStill}
 
 -- the thread that left, if one did, goes to the hand, and it is answered so
 abbrev pub stepped_left : (ThreadRecord → Option ℕ → Reply) → Option ThreadRecord → CpuValue × Option Taken → Stepped

@@ -1,8 +1,8 @@
 -- Under the one lock of an event stands a value of its kind, which has the thread that the event seeks.
-use Rattle.std.proofs.Common.{◌≡◌, ◌≢◌, ℕ, ◌+◌, ◌%◌, ◌<◌, ◌≤◌, ◌==◌, Bool, true, false, ◌⊎◌, inl, inr, List, [], ◌∷◌, length, Option, Some, None, if◌then◌else◌, refl, sym, ◌∙◌, ap, subst, arith, mod-lt}
+use Rattle.std.proofs.Common.{◌≡◌, ◌≢◌, ℕ, ◌+◌, ◌%◌, ◌<◌, ◌≤◌, ◌==◌, true, false, List, [], ◌∷◌, length, Option, Some, None, if◌then◌else◌, refl, sym, ◌∙◌, ap, subst, arith, mod-lt}
 use Rattle.std.specs.Option.{option_map}
 use Rattle.std.specs.Prelude.{max, min}
-use Rattle.std.proofs.lemmas.Bool.{both_ways, eq-eqb, ltb-true, or_left, or_right}
+use Rattle.std.proofs.lemmas.Bool.{eq-eqb, ltb-true, or_left, or_right}
 use Rattle.std.proofs.lemmas.Option.{none-some, same_Some}
 use Rattle.ule_prio.specs.declared.kind.Kind.{Kind}
 use Rattle.ule_score.specs.declared.place.Place.{Place}
@@ -10,12 +10,11 @@ use Rattle.ule_score.specs.declared.place.Place.TheVariants.{Running, Queued, As
 use Rattle.ule_score.specs.declared.record.ThreadRecord.{ThreadRecord}
 use Rattle.ule_sleep.specs.Chain.{ChainValue, standing_in}
 use Rattle.ule_sleep.specs.Limbo.{LimboValue}
-use Rattle.ule_types.specs.declared.event.Event.{Event}
 use Rattle.ule_model.specs.CpuChange.{kind_queued}
 use Rattle.ule_model.specs.CpuValue.{CpuValue, StandsFor, current_in, thread_in}
 use Rattle.ule_model.specs.Events.{Locking, are_cpus, lock_numbers, lock_of_thread, locking, place_of, queues, sought_in}
 use Rattle.ule_model.specs.Events as events
-use Rattle.ule_model.specs.LockConditions.{HasPlaced, HasSleeper, HasStill, IsOnCpu, IsPlacedOn, MayTakeChain, MayTakeLimbo, MayTakeQueue, queue_kind}
+use Rattle.ule_model.specs.LockConditions.{HasPlaced, HasSleeper, HasStill, IsOnCpu, MayTakeChain, MayTakeLimbo, MayTakeQueue, queue_kind}
 use Rattle.ule_model.specs.LockValue.{chain, limbo, queue}
 use Rattle.ule_model.specs.Places.{is_on, runs_on}
 use Rattle.ule_model.specs.WellMade.{IsWellMade}
@@ -25,10 +24,10 @@ use Rattle.ule_members.proofs.Membership.{has_thread_of, has_within}
 use Rattle.ule_members.proofs.Threads.{current_runs, thread_of_within, thread_on_within, within_current}
 use Rattle.ule_members.proofs.Within.{Within, within_thread}
 use Rattle.ule_laws.proofs.CpuPlaces.{kind_running, kind_waiting}
-use Rattle.ule_laws.proofs.EventStands.{IsUnder, current_in_is, on_from_lock, same_lock, under_from_locks, under_named}
+use Rattle.ule_laws.proofs.EventStands.{IsUnder, current_in_is, on_from_lock, same_lock, under_named}
 use Rattle.ule_laws.proofs.PlaceLaws.{place_from_runs_on}
-use Rattle.ule_laws.proofs.SleepLaws.{IsStill}
 use Rattle.ule_laws.proofs.WorldLaws.{at_some}
+use Rattle.ule_laws.proofs.SlotStands.{IsStill}
 
 -- ---- kinds
 
@@ -123,15 +122,19 @@ module _ (v : WorldValue) (w : World) (worker now : ℕ) (shows : Shows v w) (t 
 
   -- the thread that is sought is on the CPU
   pub has_placed : (u : CpuValue) → IsQueueOf w l u → HasPlaced u t
-  has_placed u at = (m.thread, m.place, record {
-    on = on;
-    found = under_named v w worker now shows t l (queue u) at is ∙ ap (option_map standing_of) is.found;
-    record_is = ap (thread_in u) (sym own_number) ∙ thread_recorded u (side_of l w) at.stands shows.made m own_within (on_cpu_test u.cpu m.place on);
-    number = own_number;
-    small = subst (λ (i : ℕ). i < length u.threads) own_number (subst (λ (i : ℕ). m.thread.id < i) (sym at.stands.slots) own_within.made.numbers.id);
-    kind = ap (kind_queued u) (sym own_number) ∙ kind_is u (side_of l w) at.stands shows.made m own_within m.place refl on;
-    apart = λ k queued runs. runs_apart u (side_of l w) at.stands shows.made m own_within k queued (runs ∙ ap (λ (i : ℕ). Some i) (sym own_number));
-  })
+  has_placed u at = (
+    m.thread,
+    m.place,
+    record {
+      on = on;
+      found = under_named v w worker now shows t l (queue u) at is ∙ ap (option_map standing_of) is.found;
+      record_is = ap (thread_in u) (sym own_number) ∙ thread_recorded u (side_of l w) at.stands shows.made m own_within (on_cpu_test u.cpu m.place on);
+      number = own_number;
+      small = subst (λ (i : ℕ). i < length u.threads) own_number (subst (λ (i : ℕ). m.thread.id < i) (sym at.stands.slots) own_within.made.numbers.id);
+      kind = ap (kind_queued u) (sym own_number) ∙ kind_is u (side_of l w) at.stands shows.made m own_within m.place refl on;
+      apart = λ k queued runs. runs_apart u (side_of l w) at.stands shows.made m own_within k queued (runs ∙ ap (λ (i : ℕ). Some i) (sym own_number));
+    },
+  )
     where
       on : IsOnCpu u.cpu m.place
       on = subst (λ (c : ℕ). IsOnCpu c m.place) (sym at.cpu) (on_from_lock l m.place (let below = at.there in let few = shows.cpus in omega arith) is.lock)

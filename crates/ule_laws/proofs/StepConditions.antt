@@ -3,7 +3,7 @@
 use Rattle.std.proofs.Common.{◌≡◌, ℕ, ◌+◌, ◌%◌, ◌<◌, ◌≤◌, Bool, true, false, ◌==◌, ◌||◌, List, [], ◌∷◌, length, slice_get, Option, Some, None, IfSome, ⊎_elim, refl, sym, ◌∙◌, ap, subst, arith}
 use Rattle.std.specs.List.{list_any}
 use Rattle.std.specs.Option.{option_map}
-use Rattle.std.proofs.lemmas.Bool.{cond-false, cond-true, eq-eqb, eqb-true, ltb-true, true≢false}
+use Rattle.std.proofs.lemmas.Bool.{cond-false, cond-true, eq-eqb, eqb-true, true≢false}
 use Rattle.std.proofs.lemmas.Option.{none-some, same_Some}
 use Rattle.ule_score.specs.Changes.{IsBy}
 use Rattle.ule_score.specs.declared.place.Place.{Place}
@@ -11,10 +11,10 @@ use Rattle.ule_score.specs.declared.record.ThreadRecord.{ThreadRecord}
 use Rattle.ule_sleep.specs.Chain.{standing_in}
 use Rattle.ule_threads.specs.declared.standing.Standing.{Standing}
 use Rattle.ule_types.specs.declared.event.Event.{Event}
-use Rattle.ule_types.specs.declared.event.Event.TheVariants.{Bed, Hatch, Land}
+use Rattle.ule_types.specs.declared.event.Event.TheVariants.{Hatch}
 use Rattle.ule_model.specs.Conditions.{IsByIfReached, IsHandled, IsPossible}
 use Rattle.ule_model.specs.CpuValue.{thread_in, thread_on}
-use Rattle.ule_model.specs.Events.{handling, is_reached, lock_of_thread, locking, locks_of, sought_by}
+use Rattle.ule_model.specs.Events.{handling, is_reached, locking, locks_of, sought_by}
 use Rattle.ule_model.specs.Frames.{thread_in_hand, thread_under}
 use Rattle.ule_model.specs.LockConditions.{CanStepAt, HasPlaced, HasSleeper, HasStill}
 use Rattle.ule_model.specs.LockValue.{LockValue, chain, limbo, nothing, queue}
@@ -22,7 +22,7 @@ use Rattle.ule_model.specs.Places.{hand_of, is_hand_of, is_number, is_under}
 use Rattle.ule_model.specs.WellMade.{IsWellMade}
 use Rattle.ule_sleep.specs.Limbo.{HasUnborn}
 use Rattle.ule_model.specs.World.{Member, World, side_of}
-use Rattle.ule_model.specs.WorldValue.{CanStep, Shows, StandsUnder, WorldValue, held_by, if_thread, lock_for, lock_with, standing_of}
+use Rattle.ule_model.specs.WorldValue.{CanStep, Shows, StandsUnder, WorldValue, held_by, if_thread, lock_for, standing_of}
 use Rattle.ule_members.proofs.Membership.{all_has, has_within}
 use Rattle.ule_members.proofs.Reach.{place_from_hand}
 use Rattle.ule_members.proofs.PlaceFinds.{thread_at_stands, thread_at_within, within_thread_at}

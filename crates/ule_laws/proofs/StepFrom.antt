@@ -1,11 +1,10 @@
 -- How a step of the whole scheduler follows from what its event makes of the value under its lock and of the worker's
 -- hand; and what is known of hands and values where an event is performed.
-use Rattle.std.proofs.Common.{◌≡◌, ℕ, ◌+◌, ◌%◌, ◌<◌, ◌≤◌, true, false, ◌==◌, List, [], ◌∷◌, length, slice_set, Option, Some, None, IfSome, is_some, if◌then◌else◌, option_and_then, ⊎_elim, refl, sym, ◌∙◌, ap, subst, arith, mod-lt}
+use Rattle.std.proofs.Common.{◌≡◌, ℕ, ◌+◌, ◌%◌, ◌<◌, ◌≤◌, true, ◌==◌, List, [], ◌∷◌, length, slice_set, Option, Some, None, IfSome, option_and_then, ⊎_elim, refl, sym, ◌∙◌, ap, subst, arith, mod-lt}
 use Rattle.std.specs.Option.{option_map}
-use Rattle.std.proofs.lemmas.Bool.{cases_eq, cases_lt, cond-true, eq-eqb, cond-false, eqb-true, ne_eqb, true≢false}
+use Rattle.std.proofs.lemmas.Bool.{cases_eq, cases_lt, cond-true, eq-eqb, eqb-true, true≢false}
 use Rattle.std.proofs.lemmas.List.{get_or-set_other, get_or-set_same, set_past}
 use Rattle.std.proofs.lemmas.Option.{none-some}
-use Rattle.ule_score.specs.declared.place.Place.TheVariants.{Hand}
 use Rattle.ule_score.specs.declared.record.ThreadRecord.{ThreadRecord}
 use Rattle.ule_sleep.specs.Chain.{ChainValue, standing_in}
 use Rattle.ule_sleep.specs.Limbo.{LimboValue}
@@ -20,15 +19,14 @@ use Rattle.ule_model.specs.LockValue.{LockValue, chain, limbo, nothing, queue}
 use Rattle.ule_model.specs.Step.{Stepped, lock_step, step}
 use Rattle.ule_model.specs.Places.{hand_of, is_hand_of, is_number, is_under}
 use Rattle.ule_model.specs.WellMade.{IsWellMade, IsWellMadeWorld}
-use Rattle.ule_model.specs.Words.{WordChange, change_of}
 use Rattle.ule_model.specs.World.{Member, World, thread_of}
-use Rattle.ule_model.specs.WorldValue.{IsChainOf, IsHandOf, IsLimboOf, IsQueueOf, Shows, StandsUnder, WorldValue, held_by, if_thread, lock_for, put_back, standing_of, value_step, value_step_at}
+use Rattle.ule_model.specs.WorldValue.{IsChainOf, IsHandOf, IsLimboOf, IsQueueOf, Shows, StandsUnder, WorldValue, held_by, lock_for, put_back, standing_of, value_step, value_step_at}
 use Rattle.ule_members.proofs.PlaceFinds.{thread_at_is, thread_at_stands, thread_at_within}
-use Rattle.ule_members.proofs.Within.{Within, within_thread}
+use Rattle.ule_members.proofs.Within.{within_thread}
 use Rattle.ule_laws.proofs.FrameLaws.{elsewhere_stands}
 use Rattle.ule_members.proofs.Steps.{step_leaves_rest, step_is_made}
 use Rattle.ule_members.proofs.Untouched.{step_in_hand, step_under}
-use Rattle.ule_laws.proofs.LockLaws.{AreThese, IsThis}
+use Rattle.ule_laws.proofs.LockLaws.{AreThese}
 use Rattle.ule_laws.proofs.WorldLaws.{HasValue, IsFrame, IsMadeFor, put_back_shows, value_at}
 
 -- ---- hands

@@ -1,6 +1,6 @@
 -- A step of the whole scheduler is that of the world that it shows: the value under the event's lock and the worker's hand
 -- are what its action makes of them.
-use Rattle.std.proofs.Common.{◌≡◌, ◌≢◌, ℕ, ℤ, ◌+◌, ◌%◌, ◌<◌, ◌≤◌, Bool, true, false, List, [], ◌∷◌, length, Option, Some, None, IsSome, option_and_then, ◌⊎◌, inl, inr, ⊎_elim, refl, sym, ◌∙◌, ap, subst, arith, mod-lt}
+use Rattle.std.proofs.Common.{◌≡◌, ℕ, ◌+◌, ◌%◌, ◌<◌, Bool, true, false, List, [], ◌∷◌, length, Option, Some, None, IsSome, option_and_then, ◌⊎◌, inl, inr, ⊎_elim, refl, sym, ◌∙◌, ap, subst, arith, mod-lt}
 use Rattle.std.specs.Option.{option_to_list}
 use Rattle.std.specs.Prelude.{IfSome}
 use Rattle.std.proofs.lemmas.Bool.{eqb-true, false≢true, ltb-true, true≢false}
@@ -24,7 +24,6 @@ use Rattle.ule_model.specs.LockValue.{LockValue}
 use Rattle.ule_model.specs.Step.{step, step_under_locks}
 use Rattle.ule_laws.proofs.EventStands.{action_made}
 use Rattle.ule_laws.proofs.SeekLaws.{lock_found}
-use Rattle.ule_laws.proofs.WorldLaws.{HasValue}
 use Rattle.ule_laws.proofs.StepFrom.{IsAtEvent, IsStepOf, ShowsWithReply, step_from}
 
 -- ---- the thread that an event seeks

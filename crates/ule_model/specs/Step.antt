@@ -28,7 +28,7 @@ use Rattle.ule_sleep.specs.Limbo.{LimboValue, with_still, with_still_changed, wi
 use Rattle.ule_threads.specs.declared.standing.Standing.{Standing}
 use Rattle.ule_model.specs.CpuValue.{CpuValue, Taken, takes_over_in, value_added, value_switched, value_taken, value_ticked}
 use Rattle.ule_model.specs.Insertion.{Ordinary, bucket_of}
-use Rattle.ule_model.specs.LockValue.{LockValue, queue, chain, limbo, found_on}
+use Rattle.ule_model.specs.LockValue.{LockValue, queue, chain, limbo, nothing}
 
 -- ---- the step on a world
 
