@@ -49,8 +49,7 @@ use Rattle.ule_members.proofs.Threads.{current_runs, thread_on_within, within_cu
 use Rattle.ule_members.proofs.Within.{Within, within_thread}
 use Rattle.ule_laws.proofs.PartStands.{ArePartsAlike, FollowsHere, hand_is, parts_alike}
 use Rattle.ule_laws.proofs.SeekLaws.{found_stands}
-use Rattle.ule_laws.proofs.SleepLaws.{IsStill}
-use Rattle.ule_laws.proofs.SlotStands.{AreAlikeUnder, AreHeldUnder, AreSlots, FollowsUnder, GoesUnder, parts_under_alike}
+use Rattle.ule_laws.proofs.SlotStands.{AreAlikeUnder, AreHeldUnder, AreSlots, FollowsUnder, GoesUnder, IsStill, chain_slots, is_chain, is_limbo, limbo_slots, parts_under_alike}
 use Rattle.ule_laws.proofs.StepFrom.{chain_at, empty_hand, limbo_at, queue_at}
 use Rattle.ule_laws.proofs.WorldLaws.{IsMadeFor, at_some}
 
@@ -228,8 +227,8 @@ module _ (v : WorldValue) (w : World) (worker now : ℕ) (shows : Shows v w) whe
   made_on_chain e l c possible locks is names same here =
       subst (λ (named : Option Standing). IsMadeFor (step w worker e now).0 worker l (step w worker e now).1 (on_chain c (action_in_slots v.settings now (action_of e (seen_off worker now v.settings named)) (record { hand = held_by v worker; slots = c.slots })))) (sym names)
       (let made = made_in_slots l (IsAsleepOn c.number) (λ x r so. record { channel = so.channel; place = so.place; chain = so.chain }) c.slots
-      (record { these = is.under; count = is.slots; each = is.asleep }) e possible locks same here in record {
-        value = record { number = is.number; small = is.small; slots = made.held.slots.count; under = made.held.slots.these; asleep = made.held.slots.each };
+      (chain_slots w l c is) e possible locks same here in record {
+        value = is_chain w (step w worker e now).0 l c _ is made.held.slots;
         hand = made.held.hand;
         answer = made.answer;
       })
@@ -239,8 +238,8 @@ module _ (v : WorldValue) (w : World) (worker now : ℕ) (shows : Shows v w) whe
       action_of e (seen_off worker now w.settings (option_map standing_of (named_by w e))) ≡ action_at e l → FollowsUnder l worker IsStill IsEmpty (action_at e l).parts → IsMadeBy e l (limbo c)
   made_in_limbo e l c possible locks is names same here =
       subst (λ (named : Option Standing). IsMadeFor (step w worker e now).0 worker l (step w worker e now).1 (on_limbo c (action_in_slots v.settings now (action_of e (seen_off worker now v.settings named)) (record { hand = held_by v worker; slots = c.slots })))) (sym names)
-      (let made = made_in_slots l IsStill (λ x r so. so) c.slots (record { these = is.under; count = is.slots; each = is.still }) e possible locks same here in record {
-        value = record { number = is.number; slots = made.held.slots.count; under = made.held.slots.these; still = made.held.slots.each };
+      (let made = made_in_slots l IsStill (λ x r so. so) c.slots (limbo_slots w l c is) e possible locks same here in record {
+        value = is_limbo w (step w worker e now).0 l c _ is made.held.slots;
         hand = made.held.hand;
         answer = made.answer;
       })

@@ -26,7 +26,7 @@ use Rattle.ule_members.proofs.Within.{Within, within_thread}
 use Rattle.ule_laws.proofs.CpuPlaces.{kind_running, kind_waiting}
 use Rattle.ule_laws.proofs.EventStands.{IsUnder, current_in_is, on_from_lock, same_lock, under_named}
 use Rattle.ule_laws.proofs.PlaceLaws.{place_from_runs_on}
-use Rattle.ule_laws.proofs.SleepLaws.{IsStill}
+use Rattle.ule_laws.proofs.SlotStands.{IsStill}
 use Rattle.ule_laws.proofs.SeekLaws.{cpu_finds}
 use Rattle.ule_laws.proofs.WorldLaws.{at_some}
 
