@@ -21,9 +21,11 @@ use Rattle.ule_laws.specs.SleepCalls.{ChainCallsStand, IsThreadOf, LimboCallsSta
 
 -- a thread of a world, among the threads with places under lock l
 module _ (w : World) (l t : ℕ) (m : Member) (is : IsThreadOf w t m) (P : Standing → Type 0) (slots : List (Option Standing)) (are : AreSlots l P w.members slots) where
+  -- it has the number that names it
   number : m.thread.id ≡ t
   number = (within_thread t w.members m is.made is.found).number
 
+  -- and stands in the list
   within : Within m.thread.id m w.members
   within = subst (λ (u : ℕ). Within u m w.members) (sym number) (within_thread t w.members m is.made is.found)
 
