@@ -24,9 +24,11 @@ taken_up settings now worker t members = moved_to t (Hand worker) (pos 0) (with_
 
 -- a thread of a world, among the threads with places under lock l
 module _ (w : World) (l t : ℕ) (m : Member) (is : IsThreadOf w t m) (P : Standing → Type 0) (slots : List (Option Standing)) (are : AreSlots l P w.members slots) where
+  -- it has the number that names it
   number : m.thread.id ≡ t
   number = (within_thread t w.members m is.made is.found).number
 
+  -- and stands in the list
   within : Within m.thread.id m w.members
   within = subst (λ (u : ℕ). Within u m w.members) (sym number) (within_thread t w.members m is.made is.found)
 

@@ -91,6 +91,7 @@ IsStill s = (s.place ≡ Unborn) ⊎ (s.place ≡ Gone)
 pub chain_slots : (w : World) (l : ℕ) (v : ChainValue) → IsChainOf w l v → AreSlots l (IsAsleepOn v.number) w.members v.slots
 chain_slots w l v is = record { these = is.under; count = is.slots; each = is.asleep }
 
+-- so a chain with other threads of another world is the value of its lock there
 pub is_chain : (w n : World) (l : ℕ) (v : ChainValue) (slots : List (Option Standing)) → IsChainOf w l v → AreSlots l (IsAsleepOn v.number) n.members slots → IsChainOf n l (record v { slots = slots })
 is_chain w n l v slots is are = record { number = is.number; small = is.small; slots = are.count; under = are.these; asleep = are.each }
 
@@ -98,6 +99,7 @@ is_chain w n l v slots is are = record { number = is.number; small = is.small; s
 pub limbo_slots : (w : World) (l : ℕ) (v : LimboValue) → IsLimboOf w l v → AreSlots l IsStill w.members v.slots
 limbo_slots w l v is = record { these = is.under; count = is.slots; each = is.still }
 
+-- and limbo with other threads
 pub is_limbo : (w n : World) (l : ℕ) (v : LimboValue) (slots : List (Option Standing)) → IsLimboOf w l v → AreSlots l IsStill n.members slots → IsLimboOf n l (record v { slots = slots })
 is_limbo w n l v slots is are = record { number = is.number; slots = are.count; under = are.these; still = are.each }
 
@@ -163,10 +165,11 @@ pub record AreAlikeUnder (l worker : ℕ) (P : Standing → Type 0) (empty : Typ
   pub answer : into ≡ meant.1
   pub empty_hand : empty → made.hand ≡ None
 
--- a place under a lock is tested so, and is in no hand
+-- a place under a lock is tested so
 under_lock : (l : ℕ) (place : Place) → lock_of place ≡ Some l → is_under l place ≡ true
 under_lock l place is = ap (is_number l) is ∙ eq-eqb l l refl
 
+-- a place under a lock is in no hand
 out_of_hand : (worker l : ℕ) (place : Place) → lock_of place ≡ Some l → is_hand_of worker place ≡ false
 out_of_hand worker l place is = ap (is_number worker) (no_hand_under l place is)
 

@@ -148,6 +148,7 @@ module _ (worker now : ℕ) (hand : Option ThreadRecord) (v : CpuValue) (e : Eve
   abbrev StepIs : Stepped → Type 0
   StepIs made = queue_step worker e now hand v ≡ made
 
+  -- its step is what the step of the other is
   as_this : (f : Event) (made : Stepped) → e ≡ f → queue_step worker f now hand v ≡ made → StepIs made
   as_this f made is same = ap (λ (x : Event). queue_step worker x now hand v) is ∙ same
 
@@ -170,6 +171,7 @@ module _ (worker now : ℕ) (settings : Settings) (hand : Option ThreadRecord) (
   abbrev ChainStepIs : Stepped → Type 0
   ChainStepIs made = chain_step settings worker e now hand v ≡ made
 
+  -- its step is what the step of the other is
   as_this_chain : (f : Event) (made : Stepped) → e ≡ f → chain_step settings worker f now hand v ≡ made → ChainStepIs made
   as_this_chain f made is same = ap (λ (x : Event). chain_step settings worker x now hand v) is ∙ same
 
@@ -192,6 +194,7 @@ module _ (worker now : ℕ) (settings : Settings) (hand : Option ThreadRecord) (
   abbrev LimboStepIs : Stepped → Type 0
   LimboStepIs made = limbo_step settings worker e now hand v ≡ made
 
+  -- its step is what the step of the other is
   as_this_limbo : (f : Event) (made : Stepped) → e ≡ f → limbo_step settings worker f now hand v ≡ made → LimboStepIs made
   as_this_limbo f made is same = ap (λ (x : Event). limbo_step settings worker x now hand v) is ∙ same
 
