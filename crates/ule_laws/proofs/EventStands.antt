@@ -49,8 +49,7 @@ use Rattle.ule_members.proofs.Threads.{current_runs, thread_on_within, within_cu
 use Rattle.ule_members.proofs.Within.{Within, within_thread}
 use Rattle.ule_laws.proofs.PartStands.{ArePartsAlike, FollowsHere, hand_is, parts_alike}
 use Rattle.ule_laws.proofs.SeekLaws.{found_stands}
-use Rattle.ule_laws.proofs.SleepLaws.{IsStill}
-use Rattle.ule_laws.proofs.SlotStands.{AreAlikeUnder, AreHeldUnder, AreSlots, FollowsUnder, GoesUnder, parts_under_alike}
+use Rattle.ule_laws.proofs.SlotStands.{AreAlikeUnder, AreHeldUnder, AreSlots, FollowsUnder, GoesUnder, IsStill, chain_slots, is_chain, is_limbo, limbo_slots, parts_under_alike}
 use Rattle.ule_laws.proofs.StepFrom.{chain_at, empty_hand, limbo_at, queue_at}
 use Rattle.ule_laws.proofs.WorldLaws.{IsMadeFor, at_some}
 
@@ -152,9 +151,11 @@ module _ (v : WorldValue) (w : World) (worker now : ℕ) (shows : Shows v w) whe
   abbrev Truth : Known
   Truth = λ t place. StandsAt t place w.members
 
+  -- the side of each lock is known so
   ready : (l : ℕ) (e : Event) → IsReady w worker e now l Truth (current_of l w.members ≡ None) (side_of l w)
   ready l e = record { settings = refl; made = shows.made; index = index_of w l shows.indexes; stands = λ t place is. is; none = λ is. is }
 
+  -- the one lock of an event is among its locks
   among : (e : Event) (l : ℕ) → locks_of w e ≡ l ∷ [] → is_among (locks_of w e) l ≡ true
   among e l locks = ap (λ (ls : List ℕ). is_among ls l) locks ∙ takes_itself l
 
@@ -228,8 +229,8 @@ module _ (v : WorldValue) (w : World) (worker now : ℕ) (shows : Shows v w) whe
   made_on_chain e l c possible locks is names same here =
       subst (λ (named : Option Standing). IsMadeFor (step w worker e now).0 worker l (step w worker e now).1 (on_chain c (action_in_slots v.settings now (action_of e (seen_off worker now v.settings named)) (record { hand = held_by v worker; slots = c.slots })))) (sym names)
       (let made = made_in_slots l (IsAsleepOn c.number) (λ x r so. record { channel = so.channel; place = so.place; chain = so.chain }) c.slots
-      (record { these = is.under; count = is.slots; each = is.asleep }) e possible locks same here in record {
-        value = record { number = is.number; small = is.small; slots = made.held.slots.count; under = made.held.slots.these; asleep = made.held.slots.each };
+      (chain_slots w l c is) e possible locks same here in record {
+        value = is_chain w (step w worker e now).0 l c _ is made.held.slots;
         hand = made.held.hand;
         answer = made.answer;
       })
@@ -239,8 +240,8 @@ module _ (v : WorldValue) (w : World) (worker now : ℕ) (shows : Shows v w) whe
       action_of e (seen_off worker now w.settings (option_map standing_of (named_by w e))) ≡ action_at e l → FollowsUnder l worker IsStill IsEmpty (action_at e l).parts → IsMadeBy e l (limbo c)
   made_in_limbo e l c possible locks is names same here =
       subst (λ (named : Option Standing). IsMadeFor (step w worker e now).0 worker l (step w worker e now).1 (on_limbo c (action_in_slots v.settings now (action_of e (seen_off worker now v.settings named)) (record { hand = held_by v worker; slots = c.slots })))) (sym names)
-      (let made = made_in_slots l IsStill (λ x r so. so) c.slots (record { these = is.under; count = is.slots; each = is.still }) e possible locks same here in record {
-        value = record { number = is.number; slots = made.held.slots.count; under = made.held.slots.these; still = made.held.slots.each };
+      (let made = made_in_slots l IsStill (λ x r so. so) c.slots (limbo_slots w l c is) e possible locks same here in record {
+        value = is_limbo w (step w worker e now).0 l c _ is made.held.slots;
         hand = made.held.hand;
         answer = made.answer;
       })
@@ -367,27 +368,33 @@ module _ (v : WorldValue) (w : World) (worker now : ℕ) (shows : Shows v w) whe
 
   -- ---- what the parts of each event need
 
+  -- a tick notes the current thread on the CPU
   tick_here : (c : ℕ) (at : Seen) (o : Option ThreadRecord) → at.cpu ≡ c → FollowsHere c worker (Unit {0}) IsEmpty (tick_action o at).parts
   tick_here c at None own = (tt, tt)
   tick_here c at (Some r) own = (tt, (own, (tt, tt)))
 
+  -- a thread that gives way is noted and queued on the CPU
   give_way_here : (c : ℕ) (at : Seen) (preempted : Bool) (o : Option ThreadRecord) → at.cpu ≡ c → FollowsHere c worker (Unit {0}) IsEmpty (give_way_action preempted o at).parts
   give_way_here c at preempted None own = (tt, (tt, tt))
   give_way_here c at preempted (Some r) own = (tt, (own, (tt, (own, (tt, tt)))))
 
+  -- a switch may have nobody give way
   switch_here : (c : ℕ) (at : Seen) (d preempted : Bool) → at.cpu ≡ c → FollowsHere c worker (Unit {0}) IsEmpty (if d then answers Unmarked else give_way_action preempted at.current at).parts
   switch_here c at true preempted own = tt
   switch_here c at false preempted own = give_way_here c at preempted at.current own
 
+  -- a thread that leaves goes to the empty hand
   leave_here : (c : ℕ) (at : Seen) (change : RecordChange) (reply : ThreadRecord → Option ℕ → Reply) (o : Option ThreadRecord) → IsEmpty → at.cpu ≡ c → at.worker ≡ worker →
       FollowsHere c worker (Unit {0}) IsEmpty (leave_action change reply o at).parts
   leave_here c at change reply None empty own by = tt
   leave_here c at change reply (Some r) empty own by = ((λ has. empty, own, ap (λ (x : ℕ). Hand x) by), (by, (tt, (tt, (tt, tt)))))
 
+  -- a thread that lands comes from the hand
   land_here : (c t : ℕ) (at : Seen) (o : Option Standing) → at.worker ≡ worker → FollowsHere c worker (Unit {0}) IsEmpty (land_action t o at).parts
   land_here c t at None by = tt
   land_here c t at (Some x) by = (by, ((tt, by), (tt, tt)))
 
+  -- a fork notes the child in the hand, and the parent on the CPU
   fork_here : (c t : ℕ) (at : Seen) (o : Option ThreadRecord) (child : Option Standing) → at.cpu ≡ c → at.worker ≡ worker → FollowsHere c worker (Unit {0}) IsEmpty (fork_action t o child at).parts
   fork_here c t at None child own by = tt
   fork_here c t at (Some r) None own by = tt
@@ -402,6 +409,7 @@ module _ (v : WorldValue) (w : World) (worker now : ℕ) (shows : Shows v w) whe
   wake_here t l Gone r at on = absurd on
   wake_here t l (Hand g) r at on = absurd on
 
+  -- a sleeper goes to the empty hand, and no other thread that stands on no CPU
   wake_under : IsEmpty → (t l : ℕ) (P : Standing → Type 0) (p : Place) (r : ThreadRecord) (at : Seen) → at.worker ≡ worker → IsOffCpus p → lock_of p ≡ Some l → FollowsUnder l worker P IsEmpty (wake_action_at p t r at).parts
   wake_under empty t l P (Asleep channel) r at by off lock = ((empty, lock, ap (λ (x : ℕ). Hand x) by), (by, tt))
   wake_under empty t l P Unborn r at by off lock = tt
@@ -410,6 +418,7 @@ module _ (v : WorldValue) (w : World) (worker now : ℕ) (shows : Shows v w) whe
   wake_under empty t l P (Queued d k b) r at by off lock = absurd off
   wake_under empty t l P (Hand g) r at by off lock = absurd off
 
+  -- off the CPUs a wake is made by the worker, the time and the settings alone
   wake_alike : (t : ℕ) (p : Place) (r : ThreadRecord) (at to : Seen) → IsOffCpus p → at.worker ≡ to.worker → at.now ≡ to.now → at.settings ≡ to.settings → wake_action_at p t r at ≡ wake_action_at p t r to
   wake_alike t (Asleep channel) r at to off by time settings =
       ap (λ (x : ℕ). wake_action_at (Asleep channel) t r (record at { worker = x })) by ∙ ap (λ (x : ℕ). wake_action_at (Asleep channel) t r (record at { worker = to.worker; now = x })) time ∙
@@ -424,6 +433,7 @@ module _ (v : WorldValue) (w : World) (worker now : ℕ) (shows : Shows v w) whe
   abbrev change_act : Change → ℕ → Place → ThreadRecord → Seen → Action
   change_act given t p r at = change_action_at p given t r (after_change at.settings given r) at
 
+  -- on a CPU a change notes the thread at its place, and may queue it anew
   change_here : (given : Change) (t l : ℕ) (p : Place) (r : ThreadRecord) (at : Seen) → IsOnCpu l p → FollowsHere l worker (Unit {0}) IsEmpty (change_act given t p r at).parts
   change_here given t l (Running d) r at on = (on, tt)
   change_here given t l (Queued d k b) r at on = if_better (nat_lt (after_change at.settings given r).priority r.priority)
@@ -437,6 +447,7 @@ module _ (v : WorldValue) (w : World) (worker now : ℕ) (shows : Shows v w) whe
   change_here given t l Gone r at on = absurd on
   change_here given t l (Hand g) r at on = absurd on
 
+  -- off the CPUs it notes the thread at its place, or is answered
   change_under : (given : Change) (t l : ℕ) (P : Standing → Type 0) (p : Place) (r : ThreadRecord) (at : Seen) → at.worker ≡ worker → IsOffCpus p → lock_of p ≡ Some l → FollowsUnder l worker P IsEmpty (change_act given t p r at).parts
   change_under given t l P (Asleep channel) r at by off lock = (lock, tt)
   change_under given t l P Unborn r at by off lock = answered (unborn_answer given)
@@ -449,6 +460,7 @@ module _ (v : WorldValue) (w : World) (worker now : ℕ) (shows : Shows v w) whe
   change_under given t l P (Queued d k b) r at by off lock = absurd off
   change_under given t l P (Hand g) r at by off lock = absurd off
 
+  -- and is made by the settings alone
   change_alike : (given : Change) (t : ℕ) (p : Place) (r : ThreadRecord) (at to : Seen) → IsOffCpus p → at.worker ≡ to.worker → at.now ≡ to.now → at.settings ≡ to.settings → change_act given t p r at ≡ change_act given t p r to
   change_alike given t (Asleep channel) r at to off by time settings = ap (λ (x : Settings). note_action (Asleep channel) given t (after_change x given r)) settings
   change_alike given t Unborn r at to off by time settings = ap (λ (x : Settings). unborn_action (unborn_answer given) given t (after_change x given r)) settings

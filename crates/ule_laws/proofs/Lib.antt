@@ -17,7 +17,6 @@ pub mod LockLaws
 pub mod WorldLaws
 pub mod SeekLaws
 pub mod StepFrom
-pub mod SleepLaws
 pub mod SleepCallLaws
 pub mod EventStands
 pub mod SameValues

@@ -124,7 +124,7 @@ hand_is worker m ms hand v here this =
     only None is = cc
     only (Some r) is = cond_both (r.id == m.thread.id) (Some r) None (λ z. z ≡ Some m.thread → Some r ≡ Some m.thread) (λ same e. e) (λ other e. cc) is
 
--- a place on a CPU is in no hand, and a worker's own hand is
+-- a place on a CPU is in no hand
 off_hand : (worker c : ℕ) (place : Place) → IsOnCpu c place → is_hand_of worker place ≡ false
 off_hand worker c (Running d) on = refl
 off_hand worker c (Queued d k b) on = refl
@@ -133,6 +133,7 @@ off_hand worker c Unborn on = absurd on
 off_hand worker c Gone on = absurd on
 off_hand worker c (Hand w) on = absurd on
 
+-- a worker's own hand is tested so
 pub in_own_hand : (worker h : ℕ) (place : Place) → place ≡ Hand h → h ≡ worker → is_hand_of worker place ≡ true
 in_own_hand worker h place is own = ap (is_hand_of worker) is ∙ eq-eqb worker h (sym own)
 

@@ -1,6 +1,6 @@
 -- The threads with places under the lock of a sleep chain or of limbo, and the worker's hand: a part of an action on them is
 -- that part on the side that they stand for.
-use Rattle.std.proofs.Common.{◌≡◌, ℕ, ◌<◌, true, false, pos, List, [], ◌∷◌, length, length-set, slice_set, Option, Some, None, IfSome, refl, sym, ◌∙◌, ap, subst}
+use Rattle.std.proofs.Common.{◌≡◌, ◌⊎◌, ℕ, ◌<◌, true, false, pos, List, [], ◌∷◌, length, length-set, slice_set, Option, Some, None, IfSome, refl, sym, ◌∙◌, ap, subst}
 use Rattle.std.specs.Option.{option_map}
 use Rattle.std.proofs.lemmas.Bool.{cond-true, eq-eqb}
 use Rattle.ule_score.proofs.ChangeLaws.{change_number}
@@ -9,7 +9,8 @@ use Rattle.ule_score.specs.declared.place.Place.{Place}
 use Rattle.ule_score.specs.declared.place.Place.TheVariants.{Running, Queued, Asleep, Unborn, Gone, Hand}
 use Rattle.ule_score.specs.declared.record.Settings.{Settings}
 use Rattle.ule_score.specs.declared.record.ThreadRecord.{ThreadRecord}
-use Rattle.ule_sleep.specs.Chain.{standing_in, thread_standing, with_standing, without_standing}
+use Rattle.ule_sleep.specs.Limbo.{LimboValue}
+use Rattle.ule_sleep.specs.Chain.{ChainValue, standing_in, thread_standing, with_standing, without_standing}
 use Rattle.ule_threads.specs.declared.standing.Standing.{Standing}
 use Rattle.ule_types.specs.Commands.{is_among}
 use Rattle.ule_types.specs.declared.event.Event.{Event}
@@ -18,6 +19,7 @@ use Rattle.ule_model.specs.ActionValue.{HandAndSlots, part_in_slots, parts_in_sl
 use Rattle.ule_model.specs.Events.{locks_of}
 use Rattle.ule_model.specs.Places.{is_hand_of, is_number, is_under, lock_of}
 use Rattle.ule_model.specs.World.{Member, Side, World, is_numbered, moved_to, standing_of, with_change, with_record}
+use Rattle.ule_model.specs.WorldValue.{IsAsleepOn, IsChainOf, IsLimboOf}
 use Rattle.ule_members.proofs.Membership.{has_thread_of}
 use Rattle.ule_members.proofs.Moves.{changed_by, moved_member}
 use Rattle.ule_members.proofs.PartDone.{Follows, IsReady, Known, Needs, StandsAt, idle_after, known_after, part_step}
@@ -81,6 +83,26 @@ module _ (l : ℕ) (P : Standing → Type 0) (m : Member) (ms : List Member) (sl
         each = put_each P slots m.thread.id new are.each (keeps (standing_of m) so);
       })
 
+-- a thread that is unborn or gone
+abbrev pub IsStill : Standing → Type 0
+IsStill s = (s.place ≡ Unborn) ⊎ (s.place ≡ Gone)
+
+-- those of a chain are the threads under its lock, each asleep on a channel of it
+pub chain_slots : (w : World) (l : ℕ) (v : ChainValue) → IsChainOf w l v → AreSlots l (IsAsleepOn v.number) w.members v.slots
+chain_slots w l v is = record { these = is.under; count = is.slots; each = is.asleep }
+
+-- so a chain with other threads of another world is the value of its lock there
+pub is_chain : (w n : World) (l : ℕ) (v : ChainValue) (slots : List (Option Standing)) → IsChainOf w l v → AreSlots l (IsAsleepOn v.number) n.members slots → IsChainOf n l (record v { slots = slots })
+is_chain w n l v slots is are = record { number = is.number; small = is.small; slots = are.count; under = are.these; asleep = are.each }
+
+-- and those of limbo, each unborn or gone
+pub limbo_slots : (w : World) (l : ℕ) (v : LimboValue) → IsLimboOf w l v → AreSlots l IsStill w.members v.slots
+limbo_slots w l v is = record { these = is.under; count = is.slots; each = is.still }
+
+-- and limbo with other threads
+pub is_limbo : (w n : World) (l : ℕ) (v : LimboValue) (slots : List (Option Standing)) → IsLimboOf w l v → AreSlots l IsStill n.members slots → IsLimboOf n l (record v { slots = slots })
+is_limbo w n l v slots is are = record { number = is.number; slots = are.count; under = are.these; still = are.each }
+
 -- ---- what parts need
 
 -- a place under lock l, or this worker's hand
@@ -143,10 +165,11 @@ pub record AreAlikeUnder (l worker : ℕ) (P : Standing → Type 0) (empty : Typ
   pub answer : into ≡ meant.1
   pub empty_hand : empty → made.hand ≡ None
 
--- a place under a lock is tested so, and is in no hand
+-- a place under a lock is tested so
 under_lock : (l : ℕ) (place : Place) → lock_of place ≡ Some l → is_under l place ≡ true
 under_lock l place is = ap (is_number l) is ∙ eq-eqb l l refl
 
+-- a place under a lock is in no hand
 out_of_hand : (worker l : ℕ) (place : Place) → lock_of place ≡ Some l → is_hand_of worker place ≡ false
 out_of_hand worker l place is = ap (is_number worker) (no_hand_under l place is)
 

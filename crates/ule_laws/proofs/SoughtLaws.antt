@@ -26,13 +26,13 @@ use Rattle.ule_members.proofs.Within.{Within, within_thread}
 use Rattle.ule_laws.proofs.CpuPlaces.{kind_running, kind_waiting}
 use Rattle.ule_laws.proofs.EventStands.{IsUnder, current_in_is, on_from_lock, same_lock, under_named}
 use Rattle.ule_laws.proofs.PlaceLaws.{place_from_runs_on}
-use Rattle.ule_laws.proofs.SleepLaws.{IsStill}
+use Rattle.ule_laws.proofs.SlotStands.{IsStill}
 use Rattle.ule_laws.proofs.SeekLaws.{cpu_finds}
 use Rattle.ule_laws.proofs.WorldLaws.{at_some}
 
 -- ---- kinds
 
--- an event of one lock, which is that of a CPU, of a chain, or limbo's, may take such a lock
+-- an event whose one lock is that of a CPU may take such a lock
 pub takes_queue : (ms : List Member) (l : ℕ) (k : Locking) → l < 16 → lock_numbers ms k ≡ l ∷ [] → MayTakeQueue k
 takes_queue ms l (events.queue c) few locks = tt
 takes_queue ms l (queues a b) few locks = tt
@@ -44,6 +44,7 @@ takes_queue ms l (place_of t) few locks = tt
 two_locks : (a b l : ℕ) → a ∷ b ∷ [] ≡ l ∷ [] → ⊥
 two_locks a b l is = cc
 
+-- and one whose one lock is that of a chain
 pub takes_chain : (ms : List Member) (l count : ℕ) (k : Locking) → 16 ≤ l → l < 24 → count ≤ 16 → are_cpus count k ≡ true → lock_numbers ms k ≡ l ∷ [] → MayTakeChain k
 takes_chain ms l count (events.queue c) far near few cpus locks = absurd (let e = same_lock c l locks in let below = ltb-true c count cpus in omega arith)
 takes_chain ms l count (queues a b) far near few cpus locks = absurd (two_locks (min a b) (max a b) l locks)
@@ -51,6 +52,7 @@ takes_chain ms l count (events.chain channel) far near few cpus locks = tt
 takes_chain ms l count events.limbo far near few cpus locks = absurd (let e = same_lock 24 l locks in omega arith)
 takes_chain ms l count (place_of t) far near few cpus locks = tt
 
+-- and one whose one lock is limbo's
 pub takes_limbo : (ms : List Member) (l count : ℕ) (k : Locking) → l ≡ 24 → count ≤ 16 → are_cpus count k ≡ true → lock_numbers ms k ≡ l ∷ [] → MayTakeLimbo k
 takes_limbo ms l count (events.queue c) own few cpus locks = absurd (let e = same_lock c l locks in let below = ltb-true c count cpus in omega arith)
 takes_limbo ms l count (queues a b) own few cpus locks = absurd (two_locks (min a b) (max a b) l locks)
@@ -107,6 +109,7 @@ module _ (u : CpuValue) (s : Side) (stands : StandsFor u s) (made : IsWellMade s
           (sym (thread_of_within m.thread.id m s.members v) ∙ ap (λ (t : ℕ). thread_of t s.members) (same_Some m.thread.id n.thread.id is) ∙ thread_of_within n.thread.id n s.members (within_current u.cpu s.members n made found)) in
           none-some k (sym (ap queue_kind (place_from_runs_on u.cpu m.place (ap (λ (x : Member). runs_on u.cpu x.place) same ∙ current_runs u.cpu s.members n found))) ∙ queued)
 
+  -- the value has its record
   pub thread_recorded : is_on u.cpu m.place ≡ true → thread_in u m.thread.id ≡ Some m.thread
   thread_recorded on =
       stands.threads m.thread.id ∙ ap (option_map (λ (n : Member). n.thread)) (thread_on_within u.cpu m.thread.id m s.members v ∙ ap (λ d. if d then Some m else None) on)
@@ -124,12 +127,15 @@ module _ (u : CpuValue) (s : Side) (stands : StandsFor u s) (made : IsWellMade s
   }
 
 module _ (v : WorldValue) (w : World) (worker now : ℕ) (shows : Shows v w) (t l : ℕ) (is : IsUnder v w worker now shows t l) where
+  -- the thread that is sought
   abbrev m : Member
   m = is.member
 
+  -- has that number
   own_number : m.thread.id ≡ t
   own_number = (has_thread_of t m w.members is.found).1
 
+  -- and stands in the list
   own_within : Within m.thread.id m w.members
   own_within = subst (λ (i : ℕ). Within i m w.members) (sym own_number) (within_thread t w.members m shows.made is.found)
 

@@ -26,7 +26,7 @@ pub record IsTime (now : ℕ) : Type 0 where
 
 -- ---- the kinds of locks
 
--- the lock may be that of a CPU, of a sleep chain, or limbo's
+-- the lock may be that of a CPU
 abbrev pub MayTakeQueue : Locking → Type 0
 MayTakeQueue (events.queue c) = Unit {0}
 MayTakeQueue (queues a b) = Unit {0}
@@ -34,6 +34,7 @@ MayTakeQueue (events.chain channel) = ⊥
 MayTakeQueue events.limbo = ⊥
 MayTakeQueue (place_of t) = Unit {0}
 
+-- it may be that of a sleep chain
 abbrev pub MayTakeChain : Locking → Type 0
 MayTakeChain (events.queue c) = ⊥
 MayTakeChain (queues a b) = ⊥
@@ -41,6 +42,7 @@ MayTakeChain (events.chain channel) = Unit {0}
 MayTakeChain events.limbo = ⊥
 MayTakeChain (place_of t) = Unit {0}
 
+-- it may be limbo's
 abbrev pub MayTakeLimbo : Locking → Type 0
 MayTakeLimbo (events.queue c) = ⊥
 MayTakeLimbo (queues a b) = ⊥
@@ -79,13 +81,15 @@ pub record IsPlacedOn (v : CpuValue) (t : ℕ) (r : ThreadRecord) (p : Place) : 
   pub kind : kind_queued v t ≡ queue_kind p
   pub apart : (k : Kind) → queue_kind p ≡ Some k → v.current ≢ Some t
 
--- thread t is on the CPU, asleep on the chain, or in limbo
+-- thread t is on the CPU
 abbrev pub HasPlaced : CpuValue → ℕ → Type 0
 HasPlaced v t = (r : ThreadRecord) × (p : Place) × IsPlacedOn v t r p
 
+-- thread t sleeps on the chain
 abbrev pub HasSleeper : ChainValue → ℕ → Type 0
 HasSleeper v t = (s : Standing) × (channel : ℕ) × (standing_in v.slots t ≡ Some s) × (s.place ≡ Asleep channel)
 
+-- thread t is in limbo, unborn or gone
 abbrev pub HasStill : LimboValue → ℕ → Type 0
 HasStill v t = (s : Standing) × (standing_in v.slots t ≡ Some s) × ((s.place ≡ Unborn) ⊎ (s.place ≡ Gone))
 

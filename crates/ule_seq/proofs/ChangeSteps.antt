@@ -1,6 +1,6 @@
 -- The step of an event under a lock is what the calls of its arm make of the value there and of the hand.
-use Rattle.std.proofs.Common.{◌≡◌, ℕ, ◌==◌, not, inl, Option, Some, None, IfSome, refl, sym, ◌∙◌, ap, subst}
-use Rattle.ule_score.specs.Changes.{ran, sleeps}
+use Rattle.std.proofs.Common.{◌≡◌, ℕ, ◌==◌, not, ⊎_elim, Option, Some, None, IfSome, refl, sym, ◌∙◌, ap, subst}
+use Rattle.ule_score.specs.Changes.{after_change}
 use Rattle.ule_score.specs.declared.record.Change.{Change}
 use Rattle.ule_score.specs.declared.place.Place.{Place}
 use Rattle.ule_score.specs.declared.place.Place.TheVariants.{Running, Queued, Asleep, Unborn, Gone, Hand}
@@ -11,10 +11,9 @@ use Rattle.ule_sleep.specs.Chain.{ChainValue, standing_in}
 use Rattle.ule_sleep.specs.Limbo.{LimboValue}
 use Rattle.ule_threads.specs.declared.standing.Standing.{Standing}
 use Rattle.ule_types.specs.declared.event.Event.{Event}
-use Rattle.ule_types.specs.declared.event.Event.TheVariants.{Tick, Switch, Drop, Bed, Wake, Look, Land, Move, Lend, Unlend, Renice, Hatch, Fork, Return, Exit, Bury, Inherit}
 use Rattle.ule_types.specs.declared.event.Reply.{Reply}
-use Rattle.ule_types.specs.declared.event.Reply.TheVariants.{Dropped, Exited, Nothing}
-use Rattle.ule_model.specs.Actions.{change_action}
+use Rattle.ule_model.specs.Actions.{Seen, change_action, change_action_at, unborn_action}
+use Rattle.ule_model.specs.Action.{Action}
 use Rattle.ule_model.specs.ActionStep.{on_chain, on_limbo, on_queue, seen_in, seen_off}
 use Rattle.ule_model.specs.ActionValue.{action_in_slots, action_on_cpu}
 use Rattle.ule_model.specs.CpuChange.{value_changed}
@@ -24,8 +23,10 @@ use Rattle.ule_model.specs.LockConditions.{CanStepChain, CanStepLimbo, CanStepQu
 use Rattle.ule_model.specs.LockValue.{LockValue, found_on}
 use Rattle.ule_model.specs.LockValue as value
 use Rattle.ule_model.specs.Actions.{unborn_answer}
-use Rattle.ule_model.specs.Step.{Stepped, exited_reply, chain_bedded, chain_changed, chain_step, chain_woken, kept, limbo_buried, limbo_changed, limbo_changed_at, limbo_changed_unborn, limbo_hatched, limbo_returned, limbo_step, not_asleep, queue_dropped, queue_exited, queue_forked, queue_landed, queue_step, queue_stepped}
-use Rattle.ule_laws.proofs.SameValues.{bed_same, bury_same, chain_change_same, chain_wake_same, change_same, fork_same, hatch_same, land_same, leave_same, limbo_change_same, limbo_wake_same, return_same, stepped_left, switch_same, tick_same, wake_same}
+use Rattle.ule_model.specs.Step.{Stepped, chain_step, limbo_step, queue_step}
+use Rattle.ule_seq.specs.Calls.{exited_reply, chain_changed, limbo_changed, limbo_changed_at, limbo_changed_unborn}
+use Rattle.ule_laws.proofs.SameValues.{change_same, queue_stepped}
+use Rattle.ule_laws.proofs.SlotStands.{IsStill}
 
 -- ---- what a step comes to, where it is that of a change
 
@@ -97,6 +98,49 @@ changed_on_cpu worker e now held v new reply made is left told = record {
   reply = told ∙ sym (ap (λ (s : Stepped). s.reply) is);
 }
 
+-- ---- what a change is by the page
+
+-- on a sleep chain
+
+module _ (worker now : ℕ) (settings : Settings) (hand : Option ThreadRecord) (c : ChainValue) where
+  -- what an action makes of the chain and the hand
+  abbrev chain_acts : Action → Stepped
+  chain_acts a = on_chain c (action_in_slots settings now a (record { hand = hand; slots = c.slots }))
+
+  -- of this sleeper
+  module _ (t channel : ℕ) (x : Standing) (found : standing_in c.slots t ≡ Some x) (asleep : x.place ≡ Asleep channel) (named : Option Standing) where
+    chain_change_same : (given : Change) → chain_acts (change_action given t (standing_in c.slots t) (seen_off worker now settings named)) ≡ chain_changed settings given t hand (standing_in c.slots t) c
+    chain_change_same given =
+        ap (λ (o : Option Standing). chain_acts (change_action given t o (seen_off worker now settings named))) found ∙
+        ap (λ (p : Place). chain_acts (change_action_at p given t x.thread (after_change settings given x.thread) (seen_off worker now settings named))) asleep ∙
+        ap (λ (o : Option Standing). chain_changed settings given t hand o c) (sym found)
+
+-- in limbo
+module _ (worker now : ℕ) (settings : Settings) (hand : Option ThreadRecord) (c : LimboValue) where
+  -- what an action makes of limbo and the hand
+  abbrev limbo_acts : Action → Stepped
+  limbo_acts a = on_limbo c (action_in_slots settings now a (record { hand = hand; slots = c.slots }))
+
+  -- of this thread
+  module _ (t : ℕ) (x : Standing) (found : standing_in c.slots t ≡ Some x) (still : IsStill x) (named : Option Standing) where
+    -- by its place
+    abbrev seen_here : Seen
+    seen_here = seen_off worker now settings named
+
+    by_place : (act : Place → Action) (meant : Place → Stepped) → limbo_acts (act Unborn) ≡ meant Unborn → limbo_acts (act Gone) ≡ meant Gone → limbo_acts (act x.place) ≡ meant x.place
+    by_place act meant unborn gone =
+        ⊎_elim (λ (is : x.place ≡ Unborn). ap (λ (p : Place). limbo_acts (act p)) is ∙ unborn ∙ ap meant (sym is)) (λ (is : x.place ≡ Gone). ap (λ (p : Place). limbo_acts (act p)) is ∙ gone ∙ ap meant (sym is)) still
+
+    limbo_change_same : (given : Change) → limbo_acts (change_action given t (standing_in c.slots t) seen_here) ≡ limbo_changed settings given t hand (standing_in c.slots t) c
+    limbo_change_same given =
+        ap (λ (o : Option Standing). limbo_acts (change_action given t o seen_here)) found ∙
+        by_place (λ p. change_action_at p given t x.thread (after_change settings given x.thread) seen_here) (λ p. limbo_changed_at p settings given t hand x.thread c) (unborn (unborn_answer given)) refl ∙
+        ap (λ (o : Option Standing). limbo_changed settings given t hand o c) (sym found)
+      where
+        unborn : (o : Option Reply) → limbo_acts (unborn_action o given t (after_change settings given x.thread)) ≡ limbo_changed_unborn o settings given t hand x.thread c
+        unborn None = refl
+        unborn (Some refusal) = refl
+
 -- ---- on a CPU
 
 module _ (worker now : ℕ) (hand : Option ThreadRecord) (v : CpuValue) (e : Event) (can : CanStepQueue v hand e now) where
@@ -104,46 +148,13 @@ module _ (worker now : ℕ) (hand : Option ThreadRecord) (v : CpuValue) (e : Eve
   abbrev StepIs : Stepped → Type 0
   StepIs made = queue_step worker e now hand v ≡ made
 
+  -- its step is what the step of the other is
   as_this : (f : Event) (made : Stepped) → e ≡ f → queue_step worker f now hand v ≡ made → StepIs made
   as_this f made is same = ap (λ (x : Event). queue_step worker x now hand v) is ∙ same
 
   -- the thread that it seeks is on the CPU
   sought_here : (f : Event) → e ≡ f → IfSome (sought_by f) (HasPlaced v)
   sought_here f is = subst (λ (x : Event). IfSome (sought_by x) (HasPlaced v)) is can.sought
-
-  pub tick_call : (c : ℕ) → e ≡ Tick c → StepIs (queue_stepped hand (value_ticked now v))
-  tick_call c is = as_this (Tick c) (queue_stepped hand (value_ticked now v)) is (tick_same worker now hand v)
-
-  pub switch_call : (c : ℕ) (why : Why) → e ≡ Switch c why → StepIs (queue_stepped hand (value_switched why now v))
-  switch_call c why is = as_this (Switch c why) (queue_stepped hand (value_switched why now v)) is (switch_same worker now hand v can.runs why)
-
-  pub drop_call : (c channel : ℕ) → e ≡ Drop c channel → StepIs (queue_dropped hand (value_taken sleeps now v))
-  drop_call c channel is =
-      as_this (Drop c channel) (queue_dropped hand (value_taken sleeps now v)) is
-      (leave_same worker now hand v can.runs sleeps (λ r into. Dropped r.id into) (λ r into. Dropped r.id into) (λ r into. refl) ∙ same (value_taken sleeps now v))
-    where
-      same : (x : CpuValue × Option Taken) → stepped_left (λ r into. Dropped r.id into) hand x ≡ queue_dropped hand x
-      same (made, None) = refl
-      same (made, Some out) = refl
-
-  pub exit_call : (c : ℕ) → e ≡ Exit c → StepIs (queue_exited hand (value_taken ran now v))
-  exit_call c is =
-      as_this (Exit c) (queue_exited hand (value_taken ran now v)) is
-      (leave_same worker now hand v can.runs ran (λ r into. Exited r.id into r.parent r.hist.run) exited_reply (λ r into. refl) ∙ same (value_taken ran now v))
-    where
-      same : (x : CpuValue × Option Taken) → stepped_left exited_reply hand x ≡ queue_exited hand x
-      same (made, None) = refl
-      same (made, Some out) = refl
-
-  pub wake_call : (t : ℕ) → e ≡ Wake t → StepIs (kept hand (value.queue v) (not_asleep (found_on v t)))
-  wake_call t is =
-      let h = sought_here (Wake t) is in as_this (Wake t) (kept hand (value.queue v) (not_asleep (found_on v t))) is (wake_same worker now hand v t h.0 h.1 h.2)
-
-  pub land_call : (t c : ℕ) → e ≡ Land t c → StepIs (queue_landed worker hand v)
-  land_call t c is = as_this (Land t c) (queue_landed worker hand v) is (land_same worker now hand v t _)
-
-  pub fork_call : (c t : ℕ) → e ≡ Fork c t → StepIs (queue_forked now hand v)
-  fork_call c t is = as_this (Fork c t) (queue_forked now hand v) is (fork_same worker now hand v can.runs t _)
 
   -- an event that changes the priority of a thread on the CPU
   pub change_call : (t : ℕ) (given : Change) (f : Event) → e ≡ f →
@@ -160,20 +171,13 @@ module _ (worker now : ℕ) (settings : Settings) (hand : Option ThreadRecord) (
   abbrev ChainStepIs : Stepped → Type 0
   ChainStepIs made = chain_step settings worker e now hand v ≡ made
 
+  -- its step is what the step of the other is
   as_this_chain : (f : Event) (made : Stepped) → e ≡ f → chain_step settings worker f now hand v ≡ made → ChainStepIs made
   as_this_chain f made is same = ap (λ (x : Event). chain_step settings worker x now hand v) is ∙ same
 
   -- the thread that it seeks sleeps on the chain
   sleeper_here : (f : Event) → e ≡ f → IfSome (sought_by f) (HasSleeper v)
   sleeper_here f is = subst (λ (x : Event). IfSome (sought_by x) (HasSleeper v)) is can.sought
-
-  pub bed_call : (t channel : ℕ) → e ≡ Bed t channel → ChainStepIs (chain_bedded channel hand v)
-  bed_call t channel is = as_this_chain (Bed t channel) (chain_bedded channel hand v) is (bed_same worker now settings hand v t channel)
-
-  pub chain_wake_call : (t : ℕ) → e ≡ Wake t → ChainStepIs (chain_woken settings now t hand (standing_in v.slots t) v)
-  chain_wake_call t is =
-      let h = sleeper_here (Wake t) is in
-      as_this_chain (Wake t) (chain_woken settings now t hand (standing_in v.slots t) v) is (chain_wake_same worker now settings hand v t h.1 h.0 h.2 h.3 (standing_in v.slots t))
 
   -- an event that changes the priority of a sleeper
   pub chain_change_call : (t : ℕ) (given : Change) (f : Event) → e ≡ f →
@@ -190,29 +194,13 @@ module _ (worker now : ℕ) (settings : Settings) (hand : Option ThreadRecord) (
   abbrev LimboStepIs : Stepped → Type 0
   LimboStepIs made = limbo_step settings worker e now hand v ≡ made
 
+  -- its step is what the step of the other is
   as_this_limbo : (f : Event) (made : Stepped) → e ≡ f → limbo_step settings worker f now hand v ≡ made → LimboStepIs made
   as_this_limbo f made is same = ap (λ (x : Event). limbo_step settings worker x now hand v) is ∙ same
 
   -- the thread that it seeks is in limbo
   still_here : (f : Event) → e ≡ f → IfSome (sought_by f) (HasStill v)
   still_here f is = subst (λ (x : Event). IfSome (sought_by x) (HasStill v)) is can.sought
-
-  pub hatch_call : (t : ℕ) → e ≡ Hatch t → LimboStepIs (limbo_hatched t hand (standing_in v.slots t) v)
-  hatch_call t is =
-      let h = can.unborn t is in
-      as_this_limbo (Hatch t) (limbo_hatched t hand (standing_in v.slots t) v) is
-      (hatch_same worker now settings hand v t (record { thread = h.0; place = Unborn }) h.1 (inl refl) (standing_in v.slots t))
-
-  pub return_call : (t : ℕ) → e ≡ Return t → LimboStepIs (limbo_returned hand v)
-  return_call t is = as_this_limbo (Return t) (limbo_returned hand v) is (return_same worker now settings hand v t)
-
-  pub bury_call : (t : ℕ) → e ≡ Bury t → LimboStepIs (limbo_buried hand v)
-  bury_call t is = as_this_limbo (Bury t) (limbo_buried hand v) is (bury_same worker now settings hand v t)
-
-  pub limbo_wake_call : (t : ℕ) → e ≡ Wake t → LimboStepIs (kept hand (value.limbo v) (not_asleep (standing_in v.slots t)))
-  limbo_wake_call t is =
-      let h = still_here (Wake t) is in
-      as_this_limbo (Wake t) (kept hand (value.limbo v) (not_asleep (standing_in v.slots t))) is (limbo_wake_same worker now settings hand v t h.0 h.1 h.2 (standing_in v.slots t))
 
   -- an event that changes the priority of a thread there
   pub limbo_change_call : (t : ℕ) (given : Change) (f : Event) → e ≡ f →

@@ -1,5 +1,6 @@
 pub mod Hands
 pub mod Locks
+pub mod Calls
 pub mod Worlds
 pub mod Readiness
 pub mod Starting
