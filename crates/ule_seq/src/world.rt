@@ -1,14 +1,17 @@
-ghost use Rattle.std.specs.Prelude.{◌≡◌, ◌<◌, Some};
+ghost use Rattle.std.specs.Prelude.{◌≡◌, ◌<◌, Some, None, IfSome, IsNone, option_and_then, slice_get};
+ghost use Rattle.ule_model.specs.LockValue.{queue};
 ghost use Rattle.ule_model.specs.Events.{locking, sought_by};
 ghost use Rattle.ule_model.specs.WorldValue.{CanStep, IsShown, Steps, holder_in, lock_for, lock_with, value_step};
 ghost use Rattle.ule_seq.specs.Hands.{is_held};
+ghost use Rattle.ule_seq.specs.Outcomes.{queue_line};
 ghost use Rattle.ule_seq.specs.Readiness.{Readies, ready_by, ready_in};
 
 use crate::hand::Hand;
 use crate::lock::{FIRST_CHAIN_LOCK, Guarded, LIMBO_LOCK, step_at};
 use std::marker::Model;
-use ule_prio::ThreadId;
+use ule_prio::{Cpu, ThreadId};
 use ule_score::{Settings, ThreadRecord};
+use ule_tdq::Tdq;
 use ule_types::{Event, Reply};
 
 /// Whether a worker can perform an event now.
@@ -71,6 +74,17 @@ impl World {
         let guarded = &mut self.values[lock];
         let hand = &mut self.hands[usize::from(worker)];
         step_at(&settings, worker, hand, guarded, e, now)
+    }
+
+    /// The queues and numbers of a CPU, where it is there: what its lock guards.
+    pub fn queue(&self, c: Cpu) -> Option<&Tdq>
+        ensures found { IfSome result (λ q. slice_get self.now.values c ≡ Some (queue q.now)) }
+        ensures none { IsNone result → option_and_then queue_line (slice_get self.now.values c) ≡ None }
+    {
+        match self.values.get(usize::from(c.0)) {
+            Some(Guarded::Queue(tdq)) => Some(tdq),
+            _ => None,
+        }
     }
 
     /// The lock under which an event is performed, where there is one: the fixed lock of the event,

@@ -1,0 +1,44 @@
+//! Explains a scenario: reads one from standard input, plays it, and prints its trace with what each
+//! entry came from below it, on lines that begin with two spaces. Without these lines the text is
+//! the trace that `ule run` prints.
+//!
+//! It is also an example of how the library is used: `ule_scenario` reads a setup, `ule_seq` plays
+//! it, a `World` is stepped through the play once more, and each number that is told comes from the
+//! crate that owns its rule.
+#![tactic(auto)]
+
+mod choice;
+mod entry;
+mod fault;
+mod records;
+mod replay;
+mod rules;
+mod view;
+
+use fault::Fault;
+use replay::explain;
+use std::process::ExitCode;
+use ule_io::{StdSource, read_all};
+use ule_scenario::read;
+
+/// The most bytes that a scenario may have.
+const SCENARIO_LIMIT: usize = 1_048_576;
+
+/// Reads a scenario from standard input, and prints its trace with what each entry came from.
+fn run(rt: &HostRuntime) -> Result<(), Fault> {
+    let alloc = rt.alloc();
+    let mut source = StdSource::over(rt.stdin());
+    let input = read_all(alloc, &mut source, SCENARIO_LIMIT)?;
+    let setup = read(alloc, input.as_slice())?;
+    explain(rt, alloc, &setup)
+}
+
+fn main(rt: HostRuntime) -> ExitCode {
+    match run(&rt) {
+        Ok(()) => ExitCode::SUCCESS,
+        Err(fault) => {
+            let _ = eprintln!(rt; "ule_explain: {fault}");
+            ExitCode::FAILURE
+        }
+    }
+}
