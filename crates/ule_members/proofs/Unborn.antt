@@ -36,7 +36,7 @@ use Rattle.ule_model.specs.World.{Member, Side, World, is_numbered, moved_to, si
 use Rattle.ule_members.proofs.Membership.{has_thread_of}
 use Rattle.ule_members.proofs.PlaceFinds.{thread_at_is, thread_at_within}
 use Rattle.ule_members.proofs.Reach.{IsHeld, IsUnbornIn, held_found, place_from_hand, unborn_found}
-use Rattle.ule_members.proofs.Setups.{setup_rules, setup_specs}
+use Rattle.ule_members.proofs.Setups.{setup_specs}
 use Rattle.ule_members.proofs.Starts.{declared_laid, queued_numbers}
 use Rattle.ule_members.proofs.Steps.{step_is_made}
 use Rattle.ule_members.proofs.Threads.{thread_of-moved_other, thread_of-queued_other}
@@ -286,9 +286,4 @@ pub record HasForks (s : Setup) : Type 0 where
 
 -- every setup forks unborn threads, and each once
 pub setup_forks : (s : Setup) → HasForks s
-setup_forks s =
-    let forked = flat_map (λ script. flat_map forked_by script) s.scripts in
-    let five = and_parts _ (nat_le (budget_from 0 s.cpus s.scripts) 65536) (setup_rules s).scripts in
-    let four = and_parts _ (is_distinct forked) five.0 in
-    let three = and_parts _ (list_all (is_among s.unborn) forked) four.0 in
-    record { unborn = three.1; distinct = four.1 }
+setup_forks s = record { unborn = s.rules.forks; distinct = s.rules.forked_once }

@@ -9,7 +9,7 @@ use Rattle.ule_types.specs.declared.event.Item.{Item}
 use Rattle.ule_types.specs.declared.event.Item.TheVariants as item
 use Rattle.ule_types.specs.declared.event.Reply.{Reply}
 use Rattle.ule_types.specs.declared.event.Reply.TheVariants as reply
-use Rattle.ule_types.specs.declared.look.Summary.{Summary}
+use Rattle.ule_topo.specs.declared.look.Summary.{Summary}
 pub use Rattle.ule_types.specs.declared.stage.Stage.{Stage}
 pub use Rattle.ule_types.specs.declared.stage.Stage.TheVariants as stage
 

@@ -3,7 +3,8 @@ ghost use Rattle.ule_model.specs.Program.{after_burial, after_drop, after_exit, 
 
 use ule_prio::{Cpu, ThreadId};
 use ule_score::Why;
-use ule_types::{Command, Event, Item, Looks, Reply, Setup, Stage};
+use ule_topo::Looks;
+use ule_types::{Command, Event, Item, Reply, Setup, Stage};
 
 /// Where a worker stands inside a command, with all that its next item depends on but the reply to
 /// the event before.

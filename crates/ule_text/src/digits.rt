@@ -1,4 +1,4 @@
-ghost use Rattle.std.specs.Prelude.{◌≡◌, ◌++◌, ◌∷◌, [], List, ℕ, Option};
+ghost use Rattle.std.specs.Prelude.{◌≡◌, ◌≤◌, ◌++◌, ◌∷◌, [], List, ℕ, Option, unwrap_or};
 ghost use Rattle.ule_text.specs.Numerals.{number_of, digits_of};
 
 /// What the bytes of a word so far say of the number that it may spell.
@@ -47,10 +47,11 @@ impl Digits {
     /// The number that is spelled: 0, or digits without a leading zero. One above 2^32 is told as
     /// 2^32.
     pub fn number(&self) -> Option<u64>
-        ensures { (word : List ℕ) → self.now ≡ digits_of word → result ≡ number_of word }
+        ensures value { (word : List ℕ) → self.now ≡ digits_of word → result ≡ number_of word }
+        ensures small { unwrap_or result 0 ≤ MOST }
     {
         if self.count > 0 && self.all && !(self.zero && self.count > 1) {
-            Some(self.value)
+            Some(self.value.min(MOST))
         } else {
             None
         }

@@ -1,4 +1,4 @@
-ghost use Rattle.std.specs.Prelude.{◌≡◌, ◌<◌, ◌++◌, ◌∷◌, [], List, ℕ, take, length, nat_lt, slice_index, ◌==◌};
+ghost use Rattle.std.specs.Prelude.{◌≡◌, ◌<◌, ◌≤◌, ◌^◌, unwrap_or, ◌++◌, ◌∷◌, [], List, ℕ, take, length, nat_lt, slice_index, ◌==◌};
 ghost use Rattle.ule_text.specs.Words.{is_blank};
 ghost use Rattle.ule_text.specs.Numerals.{is_negative, unsigned, number_of};
 ghost use Rattle.ule_text.specs.SoFar.{so_far};
@@ -82,10 +82,12 @@ impl WordSoFar {
         self.minus
     }
 
-    /// The number that the word spells behind its minus, if it has one.
+    /// The number that the word spells behind its minus, if it has one. One above 2^32 is told as
+    /// 2^32.
     #[tactic(auto, unfolding(crate::specs::SoFar::so_far))]
     pub fn number(&self) -> Option<u64>
-        ensures { (word : List ℕ) → self.now ≡ so_far word → result ≡ number_of (unsigned word) }
+        ensures value { (word : List ℕ) → self.now ≡ so_far word → result ≡ number_of (unsigned word) }
+        ensures small { unwrap_or result 0 ≤ 2 ^ 32 }
     {
         self.digits.number()
     }

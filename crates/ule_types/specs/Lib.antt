@@ -2,4 +2,3 @@ pub mod Commands
 pub mod Rules
 pub mod Form
 pub mod Outcome
-pub mod Looks

@@ -5,18 +5,18 @@
 pub use command::{Command, greatest};
 pub use event::{Entry, Event, Item, MoveWhy, Reply};
 pub use fault::ScenarioFault;
+pub use form::is_of_form;
 pub use items::Items;
-pub use look::{Looks, Summary};
 pub use outcome::{Outcome, ThreadLine};
 pub use scripts::Scripts;
-pub use setup::{Form, GroupLine, Groups, Setup, Specs, ThreadSpec, Turns, Unborn};
+pub use setup::{Form, Groups, Setup, Specs, ThreadSpec, Turns, Unborn};
 pub use stage::Stage;
 
 pub mod command;
 pub mod event;
 pub mod fault;
+pub mod form;
 pub mod items;
-pub mod look;
 pub mod outcome;
 pub mod scripts;
 pub mod setup;
