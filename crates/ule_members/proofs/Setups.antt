@@ -1,13 +1,13 @@
 -- What the rules of a setup say.
-use Rattle.std.proofs.Common.{◌≡◌, ℕ, zero, suc, ◌+◌, ◌≤◌, ◌&&◌, ◌==◌, ◌^◌, Bool, true, nat_le, nat_lt, List, [], ◌∷◌, drop, flat_map, length, take, refl, ap, arith}
+use Rattle.std.proofs.Common.{◌≡◌, ℕ, zero, suc, ◌+◌, ◌≤◌, ◌&&◌, ◌==◌, Bool, true, nat_le, nat_lt, List, [], ◌∷◌, drop, length, take, refl, ap, arith}
 use Rattle.std.specs.List.{AllByRecursion, list_all}
 use Rattle.std.proofs.lemmas.Bool.{and_parts, eqb-true, leb-true}
 use Rattle.std.proofs.lemmas.List.{nil_from_length}
 use Rattle.std.proofs.lemmas.List.Sums.{sum_by-cons}
 use Rattle.ule_prio.specs.Class.{is_within}
 use Rattle.ule_score.specs.Changes.{HasSlice}
-use Rattle.ule_types.specs.Commands.{is_among, is_command, forked_by}
-use Rattle.ule_types.specs.Rules.{are_numbers, are_scripts, are_settings, are_turns, budget_from, declared_ids, is_distinct, is_spec}
+use Rattle.ule_types.specs.Commands.{is_command}
+use Rattle.ule_types.specs.Rules.{budget_from, declared_ids, is_distinct, is_spec}
 use Rattle.ule_types.specs.declared.command.Command.{Command}
 use Rattle.ule_types.specs.declared.setup.Setup.{Setup}
 use Rattle.ule_model.specs.Ends.{end_time}
@@ -15,27 +15,6 @@ use Rattle.ule_model.specs.Legal.{amount_in, amount_in_all}
 use Rattle.ule_model.specs.Start.{starting_time}
 
 -- ---- the rules
-
--- five of the eight rules: the settings, the number of CPUs, the threads, their numbers, and the scripts
-pub rules_parts : (a j b c d e f g : Bool) → (a && j && b && c && d && e && f && g) ≡ true → (a ≡ true) × (b ≡ true) × (d ≡ true) × (e ≡ true) × (f ≡ true)
-rules_parts a j b c d e f g all =
-    let seven = (and_parts (a && j && b && c && d && e && f) g all).0 in
-    let six = and_parts (a && j && b && c && d && e) f seven in
-    let five = and_parts (a && j && b && c && d) e six.0 in
-    let four = and_parts (a && j && b && c) d five.0 in
-    let three = and_parts (a && j) b (and_parts (a && j && b) c four.0).0 in
-    let two = and_parts a j three.0 in
-    (two.0, three.1, four.1, five.1, six.1)
-
--- four of the six rules of scripts: how many there are, that those of no CPU are empty, the commands, and the budget
-pub scripts_parts : (a b c d e f : Bool) → (a && b && c && d && e && f) ≡ true → (a ≡ true) × (b ≡ true) × (c ≡ true) × (f ≡ true)
-scripts_parts a b c d e f all =
-    let five = and_parts (a && b && c && d && e) f all in
-    let four = (and_parts (a && b && c && d) e five.0).0 in
-    let three = and_parts (a && b && c) d four in
-    let two = and_parts (a && b) c three.0 in
-    let one = and_parts a b two.0 in
-    (one.0, one.1, two.1, five.1)
 
 -- what a setup says of its threads: each one may be declared so, and they have distinct numbers of 0 to 255
 pub record HasSpecs (s : Setup) : Type 0 where
@@ -53,36 +32,18 @@ pub record HasScripts (s : Setup) : Type 0 where
   pub valid : list_all (λ script. list_all (is_command (declared_ids s.threads s.unborn) s.cpus) script) s.scripts ≡ true
   pub budget : budget_from 0 s.cpus s.scripts ≤ 65536
 
--- five of the rules that every setup keeps
-pub record HasRules (s : Setup) : Type 0 where
-  pub settings : are_settings s.settings ≡ true
-  pub cpus : is_within 1 16 s.cpus ≡ true
-  pub specs : list_all (is_spec s.cpus) s.threads ≡ true
-  pub numbers : are_numbers (declared_ids s.threads s.unborn) ≡ true
-  pub scripts : are_scripts s.cpus (declared_ids s.threads s.unborn) s.unborn s.scripts ≡ true
-
--- every setup keeps the rules
-pub setup_rules : (s : Setup) → HasRules s
-setup_rules s =
-    let ids = declared_ids s.threads s.unborn in
-    let parts = rules_parts (are_settings s.settings) (nat_lt s.jitter (2 ^ 32)) (is_within 1 16 s.cpus) (length s.groups == 0) (list_all (is_spec s.cpus) s.threads) (are_numbers ids)
-    (are_scripts s.cpus ids s.unborn s.scripts) (are_turns s.cpus s.turns) s.rules in
-    record { settings = parts.0; cpus = parts.1; specs = parts.2; numbers = parts.3; scripts = parts.4 }
-
 -- every setup has threads with distinct numbers
 pub setup_specs : (s : Setup) → HasSpecs s
 setup_specs s =
-    let rules = setup_rules s in
-    let both = and_parts (list_all (λ t. nat_lt t 256) (declared_ids s.threads s.unborn)) (is_distinct (declared_ids s.threads s.unborn)) rules.numbers in
-    record { specs = rules.specs; numbers = both.0; distinct = both.1 }
+    let both = and_parts (list_all (λ t. nat_lt t 256) (declared_ids s.threads s.unborn)) (is_distinct (declared_ids s.threads s.unborn)) s.rules.numbers in
+    record { specs = s.rules.threads; numbers = both.0; distinct = both.1 }
 
 -- every setup has a slice in range
 pub setup_slice : (s : Setup) → HasSlice s.settings
 setup_slice s =
-    let rules = setup_rules s in
     let interact = is_within 1 100 s.settings.interact in
     let length_of = is_within 6 1000 s.settings.slice in
-    let three = and_parts (interact && length_of && is_within 0 255 s.settings.preempt) (is_within 1 64 s.settings.steal) rules.settings in
+    let three = and_parts (interact && length_of && is_within 0 255 s.settings.preempt) (is_within 1 64 s.settings.steal) s.rules.settings in
     let two = and_parts (interact && length_of) (is_within 0 255 s.settings.preempt) three.0 in
     let slice = and_parts interact length_of two.0 in
     let both = and_parts (nat_le 6 s.settings.slice) (nat_le s.settings.slice 1000) slice.1 in
@@ -91,18 +52,14 @@ setup_slice s =
 -- every setup has a script of valid commands for each CPU, within the budget
 pub setup_scripts : (s : Setup) → HasScripts s
 setup_scripts s =
-    let ids = declared_ids s.threads s.unborn in
-    let rules = setup_rules s in
-    let scripts = scripts_parts (length s.scripts == 16) (list_all (λ script. length script == 0) (drop s.cpus s.scripts)) (list_all (λ script. list_all (is_command ids s.cpus) script) s.scripts)
-    (list_all (is_among s.unborn) (flat_map (λ script. flat_map forked_by script) s.scripts)) (is_distinct (flat_map (λ script. flat_map forked_by script) s.scripts)) (nat_le (budget_from 0 s.cpus s.scripts) 65536) rules.scripts in
-    let within = and_parts (nat_le 1 s.cpus) (nat_le s.cpus 16) rules.cpus in
+    let within = and_parts (nat_le 1 s.cpus) (nat_le s.cpus 16) s.rules.cpus in
     record {
-      count = eqb-true (length s.scripts) 16 scripts.0;
+      count = s.rules.workers;
       some = leb-true 1 s.cpus within.0;
       cpus = leb-true s.cpus 16 within.1;
-      rest = scripts.1;
-      valid = scripts.2;
-      budget = leb-true (budget_from 0 s.cpus s.scripts) 65536 scripts.3;
+      rest = s.rules.idle;
+      valid = s.rules.commands;
+      budget = leb-true (budget_from 0 s.cpus s.scripts) 65536 s.rules.budget;
     }
 
 -- ---- lists

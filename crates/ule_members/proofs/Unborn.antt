@@ -44,7 +44,7 @@ use Rattle.ule_members.proofs.Moves.{choice_stands, within_has}
 use Rattle.ule_members.proofs.PartDone.{Follows, IsReady, Known, Needs, StandsAt, idle_after, known_after, part_step}
 use Rattle.ule_members.proofs.Reach.{held_found, place_from_hand}
 use Rattle.ule_members.proofs.Rest.{index_of}
-use Rattle.ule_members.proofs.Setups.{setup_rules, setup_specs}
+use Rattle.ule_members.proofs.Setups.{setup_specs}
 use Rattle.ule_members.proofs.Starts.{declared_laid, queued_numbers}
 use Rattle.ule_members.proofs.Steps.{first_among}
 use Rattle.ule_members.proofs.Threads.{thread_of-moved_other, thread_of-queued_other, thread_of_within}
@@ -318,9 +318,4 @@ pub record HasForks (s : Setup) : Type 0 where
 
 -- every setup forks unborn threads, and each once
 pub setup_forks : (s : Setup) → HasForks s
-setup_forks s =
-    let forked = flat_map (λ script. flat_map forked_by script) s.scripts in
-    let five = and_parts _ (nat_le (budget_from 0 s.cpus s.scripts) 65536) (setup_rules s).scripts in
-    let four = and_parts _ (is_distinct forked) five.0 in
-    let three = and_parts _ (list_all (is_among s.unborn) forked) four.0 in
-    record { unborn = three.1; distinct = four.1 }
+setup_forks s = record { unborn = s.rules.forks; distinct = s.rules.forked_once }

@@ -1,18 +1,14 @@
--- Numbers of which no two are the same.
-use Rattle.std.proofs.Common.{◌≡◌, ℕ, ◌+◌, ◌≤◌, ◌==◌, Bool, true, false, ◌||◌, not, cond, List, [], ◌∷◌, ◌++◌, map, refl, sym, ap, ◌∙◌, arith, ⊎_elim}
-use Rattle.std.specs.List.{list_any}
-use Rattle.std.proofs.lemmas.Bool.{and_from, and_parts, not-true, eqb-true, eq-eqb, false≢true, or_cases, or_parts}
+-- Numbers of which no two are the same, by how often each stands.
+use Rattle.std.proofs.Common.{◌≡◌, ℕ, zero, suc, ◌+◌, ◌<◌, ◌≤◌, ◌==◌, Bool, true, false, ◌||◌, ◌&&◌, not, cond, List, [], ◌∷◌, ◌++◌, length, set, get_or, refl, sym, ap, ◌∙◌, arith, ⊎_elim}
+use Rattle.std.specs.Prelude.{nat_lt}
+use Rattle.std.specs.List.{list_all, flat_map}
+use Rattle.std.proofs.lemmas.Bool.{and_from, and_parts, not-true, eqb-true, eq-eqb, false≢true, or_cases, or_parts, lt-ltb}
 use Rattle.std.proofs.lemmas.Grind.{flat_map-append}
-use Rattle.std.proofs.lemmas.List.{map-append}
-use Rattle.std.proofs.lemmas.List.Folds.{list_any-append}
-use Rattle.ule_types.specs.Commands.{is_among}
-use Rattle.ule_types.specs.Rules.{is_distinct, declared_ids}
-use Rattle.ule_types.specs.declared.setup.ThreadSpec.{ThreadSpec}
-use Rattle.ule_scenario.specs.Scenario.{queued_by, unborn_in}
-use Rattle.ule_scenario.specs.Sections.{declared_by, ids_of, id_in, with_declaration}
-use Rattle.ule_scenario.specs.declared.declaration.Declaration.{Declaration}
-use Rattle.ule_scenario.specs.declared.declaration.Declaration.TheVariants.{Queued, Unborn}
-use Rattle.ule_scenario.specs.declared.declaration.Declared.{Declared}
+use Rattle.std.proofs.lemmas.List.{append-nil}
+use Rattle.std.proofs.lemmas.List.Folds.{list_all-append, list_any-append}
+use Rattle.ule_types.specs.Commands.{is_among, forked_by}
+use Rattle.ule_types.specs.Rules.{is_distinct, are_numbers, forked_in_all}
+use Rattle.ule_types.specs.declared.command.Command.{Command}
 
 -- how often a number stands in a list
 abbrev pub times_among : ℕ → List ℕ → ℕ
@@ -41,7 +37,7 @@ times_some x (y ∷ xs) some =
     (or_cases (y == x) (is_among xs x) some)
 
 -- no number stands twice among distinct ones
-pub distinct_once : (xs : List ℕ) (x : ℕ) → is_distinct xs ≡ true → times_among x xs ≤ 1
+distinct_once : (xs : List ℕ) (x : ℕ) → is_distinct xs ≡ true → times_among x xs ≤ 1
 distinct_once [] x all = omega arith
 distinct_once (y ∷ xs) x all =
     let parts = and_parts (not (is_among xs y)) (is_distinct xs) all in
@@ -55,7 +51,7 @@ distinct_once (y ∷ xs) x all =
     by_first false other none once = rw other (omega (arith, once))
 
 -- numbers of which none stands twice
-pub once_distinct : (xs : List ℕ) → ((x : ℕ) → times_among x xs ≤ 1) → is_distinct xs ≡ true
+once_distinct : (xs : List ℕ) → ((x : ℕ) → times_among x xs ≤ 1) → is_distinct xs ≡ true
 once_distinct [] once = refl
 once_distinct (y ∷ xs) once =
     and_from (not (is_among xs y)) (is_distinct xs) (not_later (is_among xs y) refl) (once_distinct xs (λ x. omega (arith, once x)))
@@ -68,106 +64,76 @@ once_distinct (y ∷ xs) once =
         absurd (omega (arith, first, times_some y xs some))
     not_later false none = ap not none
 
--- a test that doesn't hold
-fails : (b : Bool) → (b ≡ true → ⊥) → b ≡ false
-fails true never = absurd (never refl)
-fails false _ = refl
-
--- one number more that isn't among distinct ones
-pub distinct_push : (xs : List ℕ) (x : ℕ) → is_distinct xs ≡ true → is_among xs x ≡ false → is_distinct (xs ++ x ∷ []) ≡ true
-distinct_push xs x all none =
-    once_distinct (xs ++ x ∷ []) (λ y. by_last y (x == y) refl)
+-- how often each stands among distinct numbers and another one
+times_new : (xs : List ℕ) (t x : ℕ) → is_distinct xs ≡ true → is_among xs t ≡ false → times_among x xs + times_among x (t ∷ []) ≤ 1
+times_new xs t x all none = by_last (t == x) refl
   where
-    by_last : (y : ℕ) (b : Bool) → (x == y) ≡ b → times_among y (xs ++ x ∷ []) ≤ 1
-    by_last y true here =
-        let gone : times_among y xs ≡ 0 = times_none y xs (ap (is_among xs) (sym (eqb-true x y here)) ∙ none) in
-        let whole = times-append y xs (x ∷ []) in
-        rw (whole, gone, here) (omega arith)
-    by_last y false other =
-        let whole = times-append y xs (x ∷ []) in
-        rw (whole, other) (omega (arith, distinct_once xs y all))
+    by_last : (b : Bool) → (t == x) ≡ b → times_among x xs + times_among x (t ∷ []) ≤ 1
+    by_last true here =
+        let gone : times_among x xs ≡ 0 = times_none x xs (ap (is_among xs) (sym (eqb-true t x here)) ∙ none) in
+        rw (gone, here) (omega arith)
+    by_last false other = rw other (omega (arith, distinct_once xs x all))
 
--- one number more that is among them
-pub repeated_push : (xs : List ℕ) (x : ℕ) → is_among xs x ≡ true → is_distinct (xs ++ x ∷ []) ≡ false
-repeated_push xs x some =
-    fails (is_distinct (xs ++ x ∷ [])) (λ all.
-    let once = distinct_once (xs ++ x ∷ []) x all in
-    let here : (x == x) ≡ true = eq-eqb x x refl in
-    let last : times_among x (x ∷ []) ≡ 1 = rw here refl in
-    omega (arith, once, times-append x xs (x ∷ []), last, times_some x xs some))
+-- a list with one number more, which is none of those of a list of distinct ones
+pub distinct_with : (xs ys : List ℕ) (t : ℕ) → ((x : ℕ) → times_among x ys ≡ times_among x xs + times_among x (t ∷ [])) → is_distinct xs ≡ true → is_among xs t ≡ false → is_distinct ys ≡ true
+distinct_with xs ys t more all none = once_distinct ys (λ x. omega (arith, more x, times_new xs t x all none))
 
--- what is declared in two parts
-abbrev both : Declared → Declared → Declared
-both a b = record { threads = a.threads ++ b.threads; unborn = a.unborn ++ b.unborn }
+-- a list in which each number stands as often as in a list of distinct ones
+pub distinct_as : (xs ys : List ℕ) → ((x : ℕ) → times_among x ys ≡ times_among x xs) → is_distinct xs ≡ true → is_distinct ys ≡ true
+distinct_as xs ys same all = once_distinct ys (λ x. omega (arith, same x, distinct_once xs x all))
 
--- what declarations in two parts declare
-pub declared_by-append : (ds es : List Declaration) → declared_by (ds ++ es) ≡ both (declared_by ds) (declared_by es)
-declared_by-append ds es =
-    rw (flat_map-append queued_by ds es, flat_map-append unborn_in ds es) refl
+-- numbers with one more between them that is none of them
+pub numbers_between : (xs ys : List ℕ) (t : ℕ) → t < 256 → are_numbers (xs ++ ys) ≡ true → is_among (xs ++ ys) t ≡ false → are_numbers ((xs ++ t ∷ []) ++ ys) ≡ true
+numbers_between xs ys t small all none =
+    let below : ℕ → Bool = λ u. nat_lt u 256 in
+    let parts = and_parts (list_all below (xs ++ ys)) (is_distinct (xs ++ ys)) all in
+    let halves = and_parts (list_all below xs) (list_all below ys) (sym (list_all-append below xs ys) ∙ parts.0) in
+    let front : list_all below (xs ++ t ∷ []) ≡ true = list_all-append below xs (t ∷ []) ∙ and_from (list_all below xs) (list_all below (t ∷ [])) halves.0 (and_from (nat_lt t 256) true (lt-ltb t 256 small) refl) in
+    and_from (list_all below ((xs ++ t ∷ []) ++ ys)) (is_distinct ((xs ++ t ∷ []) ++ ys))
+    (list_all-append below (xs ++ t ∷ []) ys ∙ and_from (list_all below (xs ++ t ∷ [])) (list_all below ys) front halves.1)
+    (distinct_with (xs ++ ys) ((xs ++ t ∷ []) ++ ys) t
+    (λ x. omega (arith, times-append x (xs ++ t ∷ []) ys, times-append x xs (t ∷ []), times-append x xs ys)) parts.1 none)
 
--- what is declared with one declaration more
-pub declared_push : (ds : List Declaration) (d : Declaration) → with_declaration (declared_by ds) d ≡ declared_by (ds ++ d ∷ [])
-declared_push ds d = sym (declared_by-append ds (d ∷ []) ∙ single d)
-  where
-    single : (d : Declaration) → both (declared_by ds) (declared_by (d ∷ [])) ≡ with_declaration (declared_by ds) d
-    single (Queued spec) = refl
-    single (Unborn t) = refl
+-- numbers with one more behind them that is none of them
+pub numbers_behind : (xs : List ℕ) (t : ℕ) → t < 256 → are_numbers xs ≡ true → is_among xs t ≡ false → are_numbers (xs ++ t ∷ []) ≡ true
+numbers_behind xs t small all none =
+    let whole : xs ++ [] ≡ xs = append-nil xs in
+    ap are_numbers (sym (append-nil (xs ++ t ∷ []))) ∙ numbers_between xs [] t small (ap are_numbers whole ∙ all) (ap (λ (l : List ℕ). is_among l t) whole ∙ none)
 
--- how often a number is declared in two parts
-times_both : (x : ℕ) (a b : Declared) → times_among x (ids_of (both a b)) ≡ times_among x (ids_of a) + times_among x (ids_of b)
-times_both x a b =
-    let id : ThreadSpec → ℕ = λ spec. spec.id in
+-- how often a thread is forked with one command more
+pub times_forked : (x w : ℕ) (scripts : List (List Command)) (c : Command) → w < length scripts →
+    times_among x (forked_in_all (set scripts w (get_or scripts w [] ++ c ∷ []))) ≡ times_among x (forked_in_all scripts) + times_among x (forked_by c)
+times_forked x w [] c within = absurd (omega arith)
+times_forked x zero (s ∷ scripts) c within =
+    let last = append-nil (forked_by c) in
     omega (
       arith,
-      ap (λ ids. times_among x (ids ++ (a.unborn ++ b.unborn))) (map-append id a.threads b.threads),
-      times-append x (map id a.threads ++ map id b.threads) (a.unborn ++ b.unborn),
-      times-append x (map id a.threads) (map id b.threads),
-      times-append x a.unborn b.unborn,
-      times-append x (map id a.threads) a.unborn,
-      times-append x (map id b.threads) b.unborn,
+      times-append x (flat_map forked_by (s ++ c ∷ [])) (forked_in_all scripts),
+      times-append x (flat_map forked_by s) (forked_in_all scripts),
+      ap (times_among x) (flat_map-append forked_by s (c ∷ [])),
+      times-append x (flat_map forked_by s) (flat_map forked_by (c ∷ [])),
+      ap (times_among x) last,
+    )
+times_forked x (suc w) (s ∷ scripts) c within =
+    omega (
+      arith,
+      times-append x (flat_map forked_by s) (forked_in_all (set scripts w (get_or scripts w [] ++ c ∷ []))),
+      times-append x (flat_map forked_by s) (forked_in_all scripts),
+      times_forked x w scripts c (omega arith),
     )
 
--- one declaration more counts its number
-times_more : (x : ℕ) (declared : Declared) (d : Declaration) → times_among x (ids_of (with_declaration declared d)) ≡ times_among x (ids_of declared) + times_among x (id_in d ∷ [])
-times_more x declared (Queued spec) = times_both x declared (record { threads = spec ∷ []; unborn = [] })
-times_more x declared (Unborn t) = times_both x declared (record { threads = []; unborn = t ∷ [] })
-
--- one declaration more, of another number
-pub distinct_more : (declared : Declared) (d : Declaration) → is_distinct (ids_of declared) ≡ true → is_among (ids_of declared) (id_in d) ≡ false
-    → is_distinct (ids_of (with_declaration declared d)) ≡ true
-distinct_more declared d all none =
-    once_distinct (ids_of (with_declaration declared d)) (λ x. omega (
-      arith,
-      times_more x declared d,
-      times-append x (ids_of declared) (id_in d ∷ []),
-      distinct_once (ids_of declared ++ id_in d ∷ []) x (distinct_push (ids_of declared) (id_in d) all none),
-    ))
-
--- one declaration more, of a number that is there
-pub repeats_more : (declared : Declared) (d : Declaration) → is_among (ids_of declared) (id_in d) ≡ true → is_distinct (ids_of (with_declaration declared d)) ≡ false
-repeats_more declared d some =
-    fails (is_distinct (ids_of (with_declaration declared d))) (λ all.
-    let x = id_in d in
-    let here : (x == x) ≡ true = eq-eqb x x refl in
-    let last : times_among x (x ∷ []) ≡ 1 = rw here refl in
-    omega (arith, times_more x declared d, distinct_once (ids_of (with_declaration declared d)) x all, times_some x (ids_of declared) some, last))
-
--- what a front of declarations declares is distinct where all are
-pub front_distinct : (ds es : List Declaration) → is_distinct (ids_of (declared_by (ds ++ es))) ≡ true → is_distinct (ids_of (declared_by ds)) ≡ true
-front_distinct ds es all =
-    once_distinct (ids_of (declared_by ds)) (λ x. omega (
-      arith,
-      distinct_once (ids_of (declared_by (ds ++ es))) x all,
-      ap (λ declared. times_among x (ids_of declared)) (declared_by-append ds es),
-      times_both x (declared_by ds) (declared_by es),
-    ))
-
--- a number among those of threads
-any_is_among : (threads : List ThreadSpec) (id : ℕ) → list_any (λ spec. spec.id == id) threads ≡ is_among (map (λ spec. spec.id) threads) id
-any_is_among [] id = refl
-any_is_among (spec ∷ threads) id = ap (λ b. (spec.id == id) || b) (any_is_among threads id)
-
--- a number is among those that are declared where it is a thread's or an unborn one's
-pub among_declared : (threads : List ThreadSpec) (unborn : List ℕ) (id : ℕ) → is_among (declared_ids threads unborn) id ≡ (list_any (λ spec. spec.id == id) threads || is_among unborn id)
-among_declared threads unborn id =
-    list_any-append (λ u. u == id) (map (λ spec. spec.id) threads) unborn ∙ ap (λ b. b || is_among unborn id) (sym (any_is_among threads id))
+-- a test of all that are forked, with one command more
+pub all_forked : (p : ℕ → Bool) (w : ℕ) (scripts : List (List Command)) (c : Command) → w < length scripts →
+    list_all p (forked_in_all scripts) ≡ true → list_all p (forked_by c) ≡ true → list_all p (forked_in_all (set scripts w (get_or scripts w [] ++ c ∷ []))) ≡ true
+all_forked p w [] c within all more = absurd (omega arith)
+all_forked p zero (s ∷ scripts) c within all more =
+    let parts = and_parts (list_all p (flat_map forked_by s)) (list_all p (forked_in_all scripts)) (sym (list_all-append p (flat_map forked_by s) (forked_in_all scripts)) ∙ all) in
+    let last : list_all p (flat_map forked_by (c ∷ [])) ≡ true = ap (list_all p) (append-nil (forked_by c)) ∙ more in
+    let front : list_all p (flat_map forked_by (s ++ c ∷ [])) ≡ true =
+    ap (list_all p) (flat_map-append forked_by s (c ∷ [])) ∙ list_all-append p (flat_map forked_by s) (flat_map forked_by (c ∷ []))
+    ∙ and_from (list_all p (flat_map forked_by s)) (list_all p (flat_map forked_by (c ∷ []))) parts.0 last in
+    list_all-append p (flat_map forked_by (s ++ c ∷ [])) (forked_in_all scripts) ∙ and_from (list_all p (flat_map forked_by (s ++ c ∷ []))) (list_all p (forked_in_all scripts)) front parts.1
+all_forked p (suc w) (s ∷ scripts) c within all more =
+    let others = forked_in_all (set scripts w (get_or scripts w [] ++ c ∷ [])) in
+    let parts = and_parts (list_all p (flat_map forked_by s)) (list_all p (forked_in_all scripts)) (sym (list_all-append p (flat_map forked_by s) (forked_in_all scripts)) ∙ all) in
+    list_all-append p (flat_map forked_by s) others ∙ and_from (list_all p (flat_map forked_by s)) (list_all p others) parts.0 (all_forked p w scripts c (omega arith) parts.1 more)

@@ -1,183 +1,88 @@
--- The scripts of the workers, one script more or compared with others.
-use Rattle.std.proofs.Common.{◌≡◌, ◌≢◌, ℕ, ◌+◌, ◌-◌, ◌<◌, ◌≤◌, true, ◌&&◌, List, [], ◌∷◌, ◌++◌, map, length, take, drop, set, get_or, replicate, refl, sym, ap, subst, ◌∙◌, arith}
-use Rattle.std.specs.Prelude.{codes, count_by}
-use Rattle.std.specs.List.{list_all, flat_map}
-use Rattle.std.proofs.Math.Bool.{or-true}
-use Rattle.std.proofs.lemmas.Bool.{and_from, and_parts, ne_eqb}
-use Rattle.std.proofs.lemmas.List.{append_assoc, append-nil, length-set, length-take-le, take_more_set, drop-set-lt, drop-drop, drop-replicate, get_or-drop, get_or-replicate}
-use Rattle.std.proofs.lemmas.Grind.{flat_map-append}
-use Rattle.std.proofs.lemmas.List.Folds.{list_all-append}
-use Rattle.ule_types.specs.Form.{is_tick, has_few_ticks}
-use Rattle.ule_types.specs.Rules.{is_distinct, budget_from}
+-- A command more: what is charged, and what is forked.
+use Rattle.std.proofs.Common.{◌≡◌, ℕ, zero, suc, ◌+◌, ◌<◌, Bool, true, false, ◌||◌, List, [], ◌∷◌, ◌++◌, length, map, set, get_or, refl, arith, sym, ap, ◌∙◌}
+use Rattle.std.specs.Prelude.{sum, ◌==◌}
+use Rattle.std.specs.List.{flat_map}
+use Rattle.std.proofs.lemmas.List.Folds.{list_any-append}
+use Rattle.std.proofs.lemmas.List.Sums.{sum-map, sum_by-append}
+use Rattle.std.proofs.lemmas.Grind.{common_steps, flat_map-append}
+use Rattle.ule_types.specs.Commands.{greatest_of, forked_by, is_among}
+use Rattle.ule_types.specs.Rules.{budget_from, forked_in_all}
 use Rattle.ule_types.specs.declared.command.Command.{Command}
-use Rattle.ule_scenario.specs.declared.declaration.Declaration.{Declaration}
-use Rattle.ule_scenario.specs.Cut.{Line}
-use Rattle.ule_scenario.specs.declared.declaration.Declared.{Declared}
-use Rattle.ule_scenario.specs.Scenario.{declaration_line, script_line, script_lines, command_line, end_line}
-use Rattle.ule_scenario.specs.Sections.{Stops, is_spellable, charge, forked_in, are_few, IsScript, TakesScript, HasNoScript, AreScripts, TakesScripts, HasNoScripts}
-use Rattle.ule_scenario.proofs.Commands.{command_apart, script_line_apart, end_line_apart}
-use Rattle.ule_types.proofs.Repeats.{distinct_front}
-use Rattle.ule_scenario.proofs.Parts.{first_line, first_word, other_lines}
-use Rattle.ule_scenario.proofs.Runs.{exact}
-use Rattle.ule_scenario.proofs.Declarations.{script_line_declares_none, end_line_declares_none}
+use Rattle.ule_scenario.specs.Marks.{AreMarks}
 
--- the lines of scripts in two parts
-pub script_lines-append : (worker next : ℕ) (xs ys : List (List Command)) (rest : List Line) → next ≡ worker + length xs
-    → script_lines worker (xs ++ ys) ++ rest ≡ script_lines worker xs ++ (script_lines next ys ++ rest)
-script_lines-append worker next [] ys rest e =
-    let same : worker ≡ next = omega arith in rw same refl
-script_lines-append worker next (x ∷ xs) ys rest e =
-    let more = script_lines-append (worker + 1) next xs ys rest (omega arith) in
-    ap (λ lines. script_line worker ∷ lines)
-    (append_assoc (map command_line x) (script_lines (worker + 1) (xs ++ ys)) rest
-    ∙ ap (λ lines. map command_line x ++ lines) more
-    ∙ sym (append_assoc (map command_line x) (script_lines (worker + 1) xs) (script_lines next ys ++ rest)))
+-- what one script is charged with one command more
+charge_push : (worker cpus : ℕ) (xs : List Command) (c : Command) → sum (map (λ x. greatest_of x worker cpus) (xs ++ c ∷ [])) ≡ sum (map (λ x. greatest_of x worker cpus) xs) + greatest_of c worker cpus
+charge_push worker cpus xs c =
+    let f : Command → ℕ = λ x. greatest_of x worker cpus in
+    let a = sum-map f (xs ++ c ∷ []) in
+    let b = sum_by-append f xs (c ∷ []) in
+    let d = sum-map f xs in
+    omega (arith, a, b, d)
 
--- what scripts in two parts are charged
-pub budget-append : (worker next cpus : ℕ) (xs ys : List (List Command)) → next ≡ worker + length xs → budget_from worker cpus (xs ++ ys) ≡ budget_from worker cpus xs + budget_from next cpus ys
-budget-append worker next cpus [] ys e =
-    let same : worker ≡ next = omega arith in rw same (omega arith)
-budget-append worker next cpus (x ∷ xs) ys e =
-    omega (arith, budget-append (worker + 1) next cpus xs ys (omega arith))
+-- what all are charged
+pub budget_grows : (first w cpus : ℕ) (scripts : List (List Command)) (c : Command) → w < length scripts
+    → budget_from first cpus (set scripts w (get_or scripts w [] ++ c ∷ [])) ≡ budget_from first cpus scripts + greatest_of c (first + w) cpus
+budget_grows first w cpus [] c within = absurd (omega (arith, within))
+budget_grows first zero cpus (s ∷ scripts) c within =
+    let e : first + 0 ≡ first = omega arith in
+    rw e (omega (arith, charge_push first cpus s c))
+budget_grows first (suc w) cpus (s ∷ scripts) c within =
+    let e : first + suc w ≡ first + 1 + w = omega arith in
+    rw e (omega (arith, budget_grows (first + 1) w cpus scripts c (omega arith)))
 
--- the ticks of the first worker are few, and others' ticks don't count
-few_at : (cpus : ℕ) (us : List (List Command)) (v : List Command) (more : List (List Command)) → has_few_ticks cpus (us ++ v ∷ more) ≡ true → are_few (length us) cpus (count_by is_tick v) ≡ true
-few_at cpus [] v more few = few
-few_at cpus (u ∷ us) v more few = rw (ne_eqb (length (u ∷ us)) 0 (λ e. omega (arith, e))) refl
+-- a thread in lists
+either : (xs ys : List ℕ) (t : ℕ) → is_among (xs ++ ys) t ≡ (is_among xs t || is_among ys t)
+either xs ys t = list_any-append (λ u. u == t) xs ys
 
-few_push : (cpus : ℕ) (us : List (List Command)) (v : List Command) → has_few_ticks cpus us ≡ true → are_few (length us) cpus (count_by is_tick v) ≡ true
-    → has_few_ticks cpus (us ++ v ∷ []) ≡ true
-few_push cpus [] v few here = here
-few_push cpus (u ∷ us) v few here = few
+-- the second and the third of three tests change places
+turn : (a b c : Bool) → ((a || b) || c) ≡ ((a || c) || b)
+turn true b c = refl
+turn false true true = refl
+turn false true false = refl
+turn false false true = refl
+turn false false false = refl
 
--- the threads that the scripts of one worker more fork
-forks_push : (us : List (List Command)) (v : List Command) → flat_map forked_in (us ++ v ∷ []) ≡ flat_map forked_in us ++ forked_in v
-forks_push us v = flat_map-append forked_in us (v ∷ []) ∙ ap (λ ids. flat_map forked_in us ++ ids) (append-nil (forked_in v))
+-- three tests one after another
+assoc : (a b c : Bool) → (a || (b || c)) ≡ ((a || b) || c)
+assoc true b c = refl
+assoc false b c = refl
 
--- the line after threads or a script: the next script's or the last one, which declares nothing and gives no command
-pub record NextLine (declared : Declared) (cpus : ℕ) (lines : List Line) : Type 0 where
-  pub next : Line
-  pub rest : List Line
-  pub is : lines ≡ next ∷ rest
-  pub declares_none : (d : Declaration) → next ≢ declaration_line d
-  pub apart : (c : Command) → is_spellable declared cpus c ≡ true → next ≢ command_line c
-
-pub next_line : (declared : Declared) (cpus worker : ℕ) (scripts : List (List Command)) (rest : List Line) → NextLine declared cpus (script_lines worker scripts ++ end_line ∷ rest)
-next_line declared cpus worker [] rest = record { next = end_line; rest = rest; is = refl; declares_none = end_line_declares_none; apart = end_line_apart declared cpus }
-next_line declared cpus worker (v ∷ scripts) rest = record {
-  next = script_line worker;
-  rest = (map command_line v ++ script_lines (worker + 1) scripts) ++ end_line ∷ rest;
-  is = refl;
-  declares_none = script_line_declares_none worker;
-  apart = script_line_apart declared cpus worker;
-}
-
--- no command's line follows a script, where none follows the last
-stops_before : (declared : Declared) (cpus worker : ℕ) (scripts : List (List Command)) (rest : List Line) → Stops (is_spellable declared cpus) command_line rest
-    → Stops (is_spellable declared cpus) command_line (script_lines worker scripts ++ rest)
-stops_before declared cpus worker [] rest stops = stops
-stops_before declared cpus worker (v ∷ scripts) rest stops = λ c next more good e. script_line_apart declared cpus worker c good (first_line e)
-
--- lines from the start of a script on
-after_script : (u : List Command) (us : List (List Command)) (v : List Command) (vs : List (List Command)) (worker : ℕ) (x y : List Line)
-    → script_lines worker (u ∷ us) ++ x ≡ script_lines worker (v ∷ vs) ++ y
-    → map command_line u ++ (script_lines (worker + 1) us ++ x) ≡ map command_line v ++ (script_lines (worker + 1) vs ++ y)
-after_script u us v vs worker x y e =
-    sym (append_assoc (map command_line u) (script_lines (worker + 1) us) x) ∙ other_lines e ∙ append_assoc (map command_line v) (script_lines (worker + 1) vs) y
-
--- scripts up to the last line go on at least as far as those that were read
-pub scripts_longer : (declared : Declared) (cpus worker next : ℕ) (us vs : List (List Command)) (x ys : List Line) → list_all (list_all (is_spellable declared cpus)) us ≡ true
-    → list_all (list_all (is_spellable declared cpus)) vs ≡ true → next ≡ worker + length us → (0 < length us → Stops (is_spellable declared cpus) command_line x)
-    → script_lines worker us ++ x ≡ script_lines worker vs ++ end_line ∷ ys → (more : List (List Command)) × (vs ≡ us ++ more) × (x ≡ script_lines next more ++ end_line ∷ ys)
-scripts_longer declared cpus worker next [] vs x ys good good' at stops e =
-    let same : worker ≡ next = omega arith in (vs, refl, rw (← same) e)
-scripts_longer declared cpus worker next (u ∷ us) [] x ys good good' at stops e =
-    let words : codes "script" ≡ codes "end" = first_word (first_line e) in
-    absurd (omega (arith, ap (λ w. get_or w 0 0) words))
-scripts_longer declared cpus worker next (u ∷ us) (v ∷ vs) x ys good good' at stops e =
-    let parts = and_parts (list_all (is_spellable declared cpus) u) (list_all (list_all (is_spellable declared cpus)) us) good in
-    let parts' = and_parts (list_all (is_spellable declared cpus) v) (list_all (list_all (is_spellable declared cpus)) vs) good' in
-    let ends = stops (omega arith) in
-    let line = next_line declared cpus (worker + 1) vs ys in
-    let same = after_script u us v vs worker x (end_line ∷ ys) e ∙ ap (λ lines. map command_line v ++ lines) line.is in
-    let here = exact (is_spellable declared cpus) command_line (command_apart declared cpus) u v (script_lines (worker + 1) us ++ x) line.next line.rest parts.0 parts'.0 same (λ c after good over. line.apart c good (first_line over)) (stops_before declared cpus (worker + 1) us x ends) in
-    let later = scripts_longer declared cpus (worker + 1) next us vs x ys parts.1 parts'.1 (omega arith) (λ _. ends) (here.1 ∙ sym line.is) in
-    (later.0, joined u v us vs later.0 here.0 later.1, later.2)
+-- the threads that are forked, with one command more
+pub forks_grow : (w : ℕ) (scripts : List (List Command)) (c : Command) → w < length scripts
+    → (t : ℕ) → is_among (forked_in_all (set scripts w (get_or scripts w [] ++ c ∷ []))) t ≡ is_among (forked_in_all scripts ++ forked_by c) t
+forks_grow w [] c within t = absurd (omega (arith, within))
+forks_grow zero (s ∷ scripts) c within t =
+    let f = is_among (flat_map forked_by s) t in
+    let g = is_among (forked_in_all scripts) t in
+    let h = is_among (forked_by c) t in
+    either (flat_map forked_by (s ++ c ∷ [])) (forked_in_all scripts) t
+    ∙ ap (λ b. b || g) (ap (λ l. is_among l t) (flat_map-append forked_by s (c ∷ [])) ∙ either (flat_map forked_by s) (flat_map forked_by (c ∷ [])) t ∙ ap (λ b. f || b) (last (forked_by c) t))
+    ∙ turn f h g
+    ∙ sym (either (flat_map forked_by s ++ forked_in_all scripts) (forked_by c) t ∙ ap (λ b. b || h) (either (flat_map forked_by s) (forked_in_all scripts) t))
   where
-    joined : (u v : List Command) (us vs more : List (List Command)) → u ≡ v → vs ≡ us ++ more → v ∷ vs ≡ (u ∷ us) ++ more
-    joined u v us vs more same e = cc
+    last : (xs : List ℕ) (t : ℕ) → is_among (xs ++ []) t ≡ is_among xs t
+    last [] t = refl
+    last (x ∷ xs) t = ap (λ b. (x == t) || b) (last xs t)
+forks_grow (suc w) (s ∷ scripts) c within t =
+    let f = is_among (flat_map forked_by s) t in
+    let g = is_among (forked_in_all scripts) t in
+    let h = is_among (forked_by c) t in
+    either (flat_map forked_by s) _ t
+    ∙ ap (λ b. f || b) (forks_grow w scripts c (omega arith) t ∙ either (forked_in_all scripts) (forked_by c) t)
+    ∙ assoc f g h
+    ∙ sym (either (flat_map forked_by s ++ forked_in_all scripts) (forked_by c) t ∙ ap (λ b. b || h) (either (flat_map forked_by s) (forked_in_all scripts) t))
 
--- at the start no script is read
-pub starts : (declared : Declared) (cpus : ℕ) (lines : List Line) (scripts : List (List Command)) → scripts ≡ replicate 16 [] → TakesScripts declared 0 cpus lines scripts lines
-starts declared cpus lines scripts e = rw e (record {
-  front = refl;
-  allowed = record { each = refl; forks = refl; ticks = or-true _; budget = omega arith };
-  number = refl;
-  others = refl;
-  stops = λ some. absurd (omega arith);
-})
+-- the same threads in another order
+pub same_marks : (table : List Bool) (ids others : List ℕ) → ((t : ℕ) → is_among others t ≡ is_among ids t) → AreMarks table ids → AreMarks table others
+same_marks table ids others e m = record { size = m.size; each = λ t. m.each t ∙ sym (e t) }
 
-module _ (declared : Declared) (workers cpus : ℕ) (lines : List Line) (old : List (List Command)) (rest : List Line) (taken : TakesScripts declared workers cpus lines old rest) (left : workers < cpus) (few : cpus ≤ 16) (spent : ℕ) (forked : List ℕ) (sum : spent ≡ budget_from 0 cpus (take workers old)) (noted : forked ≡ flat_map forked_in (take workers old)) where
-  taken_number : length (take workers old) ≡ workers
-  taken_number = length-take-le workers old (omega (arith, taken.number))
+-- the same threads, with none more
+pub no_more : (table : List Bool) (ids : List ℕ) → AreMarks table ids → AreMarks table (ids ++ [])
+no_more table ids m = same_marks table ids (ids ++ []) (λ t. grind (arith, common_steps)) m
 
-  -- the next worker has no command yet
-  pub next_is_empty : get_or old workers [] ≡ []
-  next_is_empty =
-      let at : get_or (drop workers old) 0 [] ≡ get_or old workers [] = get_or-drop workers old 0 [] ∙ ap (λ n. get_or old n []) (omega arith) in
-      sym at ∙ ap (λ scripts. get_or scripts 0 []) taken.others ∙ get_or-replicate (16 - workers) 0 [] [] (omega arith)
-
-  -- one script more
-  pub takes_more : (script : List Command) (after : List Line) (new : List (List Command)) → TakesScript declared workers cpus spent forked rest script after
-      → new ≡ set old workers script
-      → TakesScripts declared (workers + 1) cpus lines new after × (spent + charge workers cpus script ≡ budget_from 0 cpus (take (workers + 1) new)) × (forked ++ forked_in script ≡ flat_map forked_in (take (workers + 1) new))
-  takes_more script after new here put =
-      let within : workers < length old = omega (arith, taken.number) in
-      let front : take (workers + 1) new ≡ take workers old ++ script ∷ [] = ap (take (workers + 1)) put ∙ take_more_set old workers script within in
-      let back : drop (workers + 1) new ≡ drop (workers + 1) old = ap (drop (workers + 1)) put ∙ drop-set-lt (workers + 1) old workers script (omega arith) in
-      let budget : budget_from 0 cpus (take workers old ++ script ∷ []) ≡ budget_from 0 cpus (take workers old) + charge workers cpus script =
-      omega (arith, budget-append 0 workers cpus (take workers old) (script ∷ []) (omega (arith, taken_number))) in
-      let forks : forked ++ forked_in script ≡ flat_map forked_in (take (workers + 1) new) =
-      ap (λ ids. ids ++ forked_in script) noted ∙ sym (ap (flat_map forked_in) front ∙ forks_push (take workers old) script) in (
-        record {
-          front = taken.front ∙ ap (λ ls. script_lines 0 (take workers old) ++ ls) (here.front ∙ ap (λ ls. script_line workers ∷ ls) (ap (λ ls. ls ++ after) (sym (append-nil (map command_line script)))))
-              ∙ sym (script_lines-append 0 workers (take workers old) (script ∷ []) after (omega (arith, taken_number))) ∙ ap (λ scripts. script_lines 0 scripts ++ after) (sym front);
-          allowed = record {
-            each = ap (list_all (list_all (is_spellable declared cpus))) front ∙ list_all-append (list_all (is_spellable declared cpus)) (take workers old) (script ∷ [])
-                ∙ and_from (list_all (list_all (is_spellable declared cpus)) (take workers old)) (list_all (is_spellable declared cpus) script && true) taken.allowed.each (and_from (list_all (is_spellable declared cpus) script) true here.allowed.each refl);
-            forks = ap is_distinct (sym forks) ∙ here.allowed.forks;
-            ticks = ap (has_few_ticks cpus) front ∙ few_push cpus (take workers old) script taken.allowed.ticks (ap (λ n. are_few n cpus (count_by is_tick script)) taken_number ∙ here.allowed.ticks);
-            budget = rw front (omega (arith, budget, here.allowed.budget));
-          };
-          number = ap length put ∙ length-set old workers script ∙ taken.number;
-          others = back ∙ sym (drop-drop 1 workers old) ∙ ap (drop 1) taken.others ∙ drop-replicate 1 (16 - workers) [] ∙ ap (λ n. replicate n []) (omega arith);
-          stops = λ _. here.stops;
-        },
-        rw front (omega (arith, budget)),
-        forks,
-      )
-
-  allowed_here : (v : List Command) (more : List (List Command)) → AreScripts declared cpus (take workers old ++ v ∷ more) → IsScript declared workers cpus spent forked v
-  allowed_here v more allowed =
-      let each = and_parts (list_all (list_all (is_spellable declared cpus)) (take workers old)) (list_all (list_all (is_spellable declared cpus)) (v ∷ more)) (sym (list_all-append (list_all (is_spellable declared cpus)) (take workers old) (v ∷ more)) ∙ allowed.each) in
-      record {
-        each = (and_parts (list_all (is_spellable declared cpus) v) (list_all (list_all (is_spellable declared cpus)) more) each.1).0;
-        forks = distinct_front (forked ++ forked_in v) (flat_map forked_in more)
-            (ap (λ ids. is_distinct ((ids ++ forked_in v) ++ flat_map forked_in more)) noted
-            ∙ ap is_distinct (append_assoc (flat_map forked_in (take workers old)) (forked_in v) (flat_map forked_in more) ∙ sym (flat_map-append forked_in (take workers old) (v ∷ more))) ∙ allowed.forks);
-        ticks = ap (λ n. are_few n cpus (count_by is_tick v)) (sym taken_number) ∙ few_at cpus (take workers old) v more allowed.ticks;
-        budget = omega (arith, allowed.budget, budget-append 0 workers cpus (take workers old) (v ∷ more) (omega (arith, taken_number)));
-      }
-
-  -- where the next worker has no script, the workers have none
-  pub none_from_worker : HasNoScript declared workers cpus spent forked rest → HasNoScripts declared cpus lines
-  none_from_worker none scripts more allowed number e =
-      let run = scripts_longer declared cpus 0 workers (take workers old) scripts rest more taken.allowed.each allowed.each (omega (arith, taken_number)) (λ some. taken.stops (omega (arith, taken_number))) (sym taken.front ∙ e) in
-      by_left run.0 run.1 run.2
-    where
-      by_left : (tail : List (List Command)) → scripts ≡ take workers old ++ tail → rest ≡ script_lines workers tail ++ end_line ∷ more → ⊥
-      by_left [] joined follows = omega (arith, number, ap length joined, ap length (append-nil (take workers old)), taken_number)
-      by_left (v ∷ tail) joined follows =
-          let line = next_line declared cpus (workers + 1) tail more in
-          none v line.next line.rest (allowed_here v tail (subst (AreScripts declared cpus) joined allowed)) line.apart
-          (follows ∙ ap (λ ls. script_line workers ∷ ls) (append_assoc (map command_line v) (script_lines (workers + 1) tail) (end_line ∷ more) ∙ ap (λ ls. map command_line v ++ ls) line.is))
+-- what all workers are charged, with one command more
+pub charged_more : (w cpus : ℕ) (scripts : List (List Command)) (c : Command) → w < length scripts
+    → budget_from 0 cpus (set scripts w (get_or scripts w [] ++ c ∷ [])) ≡ budget_from 0 cpus scripts + greatest_of c w cpus
+charged_more w cpus scripts c within =
+    let e : 0 + w ≡ w = omega arith in
+    budget_grows 0 w cpus scripts c within ∙ ap (λ (n : ℕ). budget_from 0 cpus scripts + greatest_of c n cpus) e

@@ -1,173 +1,121 @@
--- Scenario text: how the words of a line spell a part of a setup, and the bytes a setup.
-use Rattle.std.specs.Prelude.{◌≡◌, ℕ, ◌+◌, ◌≤◌, Bool, true, false, Option, Some, None, unwrap_or, List, [], ◌∷◌, ◌++◌, length, map, take, codes}
-use Rattle.std.specs.List.{flat_map}
-use Rattle.std.specs.Fmt.{decimal, signed_decimal}
-use Rattle.ule_score.specs.declared.record.Settings.{Settings}
-use Rattle.ule_types.specs.Form.{IsOfForm, default_settings}
-use Rattle.ule_types.specs.declared.command.Command.{Command}
-use Rattle.ule_types.specs.declared.command.Command.TheVariants.{Tick, Time, Yield, Resched, Sleep, Wake, Lend, Unlend, Renice, Fork, Exit, Idle, Balance, Look}
+-- What the bytes of a scenario spell: a setup, or the first refusal.
+use Rattle.std.specs.Prelude.{ℕ, ◌≡◌, ◌+◌, Bool, ◌||◌, ◌==◌, nat_lt, if◌then◌else◌, Option, Some, None, List, [], ◌∷◌, ◌++◌, length, fold, Result, Ok, Err}
+use Rattle.std.specs.List.{list_any}
+use Rattle.ule_text.specs.Words.{is_unprinted}
+use Rattle.ule_types.specs.declared.setup.Setup.{Setup}
 use Rattle.ule_types.specs.declared.fault.ScenarioFault.{ScenarioFault}
 use Rattle.ule_types.specs.declared.fault.ScenarioFault.TheVariants.{Refused, Memory}
-use Rattle.ule_types.specs.declared.setup.Form.{Form}
-use Rattle.ule_types.specs.declared.setup.Form.TheVariants as form
-use Rattle.ule_types.specs.declared.setup.ThreadSpec.{ThreadSpec}
-use Rattle.ule_types.specs.declared.setup.Setup.{Setup}
-use Rattle.ule_scenario.specs.Cut.{Word, Line, IsCut}
-use Rattle.ule_scenario.specs.declared.declaration.Declaration.{Declaration}
-use Rattle.ule_scenario.specs.declared.declaration.Declaration.TheVariants.{Queued, Unborn}
+use Rattle.ule_types.specs.Rules.{KeepsRules}
+use Rattle.ule_scenario.specs.Tokens.{tokens_of}
+use Rattle.ule_scenario.specs.Forms.{Line, word, name}
+use Rattle.ule_scenario.specs.Reading.{Reading, no_line}
+use Rattle.ule_scenario.specs.Reasons.{reason_of}
+use Rattle.ule_scenario.specs.Effects.{with_line}
+use Rattle.ule_scenario.specs.declared.reason.Reason.{Reason}
+use Rattle.ule_scenario.specs.declared.reason.Refusal.{Refusal}
 
--- the first line of a scenario
-abbrev pub header_line : Line
-header_line = codes "ule-scenario" ∷ decimal 1 ∷ []
+-- ---- a line
 
--- the line that seeds the balance count of CPU 0
-abbrev pub jitter_line : ℕ → Line
-jitter_line n = codes "jitter" ∷ decimal n ∷ []
+-- whether a line is blank or a comment
+abbrev pub means_nothing : Line → Bool
+means_nothing line = (length line == 0) || (word line 0).comment
 
--- the line that says how many CPUs there are
-abbrev pub cpus_line : ℕ → Line
-cpus_line n = codes "cpus" ∷ decimal n ∷ []
+-- a refusal at a line, with no detail
+abbrev pub refused : ℕ → ℕ → Result Reading Refusal
+refused line reason = Err (record { line = line; reason = reason; detail = 0 })
 
--- the class of a thread, and its nice value or its base priority
-abbrev pub form_words : Form → List Word
-form_words (form.Ts n) = codes "ts" ∷ signed_decimal n ∷ []
-form_words (form.Ithd p) = codes "ithd" ∷ decimal p ∷ []
-form_words (form.Rt p) = codes "rt" ∷ decimal p ∷ []
-form_words (form.Fifo p) = codes "fifo" ∷ decimal p ∷ []
-form_words (form.Idle p) = codes "idle" ∷ decimal p ∷ []
+-- a line by the first reason against it
+abbrev pub judged : ℕ → Reading → Line → Option Reason → Result Reading Refusal
+judged n r line None = Ok (with_line r line (name line 0))
+judged n r line (Some x) = Err (record { line = n; reason = x.reason; detail = x.detail })
 
--- the word of a thread that is bound
-abbrev pub bound_words : Bool → List Word
-bound_words true = codes "bound" ∷ []
-bound_words false = []
+-- line n by its words
+abbrev pub after_words : ℕ → Reading → Line → Result Reading Refusal
+after_words n r line = if means_nothing line then Ok r else judged n r line (reason_of r line)
 
--- the line that declares a thread
-abbrev pub thread_line : ThreadSpec → Line
-thread_line spec = codes "thread" ∷ decimal spec.id ∷ (form_words spec.form ++ decimal spec.cpu ∷ bound_words spec.bound)
+-- line n by its bytes: a byte that isn't printed is told before all else, 17
+abbrev pub after_bytes : ℕ → Reading → List ℕ → Result Reading Refusal
+after_bytes n r bytes = if list_any is_unprinted bytes then refused n 17 else after_words n r (tokens_of bytes)
 
--- the line that begins the script of a worker
-abbrev pub script_line : ℕ → Line
-script_line worker = codes "script" ∷ decimal worker ∷ []
+-- line n after the lines before it; after a refusal nothing else is told
+abbrev pub next_line : ℕ → Result Reading Refusal → List ℕ → Result Reading Refusal
+next_line n (Ok r) bytes = after_bytes n r bytes
+next_line n (Err x) bytes = Err x
 
--- the line that gives a command
-abbrev pub command_line : Command → Line
-command_line Tick = codes "tick" ∷ []
-command_line (Time k) = codes "time" ∷ decimal k ∷ []
-command_line Yield = codes "yield" ∷ []
-command_line Resched = codes "resched" ∷ []
-command_line (Sleep channel) = codes "sleep" ∷ decimal channel ∷ []
-command_line (Wake t) = codes "wake" ∷ decimal t ∷ []
-command_line (Lend t p) = codes "lend" ∷ decimal t ∷ decimal p ∷ []
-command_line (Unlend t) = codes "unlend" ∷ decimal t ∷ []
-command_line (Renice t n) = codes "renice" ∷ decimal t ∷ signed_decimal n ∷ []
-command_line (Fork t) = codes "fork" ∷ decimal t ∷ []
-command_line Exit = codes "exit" ∷ []
-command_line Idle = codes "idle" ∷ []
-command_line Balance = codes "balance" ∷ []
-command_line (Look c) = codes "look" ∷ decimal c ∷ []
+-- the lines so far: how many they are, and what they give, or the first refusal
+pub record LinesRead : Type 0 where
+  pub lines : ℕ
+  pub reading : Result Reading Refusal
 
--- the scripts of the workers from this one on, each below its line
-abbrev pub script_lines : ℕ → List (List Command) → List Line
-script_lines worker [] = []
-script_lines worker (script ∷ scripts) = script_line worker ∷ (map command_line script ++ script_lines (worker + 1) scripts)
+-- before the first line
+abbrev pub no_lines : LinesRead
+no_lines = record { lines = 0; reading = Ok no_line }
 
--- the last line of a scenario
-abbrev pub end_line : Line
-end_line = codes "end" ∷ []
+-- the lines so far with one more
+abbrev pub after_line : LinesRead → List ℕ → LinesRead
+after_line t bytes = record { lines = t.lines + 1; reading = next_line (t.lines + 1) t.reading bytes }
 
--- the settings that a scenario gives
-pub record GivenSettings : Type 0 where
-  pub interact : Option ℕ
-  pub slice : Option ℕ
-  pub preempt : Option ℕ
-  pub steal : Option ℕ
+-- ---- a text
 
--- the settings of a scenario: one that it doesn't give has its default
-abbrev pub settings_of : GivenSettings → Settings
-settings_of given = record {
-  interact = unwrap_or given.interact default_settings.interact;
-  slice = unwrap_or given.slice default_settings.slice;
-  preempt = unwrap_or given.preempt default_settings.preempt;
-  steal = unwrap_or given.steal default_settings.steal;
-}
+-- a text so far: what its lines tell, and the bytes since the last newline
+pub record TextRead : Type 0 where
+  pub told : LinesRead
+  pub line : List ℕ
 
--- the line that gives a setting
-abbrev pub set_line : Word → ℕ → Line
-set_line name n = codes "set" ∷ name ∷ decimal n ∷ []
+-- before the first byte
+abbrev pub no_text : TextRead
+no_text = record { told = no_lines; line = [] }
 
--- the line of a setting, where it is given
-abbrev pub setting_lines : Word → Option ℕ → List Line
-setting_lines name None = []
-setting_lines name (Some n) = set_line name n ∷ []
+-- one more byte: a newline (10) ends a line
+abbrev pub after_byte : TextRead → ℕ → TextRead
+after_byte s b = if b == 10 then record { told = after_line s.told s.line; line = [] } else record { told = s.told; line = s.line ++ b ∷ [] }
 
--- the lines of the settings that are given, in their order
-abbrev pub given_lines : GivenSettings → List Line
-given_lines given =
-    setting_lines (codes "interact") given.interact ++ setting_lines (codes "slice") given.slice ++
-    setting_lines (codes "preempt") given.preempt ++ setting_lines (codes "steal") given.steal
+-- what a text tells: a last line without a newline counts if it has a byte
+abbrev pub at_end : TextRead → LinesRead
+at_end s = if nat_lt 0 (length s.line) then after_line s.told s.line else s.told
 
--- the lines give the settings, each by a line at its place, or by none where it has its default
-pub record SpellsSettings (lines : List Line) (s : Settings) : Type 0 where
-  pub given : GivenSettings
-  pub whole : lines ≡ given_lines given
-  pub values : s ≡ settings_of given
+-- the answer at the end: a text without a line that means something has no header, 1, and one without `end` is cut short, 18
+abbrev pub answer_of : ℕ → Result Reading Refusal → Result Reading Refusal
+answer_of n (Err x) = Err x
+answer_of n (Ok r) = if r.place == 0 then refused (n + 1) 1 else (if r.place == 9 then Ok r else refused (n + 1) 18)
 
--- the line of a declaration
-abbrev pub declaration_line : Declaration → Line
-declaration_line (Queued spec) = thread_line spec
-declaration_line (Unborn t) = codes "unborn" ∷ decimal t ∷ []
+-- the answer of the lines of a text
+abbrev pub answer : LinesRead → Result Reading Refusal
+answer t = answer_of t.lines t.reading
 
--- the thread that a declaration queues at the start, if it does
-abbrev pub queued_by : Declaration → List ThreadSpec
-queued_by (Queued spec) = spec ∷ []
-queued_by (Unborn t) = []
+-- what the bytes of a scenario spell, or the first refusal: a text of more than 1,048,576 bytes is told before all else, 5
+abbrev pub read_bytes : List ℕ → Result Reading Refusal
+read_bytes bytes = if nat_lt 1048576 (length bytes) then refused 0 5 else answer (at_end (fold after_byte no_text bytes))
 
--- the unborn thread of a declaration, if it is of one
-abbrev pub unborn_in : Declaration → List ℕ
-unborn_in (Queued spec) = []
-unborn_in (Unborn t) = t ∷ []
+-- ---- a setup
 
--- the lines declare the threads and the unborn ones, mixed in any order
-pub record SpellsThreads (lines : List Line) (threads : List ThreadSpec) (unborn : List ℕ) : Type 0 where
-  pub declarations : List Declaration
-  pub each : lines ≡ map declaration_line declarations
-  pub queued : threads ≡ flat_map queued_by declarations
-  pub waiting : unborn ≡ flat_map unborn_in declarations
+-- a reading keeps the rules of a setup
+abbrev pub KeepsAll : Reading → Type 0
+KeepsAll r = KeepsRules r.settings r.jitter r.cpus r.groups r.threads r.unborn r.scripts r.turns
 
--- the lines are the scripts of the workers of so many CPUs, each below its line
-abbrev pub SpellsScripts : List Line → ℕ → List (List Command) → Type 0
-SpellsScripts lines cpus scripts = lines ≡ script_lines 0 (take cpus scripts)
+-- a reading gives these fields of a setup
+pub record IsSetupOf (r : Reading) (s : Setup) : Type 0 where
+  pub settings : s.settings ≡ r.settings
+  pub jitter : s.jitter ≡ r.jitter
+  pub cpus : s.cpus ≡ r.cpus
+  pub groups : s.groups ≡ r.groups
+  pub threads : s.threads ≡ r.threads
+  pub unborn : s.unborn ≡ r.unborn
+  pub scripts : s.scripts ≡ r.scripts
+  pub turns : s.turns ≡ r.turns
 
--- the lines spell a setup, section by section
-pub record SpellsSetup (lines : List Line) (s : Setup) : Type 0 where
-  pub setting : List Line
-  pub declaring : List Line
-  pub commanding : List Line
-  pub whole : lines ≡ header_line ∷ (setting ++ jitter_line s.jitter ∷ cpus_line s.cpus ∷ (declaring ++ (commanding ++ end_line ∷ [])))
-  pub settings : SpellsSettings setting s.settings
-  pub threads : SpellsThreads declaring s.threads s.unborn
-  pub scripts : SpellsScripts commanding s.cpus s.scripts
-
--- the bytes, 1,048,576 at most, are lines that spell a setup of the form so far
+-- the bytes spell a setup
 pub record Spells (bytes : List ℕ) (s : Setup) : Type 0 where
-  pub limit : length bytes ≤ 1048576
-  pub lines : List Line
-  pub are_lines : IsCut bytes lines
-  pub spelled : SpellsSetup lines s
-  pub form : IsOfForm s
+  pub reading : Reading
+  pub read : read_bytes bytes ≡ Ok reading
+  pub gives : IsSetupOf reading s
 
--- two setups with the same fields
-pub record IsSame (s t : Setup) : Type 0 where
-  pub settings : s.settings ≡ t.settings
-  pub jitter : s.jitter ≡ t.jitter
-  pub cpus : s.cpus ≡ t.cpus
-  pub groups : s.groups ≡ t.groups
-  pub threads : s.threads ≡ t.threads
-  pub unborn : s.unborn ≡ t.unborn
-  pub scripts : s.scripts ≡ t.scripts
-  pub turns : s.turns ≡ t.turns
+-- why there is no setup: the first refusal; want of memory is free
+abbrev pub IsFaultFor : ScenarioFault → Result Reading Refusal → Type 0
+IsFaultFor (Refused line reason detail) told = told ≡ Err (record { line = line; reason = reason; detail = detail })
+IsFaultFor Memory told = Unit {0}
 
--- what makes a reader give up: the bytes spell no setup, and no reason is told yet; want of memory is free
-abbrev pub IsCause : List ℕ → ScenarioFault → Type 0
-IsCause bytes (Refused line reason detail) = (line ≡ 0) × (reason ≡ 0) × (detail ≡ 0) × ((s : Setup) → ¬ Spells bytes s)
-IsCause bytes Memory = Unit {0}
+-- the answer of a reader is what is told of the bytes
+abbrev pub IsReadAs : Result Setup ScenarioFault → Result Reading Refusal → Type 0
+IsReadAs (Ok s) told = (r : Reading) × (told ≡ Ok r) × IsSetupOf r s
+IsReadAs (Err e) told = IsFaultFor e told

@@ -1,159 +1,108 @@
-//! The lines of a scenario above its scripts, one reader for each kind, and the last line.
+// A line, byte by byte.
+ghost use Rattle.std.specs.Prelude.{◌≡◌, ◌++◌, ◌∷◌, [], List, ℕ};
+ghost use Rattle.ule_text.specs.Words.{Cut, cut_at, no_cut, word_ended, is_unprinted};
+ghost use Rattle.ule_scenario.specs.WordsKept.{pieces_kept, line_kept};
 
-ghost use Rattle.std.specs.Prelude.{◌≡◌, ◌≢◌, ℕ, ◌^◌, ◌<◌, ◌≤◌, nat_lt, Bool, ◌||◌, [], ◌∷◌, IfSome, IfNone, IsTrue, ◌↔◌, codes};
-ghost use Rattle.std.specs.Fmt.{decimal};
-ghost use Rattle.ule_types.specs.declared.setup.ThreadSpec.{ThreadSpec};
-ghost use Rattle.ule_scenario.specs.declared.declaration.Declaration.{Declaration};
-ghost use Rattle.ule_scenario.specs.Cut.{words_of};
-ghost use Rattle.ule_scenario.specs.Scenario.{header_line, jitter_line, cpus_line, set_line, bound_words, thread_line, declaration_line, script_line, end_line};
-ghost use Rattle.ule_scenario.specs.Sections.{is_thread, is_declaration};
+use crate::token::Token;
+use crate::words::Words;
+use ule_text::WordSoFar;
 
-use crate::class::form_of;
-use crate::cut::Words;
-use crate::declaration::Declaration;
-use ule_prio::{Cpu, ThreadId};
-use ule_types::ThreadSpec;
+/// What is kept of a line up to a byte: its words, and the word since the last space.
+#[derive(Drop)]
+pub struct Pieces {
+    pub(crate) words: Words,
+    word: WordSoFar,
+}
 
-/// Whether a line has this word alone.
-pub(crate) fn has_word(line: &[u8], word: &[u8]) -> bool
-    ensures { IsTrue result ↔ (words_of line.now ≡ word.now ∷ []) }
-{
-    match Words::of(line).after(word) {
-        Some(words) => words.is_end(),
-        None => false,
+impl Pieces {
+    /// No byte.
+    fn none() -> Self
+        ensures { result ≡ pieces_kept no_cut }
+    {
+        Pieces {
+            words: Words::none(),
+            word: WordSoFar::none(),
+        }
+    }
+
+    /// Forgets the bytes.
+    fn clear(&mut self)
+        ensures { self.new ≡ pieces_kept no_cut }
+    {
+        self.words.clear();
+        self.word = WordSoFar::none();
+    }
+
+    /// A space, or the end of the line.
+    #[tactic(auto, using(crate::proofs::Lines::with_none, crate::proofs::Lines::with_some, crate::proofs::Lines::blank_is))]
+    pub fn end_word(&mut self)
+        ensures { (c : Cut) → self.old ≡ pieces_kept c → self.new ≡ pieces_kept (word_ended c) }
+    {
+        if !self.word.is_blank() {
+            self.words.push(Token::of(&self.word));
+            self.word = WordSoFar::none();
+        }
+    }
+
+    /// One more byte.
+    fn push(&mut self, b: u8)
+        ensures { (c : Cut) → self.old ≡ pieces_kept c → self.new ≡ pieces_kept (cut_at c b) }
+    {
+        if b == b' ' {
+            self.end_word();
+        } else {
+            self.word.push(b);
+        }
     }
 }
 
-/// The number of a line that has a keyword and a number, if it is in this range.
-pub(crate) fn number_after(line: &[u8], keyword: &[u8], least: u32, greatest: u32) -> Option<u32>
-    ensures found { IfSome result (λ n. words_of line.now ≡ keyword.now ∷ decimal n ∷ []) }
-    ensures from { IfSome result (λ n. least ≤ n) }
-    ensures within { IfSome result (λ n. n ≤ greatest) }
-    ensures none { IfNone result ((n : ℕ) → least ≤ n → n ≤ greatest → words_of line.now ≢ keyword.now ∷ decimal n ∷ []) }
+/// Whether a byte may not stand in a line.
+fn is_unprinted(b: u8) -> bool
+    ensures { result ≡ is_unprinted b }
 {
-    let words = Words::of(line).after(keyword)?;
-    words.last_number(least, greatest)
+    b < 32 || b > 126
 }
 
-/// Whether a line has this keyword and this number.
-fn has_number(line: &[u8], keyword: &[u8], number: u32) -> bool
-    ensures { IsTrue result ↔ (words_of line.now ≡ keyword.now ∷ decimal number ∷ []) }
-{
-    number_after(line, keyword, number, number).is_some()
+/// What is kept of a line of which more bytes may come.
+#[derive(Drop)]
+pub struct LineSoFar {
+    /// Whether it has a byte.
+    pub(crate) any: bool,
+    /// Whether it has a byte that may not stand there.
+    pub(crate) bad: bool,
+    pub(crate) pieces: Pieces,
 }
 
-pub(crate) fn is_header(line: &[u8]) -> bool
-    ensures { IsTrue result ↔ (words_of line.now ≡ header_line) }
-{
-    has_number(line, b"ule-scenario", 1)
-}
-
-/// The number that a line gives this setting, if it is in this range.
-pub(crate) fn setting_of(line: &[u8], name: &[u8], least: u32, greatest: u32) -> Option<u32>
-    ensures found { IfSome result (λ n. words_of line.now ≡ set_line name.now n) }
-    ensures from { IfSome result (λ n. least ≤ n) }
-    ensures within { IfSome result (λ n. n ≤ greatest) }
-    ensures none { IfNone result ((n : ℕ) → least ≤ n → n ≤ greatest → words_of line.now ≢ set_line name.now n) }
-{
-    let words = Words::of(line).after(b"set")?;
-    let words = words.after(name)?;
-    words.last_number(least, greatest)
-}
-
-pub(crate) fn jitter_of(line: &[u8]) -> Option<u32>
-    ensures found { IfSome result (λ n. words_of line.now ≡ jitter_line n) }
-    ensures within { IfSome result (λ n. n < 2 ^ 32) }
-    ensures none { IfNone result ((n : ℕ) → n < 2 ^ 32 → words_of line.now ≢ jitter_line n) }
-{
-    number_after(line, b"jitter", 0, u32::MAX)
-}
-
-pub(crate) fn cpus_of(line: &[u8]) -> Option<u8>
-    ensures found { IfSome result (λ n. words_of line.now ≡ cpus_line n) }
-    ensures from { IfSome result (λ n. 1 ≤ n) }
-    ensures within { IfSome result (λ n. n ≤ 16) }
-    ensures none { IfNone result ((n : ℕ) → 1 ≤ n → n ≤ 16 → words_of line.now ≢ cpus_line n) }
-{
-    let cpus = number_after(line, b"cpus", 1, 16)?;
-    Some(cpus as u8)
-}
-
-/// Whether the line begins the script of this worker.
-pub(crate) fn is_script(line: &[u8], worker: u8) -> bool
-    ensures { IsTrue result ↔ (words_of line.now ≡ script_line worker) }
-{
-    has_number(line, b"script", u32::from(worker))
-}
-
-/// The CPU that stands next, one of so many, and whether the thread is bound to it, with nothing
-/// after that. It is bound where there are several CPUs.
-fn place_of(words: &Words<'_>, cpus: u8) -> Option<(Cpu, bool)>
-    requires least { 1 ≤ cpus }
-    requires greatest { cpus ≤ 16 }
-    ensures found { IfSome result (λ r. words.now ≡ decimal r.0 ∷ bound_words r.1) }
-    ensures within { IfSome result (λ r. r.0 < cpus) }
-    ensures bound { IfSome result (λ r. IsTrue (nat_lt cpus 2 || r.1)) }
-    ensures none { IfNone result ((c : ℕ) (b : Bool) → c < cpus → IsTrue (nat_lt cpus 2 || b) → words.now ≢ decimal c ∷ bound_words b) }
-{
-    let (cpu, words) = words.number(u32::from(cpus) - 1)?;
-    let bound = words.bound()?;
-    if cpus > 1 && !bound {
-        return None;
+impl LineSoFar {
+    /// No byte.
+    pub fn none() -> Self
+        ensures { result ≡ line_kept [] }
+    {
+        LineSoFar {
+            any: false,
+            bad: false,
+            pieces: Pieces::none(),
+        }
     }
-    Some((Cpu(cpu as u8), bound))
-}
 
-/// The thread that a line queues at the start on so many CPUs. It is bound where there are several.
-fn thread_of(line: &[u8], cpus: u8) -> Option<ThreadSpec>
-    requires least { 1 ≤ cpus }
-    requires greatest { cpus ≤ 16 }
-    ensures found { IfSome result (λ spec. words_of line.now ≡ thread_line spec) }
-    ensures within { IfSome result (λ spec. IsTrue (is_thread cpus spec)) }
-    ensures none { IfNone result ((spec : ThreadSpec) → IsTrue (is_thread cpus spec) → words_of line.now ≢ thread_line spec) }
-{
-    let words = Words::of(line).after(b"thread")?;
-    let (id, words) = words.number(255)?;
-    let (form, words) = form_of(&words)?;
-    let (cpu, bound) = place_of(&words, cpus)?;
-    Some(ThreadSpec {
-        id: ThreadId(id as u8),
-        form,
-        cpu,
-        bound,
-    })
-}
-
-/// The unborn thread that a line declares on so many CPUs. There is none where there are several.
-fn unborn_of(line: &[u8], cpus: u8) -> Option<ThreadId>
-    ensures found { IfSome result (λ t. words_of line.now ≡ codes "unborn" ∷ decimal t ∷ []) }
-    ensures within { IfSome result (λ t. t < 256) }
-    ensures alone { IfSome result (λ t. cpus < 2) }
-    ensures none { IfNone result ((t : ℕ) → t < 256 → cpus < 2 → words_of line.now ≢ codes "unborn" ∷ decimal t ∷ []) }
-{
-    if cpus > 1 {
-        return None;
+    /// Forgets the bytes.
+    pub fn clear(&mut self)
+        ensures { self.new ≡ line_kept [] }
+    {
+        self.any = false;
+        self.bad = false;
+        self.pieces.clear();
     }
-    let t = number_after(line, b"unborn", 0, 255)?;
-    Some(ThreadId(t as u8))
-}
 
-/// What a line declares on so many CPUs.
-pub(crate) fn declaration_of(line: &[u8], cpus: u8) -> Option<Declaration>
-    requires least { 1 ≤ cpus }
-    requires greatest { cpus ≤ 16 }
-    ensures found { IfSome result (λ d. words_of line.now ≡ declaration_line d) }
-    ensures within { IfSome result (λ d. IsTrue (is_declaration cpus d)) }
-    ensures none { IfNone result ((d : Declaration) → IsTrue (is_declaration cpus d) → words_of line.now ≢ declaration_line d) }
-{
-    if let Some(spec) = thread_of(line, cpus) {
-        return Some(Declaration::Queued(spec));
+    /// One more byte, which is no newline.
+    #[tactic(auto, using(crate::proofs::Lines::line_grows))]
+    pub fn push(&mut self, b: u8)
+        ensures { (bytes : List ℕ) → self.old ≡ line_kept bytes → self.new ≡ line_kept (bytes ++ b ∷ []) }
+    {
+        self.any = true;
+        if is_unprinted(b) {
+            self.bad = true;
+        }
+        self.pieces.push(b);
     }
-    let t = unborn_of(line, cpus)?;
-    Some(Declaration::Unborn(t))
-}
-
-pub(crate) fn is_end(line: &[u8]) -> bool
-    ensures { IsTrue result ↔ (words_of line.now ≡ end_line) }
-{
-    has_word(line, b"end")
 }

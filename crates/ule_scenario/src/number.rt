@@ -1,73 +1,69 @@
-//! Numbers as words: digits without a leading zero, and for a nice value a minus before them.
+// Numbers of words as numbers of a setup, where nothing is against them.
+ghost use Rattle.std.specs.Prelude.{◌≡◌, ◌≤◌, ◌<◌, ℕ, None, unwrap_or, []};
+ghost use Rattle.ule_scenario.specs.Forms.{number, number_fault, nice_fault, signed};
 
-ghost use Rattle.std.specs.Prelude.{◌≡◌, ◌≢◌, ℕ, ◌<◌, ◌≤◌, ℤ, length, slice_index, IfSome, IfNone, IsTrue, ◌↔◌};
-ghost use Rattle.std.specs.Fmt.{decimal, signed_decimal};
-ghost use Rattle.std.specs.Str.Parse.{AllDigits, digits_value};
-ghost use Rattle.ule_types.specs.Commands.{is_nice};
+use crate::token::Token;
+use ule_prio::{Cpu, Nice, Priority, ThreadId};
 
-use ule_prio::Nice;
-
-#[tactic(auto, using(crate::proofs::Numbers::too_large, std::proofs::lemmas::Int::Digits::digits_more, std::proofs::lemmas::Int::Digits::digits_value_more))]
-/// The value of digits, which may begin with zeros, if it is no greater than this.
-fn value_of(word: &[u8], greatest: u32) -> Option<u32>
-    ensures found { IfSome result (λ n. AllDigits 10 word.now × (n ≡ digits_value 10 word.now) × (n ≤ greatest)) }
-    ensures none { IfNone result (AllDigits 10 word.now → greatest < digits_value 10 word.now) }
+/// The number, if it is at most this.
+#[tactic(auto, using(crate::proofs::Faults::number_within))]
+pub(crate) fn byte(t: &Token, high: u8) -> u8
+    ensures within { result ≤ high }
+    ensures value { (low : ℕ) → number_fault low high t.now ≡ None → result ≡ unwrap_or (number t.now) 0 }
 {
-    let mut value: u64 = 0;
-    for byte in word {
-        if !byte.is_ascii_digit() {
-            return None;
-        }
-        value = value * 10 + u64::from(*byte - b'0');
-        if value > u64::from(greatest) {
-            return None;
-        }
+    t.value().min(u64::from(high)) as u8
+}
+
+/// The same of a greater range.
+#[tactic(auto, using(crate::proofs::Faults::number_within))]
+pub(crate) fn word(t: &Token, high: u32) -> u32
+    ensures within { result ≤ high }
+    ensures value { (low : ℕ) → number_fault low high t.now ≡ None → result ≡ unwrap_or (number t.now) 0 }
+{
+    t.value().min(u64::from(high)) as u32
+}
+
+/// The number of a thread.
+pub(crate) fn id(t: &Token) -> ThreadId
+    ensures { number_fault 0 255 t.now ≡ None → result ≡ unwrap_or (number t.now) 0 }
+{
+    ThreadId(byte(t, 255))
+}
+
+/// A priority.
+pub(crate) fn priority(t: &Token) -> Priority
+    ensures { number_fault 0 255 t.now ≡ None → result ≡ unwrap_or (number t.now) 0 }
+{
+    Priority(byte(t, 255))
+}
+
+/// A CPU, or the worker of one.
+pub(crate) fn cpu(t: &Token) -> Cpu
+    ensures { number_fault 0 15 t.now ≡ None → result ≡ unwrap_or (number t.now) 0 }
+{
+    Cpu(byte(t, 15))
+}
+
+/// A nice value without its sign.
+#[tactic(auto, using(crate::proofs::Faults::nice_within))]
+fn size(t: &Token) -> u8
+    ensures within { result ≤ 20 }
+    ensures value { nice_fault t.now ≡ None → result ≡ unwrap_or t.now.number 0 }
+{
+    match t.number {
+        Some(n) => n.min(20) as u8,
+        None => 0,
     }
-    Some(value as u32)
 }
 
-/// Whether a word isn't empty and has no zero before other bytes.
-fn has_no_leading_zero(word: &[u8]) -> bool
-    ensures { IsTrue result ↔ ((0 < length word.now) × (slice_index word.now 0 ≡ 48 → length word.now ≡ 1)) }
+/// A nice value.
+pub(crate) fn nice(t: &Token) -> Nice
+    ensures { nice_fault t.now ≡ None → result ≡ signed t.now.minus (unwrap_or t.now.number 0) }
 {
-    word.len() == 1 || (word.len() > 1 && word[0] != b'0')
-}
-
-/// The number that a word spells, if it is no greater than this.
-pub(crate) fn number(word: &[u8], greatest: u32) -> Option<u32>
-    ensures found { IfSome result (λ n. word.now ≡ decimal n) }
-    ensures within { IfSome result (λ n. n ≤ greatest) }
-    ensures none { IfNone result ((n : ℕ) → n ≤ greatest → word.now ≢ decimal n) }
-{
-    if has_no_leading_zero(word) {
-        value_of(word, greatest)
+    let size = size(t);
+    if t.minus {
+        Nice(-(size as i8))
     } else {
-        None
-    }
-}
-
-/// Whether a word begins with a minus.
-fn is_negative(word: &[u8]) -> bool
-    ensures { IsTrue result ↔ (slice_index word.now 0 ≡ 45) }
-{
-    !word.is_empty() && word[0] == b'-'
-}
-
-/// The nice value, -20..=20, that a word spells.
-pub(crate) fn nice_value(word: &[u8]) -> Option<Nice>
-    ensures found { IfSome result (λ n. word.now ≡ signed_decimal n) }
-    ensures within { IfSome result (λ n. IsTrue (is_nice n)) }
-    ensures none { IfNone result ((n : ℤ) → IsTrue (is_nice n) → word.now ≢ signed_decimal n) }
-{
-    if is_negative(word) {
-        let (_, digits) = word.split_at(1);
-        let size = number(digits, 20)?;
-        if size == 0 {
-            return None;
-        }
-        Some(Nice(-(size as i8)))
-    } else {
-        let size = number(word, 20)?;
-        Some(Nice(size as i8))
+        Nice(size as i8)
     }
 }

@@ -2,6 +2,7 @@
 use Rattle.std.proofs.Common.{◌≡◌, ◌≤◌, ◌++◌, ℕ, ◌+◌, ◌%◌, List, [], ◌∷◌, map, length, get_or, Option, Some, None, ⊎_elim, refl, sym, ◌∙◌, ap, subst, arith}
 use Rattle.std.specs.List.{AllByRecursion, cons_option, filter_map, range_with_len}
 use Rattle.std.specs.Option.{option_map}
+use Rattle.std.proofs.lemmas.Bool.{lt-ltb}
 use Rattle.std.proofs.lemmas.List.{length-append}
 use Rattle.ule_io.specs.Sink.{SinkState}
 use Rattle.ule_io.specs.Source.{ReadsWhole, SourceState, with_front}
@@ -19,7 +20,9 @@ use Rattle.ule_seq.specs.Outcomes.{IsOutcomeOf}
 use Rattle.ule_trace.specs.Trace.{trace_text}
 use Rattle.ule_types.specs.Outcome.{OutcomeValue}
 use Rattle.ule_types.specs.declared.setup.Setup.{Setup}
-use Rattle.ule_top.specs.Run.{Answers, AnswersInput, AnswersRefusal, HasRun, IsDue, IsRefused, NamesItsLock, ReadNone, SpellsNone, TookFront, Wrote, no_memory, refusal_due, refused, refusal_text, rounds_text, run_words, scenario_limit, too_long, trace_due, traced, unspelled}
+use Rattle.ule_scenario.specs.Scenario.{Spells}
+use Rattle.ule_scenario.specs.declared.reason.Refusal.{Refusal}
+use Rattle.ule_top.specs.Run.{Answers, AnswersInput, AnswersRefusal, AnswersSetup, HasRun, IsDue, IsRefused, NamesItsLock, ReadRefused, Refuses, TookAtMost, TookFront, Wrote, first_offence, no_memory, not_played, played, refusal_due, refused, refusal_text, rounds_text, run_words, scenario_limit, too_long, trace_due, traced, unmade, unplayed, unplayed_refusal, whole}
 
 -- ---- the text of an outcome
 
@@ -72,9 +75,11 @@ answers_done s0 s1 k0 k1 status is has read wrote = record {
   usage_only = λ other. absurd (other refl);
   untouched = λ e. absurd (omega arith);
   read_fault = λ e. absurd (omega arith);
+  fault_within = λ e. absurd (omega arith);
   refused = λ e. absurd (omega arith);
   write_fault = λ e. absurd (omega arith);
   no_memory = λ e. absurd (omega arith);
+  memory_within = λ e. absurd (omega arith);
   read_kept = λ e. read;
   write_kept = λ e. wrote;
 }
@@ -89,9 +94,11 @@ answers_refused s0 s1 k0 k1 status is has read wrote = record {
   usage_only = λ other. absurd (other refl);
   untouched = λ e. absurd (omega arith);
   read_fault = λ e. absurd (omega arith);
+  fault_within = λ e. absurd (omega arith);
   refused = λ e. has;
   write_fault = λ e. absurd (omega arith);
   no_memory = λ e. absurd (omega arith);
+  memory_within = λ e. absurd (omega arith);
   read_kept = λ e. read;
   write_kept = λ e. wrote;
 }
@@ -105,25 +112,30 @@ answers_fault s0 s1 k0 k1 status is has read = record {
   usage_only = λ other. absurd (other refl);
   untouched = λ e. absurd (omega arith);
   read_fault = λ e. absurd (omega arith);
+  fault_within = λ e. absurd (omega arith);
   refused = λ e. absurd (omega arith);
   write_fault = λ e. has;
   no_memory = λ e. absurd (omega arith);
+  memory_within = λ e. absurd (omega arith);
   read_kept = λ e. read;
   write_kept = λ e. absurd (e is);
 }
 
 -- the answer where memory ran out
-answers_no_memory : (s0 s1 : SourceState) (k0 k1 : SinkState) (status : ℕ) → status ≡ 5 → k1 ≡ k0 → s1.faults ≡ s0.faults → Answers run_words s0 s1 k0 k1 status
-answers_no_memory s0 s1 k0 k1 status is same read = record {
+pub answers_no_memory : (s0 s1 : SourceState) (k0 k1 : SinkState) (status : ℕ) → status ≡ 5 → k1 ≡ k0 → s1.faults ≡ s0.faults → TookAtMost s0 s1 (scenario_limit + 1) →
+    Answers run_words s0 s1 k0 k1 status
+answers_no_memory s0 s1 k0 k1 status is same read took = record {
   known = omega arith;
   done = λ e. absurd (omega arith);
   usage = λ e. absurd (omega arith);
   usage_only = λ other. absurd (other refl);
   untouched = λ e. absurd (omega arith);
   read_fault = λ e. absurd (omega arith);
+  fault_within = λ e. absurd (omega arith);
   refused = λ e. absurd (omega arith);
   write_fault = λ e. absurd (omega arith);
   no_memory = λ e. same;
+  memory_within = λ e. took;
   read_kept = λ e. read;
   write_kept = λ e. (ap (λ (k : SinkState). k.faults) same, ap (λ (k : SinkState). k.empty_takes) same);
 }
@@ -141,27 +153,27 @@ took_front : (s0 s1 : SourceState) (k0 k1 : SinkState) (text : List ℕ) (good s
 took_front s0 s1 k0 k1 text good status due w is =
     let parts = w.fault is in record { text = text; due = due; front = parts.0; cause = parts.1 }
 
--- where what was read spells no setup, none is what the source told
-spells_none : (s0 s1 : SourceState) → ReadNone s0 s1 → SpellsNone s0.left
-spells_none s0 s1 (unspelled input reads none) left told s spells = none s (rw (reads.all left told) spells)
-spells_none s0 s1 (too_long taken given count) left told s spells =
-    let limit = spells.limit in
-    let longer = longer_left s1.left left taken (sym told ∙ given) in omega arith
+-- where the source told its bytes, they are refused as what was read is
+cause_told : (s0 s1 : SourceState) (x : Refusal) → ReadRefused s0 s1 x → (input : List ℕ) → s0.left ≡ Some input → Refuses input x
+cause_told s0 s1 x (whole input reads refuses) left told = rw (sym (reads.all left told)) refuses
+cause_told s0 s1 x (too_long taken given count is) left told =
+    let longer = longer_left s1.left left taken (sym told ∙ given) in
+    first_offence (rw (is, lt-ltb 1048576 (length left) (omega arith)) refl)
 
--- a refusal is the answer where what was read spells no setup
-pub answers_refusal : (s0 s1 : SourceState) (k0 k1 : SinkState) (status : ℕ) → ReadNone s0 s1 → s1.faults ≡ s0.faults → AnswersRefusal k0 k1 status → Answers run_words s0 s1 k0 k1 status
-answers_refusal s0 s1 k0 k1 status none faults w =
+-- a refusal is the answer where what was read is refused
+pub answers_refusal : (s0 s1 : SourceState) (k0 k1 : SinkState) (status : ℕ) (x : Refusal) → ReadRefused s0 s1 x → s1.faults ≡ s0.faults → AnswersRefusal x k0 k1 status → Answers run_words s0 s1 k0 k1 status
+answers_refusal s0 s1 k0 k1 status x read faults w =
     ⊎_elim
     (λ (is : status ≡ 3). answers_refused s0 s1 k0 k1 status is
-    (record { cause = spells_none s0 s1 none; read = none; written = w.whole is; flushed = w.flushed is })
+    (record { refusal = x; cause = cause_told s0 s1 x read; read = read; written = w.whole is; flushed = w.flushed is })
     faults (w.kept (λ e. omega arith)))
-    (λ (is : status ≡ 4). answers_fault s0 s1 k0 k1 status is (took_front s0 s1 k0 k1 refusal_text 3 status (refusal_due none refl) w is) faults)
+    (λ (is : status ≡ 4). answers_fault s0 s1 k0 k1 status is (took_front s0 s1 k0 k1 (refusal_text x) 3 status (refusal_due x read refl) w is) faults)
     w.known
 
 -- what the whole input comes to is the answer of the command
 pub answers_input : (s0 s1 : SourceState) (k0 k1 : SinkState) (input : List ℕ) (status : ℕ) → ReadsWhole s0 s1 scenario_limit input → s1.faults ≡ s0.faults →
     AnswersInput input k0 k1 status → Answers run_words s0 s1 k0 k1 status
-answers_input s0 s1 k0 k1 input status reads faults (traced s spells w) =
+answers_input s0 s1 k0 k1 input status reads faults (traced s spells form w) =
     ⊎_elim
     (λ (is : status ≡ 0). answers_done s0 s1 k0 k1 status is
     (record {
@@ -169,17 +181,25 @@ answers_input s0 s1 k0 k1 input status reads faults (traced s spells w) =
       setup = s;
       read = reads;
       spelled = spells;
+      form = form;
       written = w.whole is;
       flushed = w.flushed is;
-      history = history_of_rounds s spells.form;
-      words = words_name s (history_of_rounds s spells.form);
+      history = history_of_rounds s form;
+      words = words_name s (history_of_rounds s form);
     })
     faults (w.kept (λ e. omega arith)))
-    (λ (is : status ≡ 4). answers_fault s0 s1 k0 k1 status is (took_front s0 s1 k0 k1 (rounds_text s) 0 status (trace_due input s reads spells refl) w is) faults)
+    (λ (is : status ≡ 4). answers_fault s0 s1 k0 k1 status is (took_front s0 s1 k0 k1 (rounds_text s) 0 status (trace_due input s reads spells form refl) w is) faults)
     w.known
-answers_input s0 s1 k0 k1 input status reads faults (refused none w) =
-    answers_refusal s0 s1 k0 k1 status (unspelled input reads none) faults w
-answers_input s0 s1 k0 k1 input status reads faults (no_memory is same) = answers_no_memory s0 s1 k0 k1 status is same faults
+answers_input s0 s1 k0 k1 input status reads faults (refused x refuses w) =
+    answers_refusal s0 s1 k0 k1 status x (whole input reads refuses) faults w
+answers_input s0 s1 k0 k1 input status reads faults (no_memory is same) =
+    answers_no_memory s0 s1 k0 k1 status is same faults (input, reads.given, (let h = reads.within in omega arith))
+
+-- what a setup that the bytes spell comes to is what they come to
+pub answers_setup : (input : List ℕ) (s : Setup) (k0 k1 : SinkState) (status : ℕ) → Spells input s → AnswersSetup s k0 k1 status → AnswersInput input k0 k1 status
+answers_setup input s k0 k1 status spells (played form w) = traced s spells form w
+answers_setup input s k0 k1 status spells (not_played other w) = refused unplayed_refusal (unplayed s spells other refl) w
+answers_setup input s k0 k1 status spells (unmade is same) = no_memory is same
 
 -- a list of one item
 pub one_item : {X Y : Type 0} (f : X → Y) (xs : List X) (x : X) → length xs ≡ 1 → x ≡ get_or xs 0 x → map f xs ≡ f x ∷ []

@@ -1,16 +1,34 @@
-ghost use Rattle.std.specs.Prelude.{◌≡◌, ◌↔◌, ◌≢◌, IsTrue, map, string_bytes};
+ghost use Rattle.std.specs.Prelude.{◌≡◌, ◌↔◌, ◌≢◌, ◌≤◌, ℕ, List, length, IsTrue, map, string_bytes};
 ghost use Rattle.ule_types.specs.Form.{IsOfForm};
-ghost use Rattle.ule_top.specs.Run.{Answers, AnswersInput, AnswersRefusal, AnswersSetup, Finishes, run_words};
+ghost use Rattle.ule_scenario.specs.ReaderKept.{HasRead};
+ghost use Rattle.ule_scenario.specs.Scenario.{IsFaultFor, read_bytes};
+ghost use Rattle.ule_scenario.specs.declared.reason.Refusal.{Refusal};
+ghost use Rattle.ule_top.specs.Run.{Answers, AnswersInput, AnswersRefusal, AnswersSetup, Finishes, refusal_text, run_words};
 
 use std::alloc::Global;
-use ule_io::{ReadAllFault, Sink, Source, WriteFault, read_all, write_all};
-use ule_scenario::read;
+use ule_io::{ReadAllFault, Sink, Source, WriteFault, write_all};
+use ule_scenario::{Reader, Refusal, feed_all};
 use ule_seq::play;
+use ule_text::LineText;
 use ule_trace::write_trace;
-use ule_types::{ScenarioFault, Setup};
+use ule_types::{ScenarioFault, Setup, is_of_form};
 
 /// The most bytes that a scenario may have.
 const SCENARIO_LIMIT: usize = 1_048_576;
+
+/// The refusal of a scenario that is longer.
+const TOO_LONG: Refusal = Refusal {
+    line: 0,
+    reason: 5,
+    detail: 0,
+};
+
+/// The refusal of a setup that can't be played yet.
+const UNPLAYED: Refusal = Refusal {
+    line: 0,
+    reason: 0,
+    detail: 0,
+};
 
 /// The command was performed.
 const DONE: u8 = 0;
@@ -36,9 +54,10 @@ const NO_MEMORY: u8 = 5;
 ///
 /// 0: done, and the trace was written and flushed. 1: the words are no command, and nothing is read
 /// or written. 2: a read failed, within the first 1,048,576 bytes, and nothing is written. 3: the
-/// input spells no setup or has more bytes than that, and the line `refused 0 0 0` was written and
-/// flushed. 4: a write or a flush failed or a write took no byte, and a front of the text of 0 or 3
-/// was taken, after as much was read as there. 5: memory ran out, and nothing is written.
+/// input spells no setup or has more bytes than that, and the line `refused LINE REASON DETAIL` was
+/// written and flushed, which tells the first offence; `refused 0 0 0` tells a setup that can't be
+/// played yet. 4: a write or a flush failed or a write took no byte, and a front of the text of 0
+/// or 3 was taken, after as much was read as there. 5: memory ran out, and nothing is written.
 pub fn top<S: Source, K: Sink>(alloc: Global, words: &[String], src: &mut S, out: &mut K) -> u8
     ensures { Answers (map string_bytes words.now) (S.state src.old) (S.state src.new)
         (K.state out.old) (K.state out.new) result }
@@ -64,27 +83,61 @@ fn is_run(words: &[String]) -> bool
 fn run<S: Source, K: Sink>(alloc: Global, src: &mut S, out: &mut K) -> u8
     ensures { Answers run_words (S.state src.old) (S.state src.new) (K.state out.old) (K.state out.new) result }
 {
-    match read_all(alloc, src, SCENARIO_LIMIT) {
-        Ok(input) => run_input(alloc, input.as_slice(), out),
+    let Ok(mut reader) = Reader::start(alloc) else {
+        return NO_MEMORY;
+    };
+    match feed_all(src, SCENARIO_LIMIT, &mut reader) {
+        Ok(()) => run_input(alloc, reader, out),
         Err(ReadAllFault::ReadFault) => READ_FAULT,
-        Err(ReadAllFault::TooLong) => refuse(out),
+        Err(ReadAllFault::TooLong) => refuse(TOO_LONG, out),
         Err(ReadAllFault::Memory) => NO_MEMORY,
     }
 }
 
-/// Plays the scenario that an input spells and writes the trace.
-fn run_input<K: Sink>(alloc: Global, input: &[u8], out: &mut K) -> u8
-    ensures { AnswersInput input.now (K.state out.old) (K.state out.new) result }
+/// Plays the scenario that a reader has read and writes the trace.
+fn run_input<K: Sink>(alloc: Global, reader: Reader, out: &mut K) -> u8
+    ensures { (input : List ℕ) → HasRead reader input → AnswersInput input (K.state out.old) (K.state out.new) result }
 {
-    match read(alloc, input) {
+    match reader.finish() {
         Ok(setup) => run_setup(alloc, &setup, out),
-        Err(ScenarioFault::Refused { .. }) => refuse(out),
-        Err(ScenarioFault::Memory) => NO_MEMORY,
+        Err(fault) => refuse_for(fault, out),
     }
 }
 
-/// Plays a setup and writes the trace.
+/// Writes the line of the refusal that a reader answered, if it was one.
+fn refuse_for<K: Sink>(fault: ScenarioFault, out: &mut K) -> u8
+    ensures { (input : List ℕ) → IsFaultFor fault (read_bytes input) → AnswersInput input (K.state out.old) (K.state out.new) result }
+{
+    match fault {
+        ScenarioFault::Refused {
+            line,
+            reason,
+            detail,
+        } => refuse(
+            Refusal {
+                line,
+                reason,
+                detail,
+            },
+            out,
+        ),
+        ScenarioFault::Memory => NO_MEMORY,
+    }
+}
+
+/// Plays a setup and writes the trace, if it can be played yet.
 fn run_setup<K: Sink>(alloc: Global, setup: &Setup, out: &mut K) -> u8
+    ensures { AnswersSetup setup.now (K.state out.old) (K.state out.new) result }
+{
+    if is_of_form(setup) {
+        play_setup(alloc, setup, out)
+    } else {
+        refuse(UNPLAYED, out)
+    }
+}
+
+/// Plays a setup that can be played and writes the trace.
+fn play_setup<K: Sink>(alloc: Global, setup: &Setup, out: &mut K) -> u8
     requires { IsOfForm setup.now }
     ensures { AnswersSetup setup.now (K.state out.old) (K.state out.new) result }
 {
@@ -97,11 +150,27 @@ fn run_setup<K: Sink>(alloc: Global, setup: &Setup, out: &mut K) -> u8
     }
 }
 
-/// Writes the line of a refusal.
-fn refuse<K: Sink>(out: &mut K) -> u8
-    ensures { AnswersRefusal (K.state out.old) (K.state out.new) result }
+/// The text of a refusal.
+fn refusal_text(x: Refusal) -> LineText
+    ensures { result ≡ refusal_text x }
 {
-    let written = write_all(out, b"refused 0 0 0\n");
+    let mut text = LineText::none();
+    text.text("refused ");
+    text.number(u64::from(x.line));
+    text.byte(b' ');
+    text.number(u64::from(x.reason));
+    text.byte(b' ');
+    text.number(u64::from(x.detail));
+    text.byte(b'\n');
+    text
+}
+
+/// Writes the line of a refusal.
+fn refuse<K: Sink>(x: Refusal, out: &mut K) -> u8
+    ensures { AnswersRefusal x (K.state out.old) (K.state out.new) result }
+{
+    let text = refusal_text(x);
+    let written = write_all(out, text.as_slice());
     finish(written, REFUSED, out)
 }
 

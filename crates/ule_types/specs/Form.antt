@@ -1,4 +1,4 @@
--- The form of a setup that a scenario can spell so far.
+-- The form of a setup that can be played so far.
 use Rattle.std.specs.Prelude.{◌≡◌, ℕ, ◌≤◌, Bool, true, false, nat_lt, nat_le, ◌||◌, List, [], IsTrue, count_by, slice_index_or}
 use Rattle.std.specs.List.{list_all}
 use Rattle.ule_score.specs.declared.record.Settings.{Settings}
@@ -54,10 +54,10 @@ is_tick (Look c) = false
 abbrev pub has_few_ticks : ℕ → List (List Command) → Bool
 has_few_ticks cpus scripts = nat_lt cpus 2 || nat_le (count_by is_tick (slice_index_or scripts 0 [])) 63
 
--- threads that are bound where there are several CPUs, unborn ones where there is one, and scripts of the commands built so far
+-- no groups of CPUs, threads that are bound where there are several CPUs, unborn ones where there is one, and scripts of the commands built so far
 pub record IsOfForm (s : Setup) : Type 0 where
+  pub groups : s.groups ≡ []
   pub threads : IsTrue (list_all (is_bound_for s.cpus) s.threads)
   pub unborn : 2 ≤ s.cpus → s.unborn ≡ []
   pub scripts : IsTrue (list_all (λ script. list_all (is_built_for s.cpus) script) s.scripts)
   pub ticks : IsTrue (has_few_ticks s.cpus s.scripts)
-  pub turns : s.turns ≡ []

@@ -1,5 +1,5 @@
 -- The rules that every setup keeps.
-use Rattle.std.specs.Prelude.{ℕ, ◌+◌, ◌^◌, Bool, true, not, nat_le, nat_lt, ◌&&◌, ◌==◌, List, [], ◌∷◌, ◌++◌, length, map, drop, sum}
+use Rattle.std.specs.Prelude.{ℕ, ◌≡◌, ◌+◌, ◌^◌, Bool, true, not, nat_le, nat_lt, ◌&&◌, ◌==◌, List, [], ◌∷◌, ◌++◌, length, map, drop, sum, IsTrue, is_ok}
 use Rattle.std.specs.List.{list_all, flat_map}
 use Rattle.ule_prio.specs.Class.{is_within, is_base_of}
 use Rattle.ule_prio.specs.declared.class.Class.TheVariants as class
@@ -11,6 +11,7 @@ use Rattle.ule_types.specs.declared.command.Command.{Command}
 use Rattle.ule_types.specs.declared.setup.Form.{Form}
 use Rattle.ule_types.specs.declared.setup.Form.TheVariants.{Ts, Ithd, Rt, Fifo, Idle}
 use Rattle.ule_types.specs.declared.setup.ThreadSpec.{ThreadSpec}
+use Rattle.ule_topo.specs.Build.{built}
 use Rattle.ule_topo.specs.declared.group.GroupLine.{GroupLine}
 
 -- whether no number stands twice
@@ -44,23 +45,31 @@ budget_from worker cpus [] = 0
 budget_from worker cpus (script ∷ scripts) =
     sum (map (λ c. greatest_of c worker cpus) script) + budget_from (worker + 1) cpus scripts
 
--- whether only the workers of these CPUs have commands, each of them valid, within the budget, and no thread is forked twice
-abbrev pub are_scripts : ℕ → List ℕ → List ℕ → List (List Command) → Bool
-are_scripts cpus ids unborn scripts =
-    (length scripts == 16) &&
-    list_all (λ script. length script == 0) (drop cpus scripts) &&
-    list_all (λ script. list_all (is_command ids cpus) script) scripts &&
-    list_all (is_among unborn) (flat_map (λ script. flat_map forked_by script) scripts) &&
-    is_distinct (flat_map (λ script. flat_map forked_by script) scripts) &&
-    nat_le (budget_from 0 cpus scripts) 65536
+-- the threads that scripts fork, script by script
+abbrev pub forked_in_all : List (List Command) → List ℕ
+forked_in_all scripts = flat_map (λ script. flat_map forked_by script) scripts
 
--- whether the turns name workers of these CPUs, 4096 of them at most
-abbrev pub are_turns : ℕ → List ℕ → Bool
-are_turns cpus turns = list_all (λ w. nat_lt w cpus) turns && nat_le (length turns) 4096
-
--- whether a setup keeps every rule; no group of CPUs can be given yet
-abbrev pub keeps_rules : Settings → ℕ → ℕ → List GroupLine → List ThreadSpec → List ℕ → List (List Command) → List ℕ → Bool
-keeps_rules settings jitter cpus groups threads unborn scripts turns =
-    are_settings settings && nat_lt jitter (2 ^ 32) && is_within 1 16 cpus && (length groups == 0) &&
-    list_all (is_spec cpus) threads && are_numbers (declared_ids threads unborn) &&
-    are_scripts cpus (declared_ids threads unborn) unborn scripts && are_turns cpus turns
+-- the rules that every setup keeps
+pub record KeepsRules (given : Settings) (seed count : ℕ) (lines : List GroupLine) (specs : List ThreadSpec) (waiting : List ℕ) (lists : List (List Command)) (plays : List ℕ) : Type 0 where
+  -- the settings are in their ranges, and so are the jitter and the number of CPUs
+  pub settings : IsTrue (are_settings given)
+  pub jitter : IsTrue (nat_lt seed (2 ^ 32))
+  pub cpus : IsTrue (is_within 1 16 count)
+  -- the groups of CPUs are a topology, of 15 groups at most
+  pub groups : IsTrue (is_ok (built count lines))
+  pub group_count : IsTrue (nat_le (length lines) 15)
+  -- each thread may be declared so, and no number is declared twice
+  pub threads : IsTrue (list_all (is_spec count) specs)
+  pub numbers : IsTrue (are_numbers (declared_ids specs waiting))
+  -- there is a script for each of 16 workers, and those of no CPU are empty
+  pub workers : length lists ≡ 16
+  pub idle : IsTrue (list_all (λ script. length script == 0) (drop count lists))
+  -- each command is valid, and all are charged 65,536 items at most
+  pub commands : IsTrue (list_all (λ script. list_all (is_command (declared_ids specs waiting) count) script) lists)
+  pub budget : IsTrue (nat_le (budget_from 0 count lists) 65536)
+  -- what is forked is unborn, and is forked once
+  pub forks : IsTrue (list_all (is_among waiting) (forked_in_all lists))
+  pub forked_once : IsTrue (is_distinct (forked_in_all lists))
+  -- the turns name workers of these CPUs, 4096 of them at most
+  pub turns : IsTrue (list_all (λ w. nat_lt w count) plays)
+  pub turn_count : IsTrue (nat_le (length plays) 4096)

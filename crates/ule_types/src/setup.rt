@@ -1,5 +1,4 @@
-ghost use Rattle.std.specs.Prelude.{IsTrue};
-ghost use Rattle.ule_types.specs.Rules.{keeps_rules};
+ghost use Rattle.ule_types.specs.Rules.{KeepsRules};
 
 use crate::items::Items;
 use crate::scripts::Scripts;
@@ -40,8 +39,8 @@ pub type Unborn = Items<ThreadId>;
 /// The turns of a setup, in order: each is a worker's number.
 pub type Turns = Items<u8>;
 
-/// What a scenario spells. Every setup keeps the rules of a scenario: `keeps_rules` of the specs
-/// says which.
+/// What a scenario spells. Every setup keeps the rules of a scenario: `KeepsRules` of the specs
+/// has a field for each.
 #[derive(Drop)]
 pub struct Setup {
     pub settings: Settings,
@@ -54,5 +53,5 @@ pub struct Setup {
     pub unborn: Unborn,
     pub scripts: Scripts,
     pub turns: Turns,
-    ghost rules: { IsTrue (keeps_rules settings jitter cpus groups threads unborn scripts turns) },
+    ghost rules: { KeepsRules settings jitter cpus groups threads unborn scripts turns },
 }

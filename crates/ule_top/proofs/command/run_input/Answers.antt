@@ -1,12 +1,10 @@
-use Rattle.std.proofs.Common.{⊎_elim}
-use Rattle.ule_top.specs.Run.{no_memory, refused, traced}
+use Rattle.ule_top.proofs.Answering.{answers_setup}
 use Rattle.ule_top.proofs.command.run_input.Goals as goal
 
 pub returns-in-Ok : goal.returns-in-Ok
-returns-in-Ok g c =
-    ⊎_elim (λ w. traced c.in-Ok.setup c.in-Ok.ensures.ok w) (λ none. no_memory none.0 none.1) c.run_setup.ensures
+returns-in-Ok g c = λ input has.
+    let read = c.in-Ok.ensures.told input has in
+    answers_setup input c.in-Ok.setup _ _ _ (record { reading = read.0; read = read.1; gives = read.2 }) c.run_setup.ensures
 
-pub returns-in-Err-Refused : goal.returns-in-Err-Refused
-returns-in-Err-Refused g c =
-    let cause = rw c.in-Err-Refused.field-0-is at c.in-Err-Refused.ensures.refused in
-    refused cause.3 c.refuse.ensures
+pub returns-in-Err : goal.returns-in-Err
+returns-in-Err g c = λ input has. c.refuse_for.ensures input (c.in-Err.ensures.told input has)

@@ -1,9 +1,5 @@
-use Rattle.std.proofs.Common.{ℕ, List, inl, subst}
-use Rattle.ule_top.specs.Run.{Wrote}
-use Rattle.ule_top.proofs.Answering.{trace_of}
+use Rattle.ule_top.specs.Run.{not_played}
 use Rattle.ule_top.proofs.command.run_setup.Goals as goal
 
-pub returns-in-Ok : goal.returns-in-Ok
-returns-in-Ok g c =
-    inl (subst (λ (text : List ℕ). Wrote (g.K.Sink.state c.args.out.now) (g.K.Sink.state c.finish.new.out) text 0 c.finish.result)
-    (trace_of c.args.setup.now c.in-Ok.outcome c.in-Ok.ensures) (c.finish.ensures _ _ c.write_trace-written.ensures))
+pub returns-else-is_of_form : goal.returns-else-is_of_form
+returns-else-is_of_form g c = not_played (c.is_of_form.ensures.no c.if-is_of_form.false) c.refuse.ensures

@@ -1,7 +1,6 @@
 -- The parts show the world at the start.
 use Rattle.std.proofs.Common.{IsTrue, refl, sym, subst, arith}
 use Rattle.ule_model.specs.Start.{world_at_start}
-use Rattle.ule_members.proofs.Setups.{setup_rules}
 use Rattle.ule_seq.proofs.StartingLaws.{parts_show}
 use Rattle.ule_seq.proofs.world.World.start.Goals as goal
 
@@ -12,7 +11,7 @@ invariant_of-result c =
     let workers = shows.workers in
     let counted = c.in_ok-hands.hands.ok.0 in
     record {
-      settings = subst IsTrue (sym (setup_rules c.args.s.now).settings) refl;
+      settings = subst IsTrue (sym c.args.s.now.rules.settings) refl;
       workers = omega (arith, few, workers, counted);
       shown = (world_at_start c.args.s.now, shows);
     }

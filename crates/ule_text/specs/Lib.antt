@@ -1,0 +1,5 @@
+pub mod Words
+pub mod Numerals
+pub mod WordFront
+pub mod FrontKept
+pub mod SoFar
