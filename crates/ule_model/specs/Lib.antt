@@ -15,7 +15,6 @@ pub mod ActionValue
 pub mod ActionStep
 pub mod Step
 pub mod CpuActions
-pub mod Program
 pub mod Rounds
 pub mod Finals
 pub mod Legal

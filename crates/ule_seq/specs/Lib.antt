@@ -5,5 +5,4 @@ pub mod Worlds
 pub mod Readiness
 pub mod Starting
 pub mod Outcomes
-pub mod Programs
 pub mod Playing

@@ -10,7 +10,6 @@ pub use items::Items;
 pub use outcome::{Outcome, ThreadLine};
 pub use scripts::Scripts;
 pub use setup::{Form, Groups, Setup, Specs, ThreadSpec, Turns, Unborn};
-pub use stage::Stage;
 
 pub mod command;
 pub mod event;
@@ -20,4 +19,3 @@ pub mod items;
 pub mod outcome;
 pub mod scripts;
 pub mod setup;
-pub mod stage;
