@@ -94,6 +94,12 @@ built_some cpus (l ∷ ls) t is = at_group (group_of_line cpus [] l) is
 pub built_cpus : (cpus : ℕ) (lines : List GroupLine) (t : Tree) → built cpus lines ≡ Ok t → t.cpus ≡ cpus
 built_cpus cpus lines t is = (built_some cpus lines t is).0
 
+-- what was built is the topology of the lines
+pub built_topology : (cpus : ℕ) (lines : List GroupLine) (t : Tree) → built cpus lines ≡ Ok t → t ≡ topology_of cpus lines
+built_topology cpus lines t is =
+    ap (λ (n : ℕ). record { cpus = n; groups = t.groups }) (built_cpus cpus lines t is) ∙
+    ap (λ (r : Result Tree BuildFault). record { cpus = cpus; groups = groups_built cpus r }) (sym is)
+
 -- a worker has its seat in the topology of any lines
 pub topology_seat : (cpus worker : ℕ) (lines : List GroupLine) → cpus ≤ 16 → worker < cpus → IsSeat worker (topology_of cpus lines)
 topology_seat cpus worker lines few within = at_built (built cpus lines) refl

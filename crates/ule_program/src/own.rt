@@ -379,6 +379,7 @@ impl Own {
 }
 
 /// The topology of a setup's group lines.
+#[tactic(auto, using(crate::proofs::GroupLaws::built_topology))]
 fn topology_of(s: &Setup) -> Topology
     ensures { result ≡ topology_of s.now.cpus s.now.groups }
 {
