@@ -1,9 +1,9 @@
 -- That the action of each event follows from what it sees, and that its reply tells its word: a line or two an event.
-use Rattle.std.proofs.Common.{◌≡◌, ℕ, ◌==◌, ◌%◌, ⊎_elim, Bool, true, false, List, [], ◌∷◌, ◌+◌, Option, Some, None, if◌then◌else◌, refl, sym, ◌∙◌, ap, subst}
+use Rattle.std.proofs.Common.{◌≡◌, ℕ, ◌<◌, ◌==◌, ◌%◌, ⊎_elim, Bool, true, false, List, [], ◌∷◌, ◌+◌, length, Option, Some, None, if◌then◌else◌, refl, sym, ◌∙◌, ap, subst}
 use Rattle.std.specs.List.{AllByRecursion}
 use Rattle.std.specs.Option.{option_map, option_to_list}
 use Rattle.std.specs.Prelude.{nat_lt, option_and_then}
-use Rattle.std.proofs.lemmas.Bool.{both_ways, eqb-true, or_cases}
+use Rattle.std.proofs.lemmas.Bool.{both_ways, eqb-true, ltb-true, or_cases}
 use Rattle.std.proofs.lemmas.Option.{same_Some}
 use Rattle.ule_score.specs.Changes.{IsSoundChange, RecordChange, after_change, changed, ran, sleeps}
 use Rattle.ule_score.specs.declared.place.Place.{Place}
@@ -143,22 +143,25 @@ module _ (w : World) (worker now : ℕ) (made : IsWellMadeWorld w) where
   }
 
   -- a fork makes the current thread the parent of the thread in hand
-  fork_fits : (c t : ℕ) → AllByRecursion (IsByIfReached w worker (Fork c t) now) w.members → (o child : Option Member) → current_of c w.members ≡ o →
+  fork_fits : (c t : ℕ) → c < length w.lines → AllByRecursion (IsByIfReached w worker (Fork c t) now) w.members → (o child : Option Member) → current_of c w.members ≡ o →
       ((n : Member) → child ≡ Some n → StandsAt t (Hand worker) w.members) → IsFit (Fork c t) c (fork_action t (thread_if o) (option_map standing_of child) (seen_under w worker now (Fork c t) c))
-  fork_fits c t past None child found held = answer_fits (Fork c t) c Nothing refl
-  fork_fits c t past (Some m) None found held = answer_fits (Fork c t) c Nothing refl
-  fork_fits c t past (Some m) (Some child) found held =
+  fork_fits c t there past None child found held = answer_fits (Fork c t) c Nothing refl
+  fork_fits c t there past (Some m) None found held = answer_fits (Fork c t) c Nothing refl
+  fork_fits c t there past (Some m) (Some child) found held =
       let v = within_current c w.members m made.members found in record {
         follows = (
           (
             held child refl,
             in_hand (Fork c t),
-            record {
+            (
+              record {
               found = ap (option_map (λ x. x.thread)) (thread_of_within m.thread.id m w.members v);
               numbers = v.made.numbers;
               by_now = all_has (IsByIfReached w worker (Fork c t) now) m w.members past (has_within m.thread.id m w.members v)
                   (here (Fork c t) c m.place (takes_itself c) (lock_where_runs c m.place (current_runs c w.members m found)));
-            },
+              },
+              there,
+            ),
           ),
           tt,
           ((runs_there c m found, here (Fork c t) c (Running c) (takes_itself c) refl, tt), tt, tt),
@@ -185,10 +188,10 @@ module _ (w : World) (worker now : ℕ) (made : IsWellMadeWorld w) where
       (subst (λ (p : Place). IsFit e l (record { parts = move t p to ∷ []; reply = λ into. reply })) (sym at.place_is)
       (record { follows = ((at, acted, goes, way, place, off), agree_none (word_between t (lock_of from) (lock_of to)), tt); word = λ into. word }))
 
-  land_fits : (t c : ℕ) → StandsAt t (Hand worker) w.members → IsFit (Land t c) c (land_action t (option_map standing_of (thread_of t w.members)) (seen_under w worker now (Land t c) c))
-  land_fits t c held =
+  land_fits : (t c : ℕ) → c < length w.lines → StandsAt t (Hand worker) w.members → IsFit (Land t c) c (land_action t (option_map standing_of (thread_of t w.members)) (seen_under w worker now (Land t c) c))
+  land_fits t c there held =
       named_is t held.member (λ o. IsFit (Land t c) c (land_action t (option_map standing_of o) (seen_under w worker now (Land t c) c))) held.found
-      (record { follows = ((held, in_hand (Land t c), tt), tt, ((held, in_hand (Land t c), tt), tt, (tt, tt, tt))); word = λ into. refl })
+      (record { follows = ((held, in_hand (Land t c), there), tt, ((held, in_hand (Land t c), tt), tt, (tt, tt, tt))); word = λ into. refl })
 
   -- ---- the thread that is sought
 
@@ -259,7 +262,7 @@ module _ (w : World) (worker now : ℕ) (made : IsWellMadeWorld w) where
       named_is t s.member (λ o. IsFit (Wake t) l (wake_action t (option_map standing_of o) (seen_under w worker now (Wake t) l))) s.found
       (wake_fits t l s.member s.member.place among (record { member = s.member; found = s.found; place_is = refl }) s.under)
   event_fits (Look c) possible l among = answer_fits (Look c) l Nothing refl
-  event_fits (Land t c) possible l among = under_own (Land t c) c l among (land_fits t c (held_stands t (held_found w.members t worker possible.hand)))
+  event_fits (Land t c) possible l among = under_own (Land t c) c l among (land_fits t c (ltb-true c (length w.lines) possible.cpus) (held_stands t (held_found w.members t worker possible.hand)))
   event_fits (Move a b why) possible l among = answer_fits (Move a b why) l Nothing refl
   event_fits (Lend t p) possible l among = changes_fit (Lend t p) t (change.Lend p) possible.numbers (λ r. refl) l among among
   event_fits (Unlend t) possible l among = changes_fit (Unlend t) t change.Unlend tt (λ r. refl) l among among
@@ -270,7 +273,7 @@ module _ (w : World) (worker now : ℕ) (made : IsWellMadeWorld w) where
       (go_fits (Hatch t) 24 t Unborn (Hand worker) Hatched (record { member = h.member; found = h.found; place_is = h.place }) (here (Hatch t) 24 Unborn (takes_itself 24) refl) (in_hand (Hatch t))
       tt tt (λ d. refl) refl)
   event_fits (Fork c t) possible l among =
-      under_own (Fork c t) c l among (fork_fits c t possible.in_time (current_of c w.members) (thread_of t w.members) refl (λ n is. held_stands t (held_found w.members t worker possible.hand)))
+      under_own (Fork c t) c l among (fork_fits c t (ltb-true c (length w.lines) possible.cpus) possible.in_time (current_of c w.members) (thread_of t w.members) refl (λ n is. held_stands t (held_found w.members t worker possible.hand)))
   event_fits (Return t) possible l among =
       under_own (Return t) 24 l among
       (go_fits (Return t) 24 t (Hand worker) Unborn Returned (held_stands t (held_found w.members t worker possible.hand)) (in_hand (Return t)) (here (Return t) 24 Unborn (takes_itself 24) refl)

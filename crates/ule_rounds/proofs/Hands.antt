@@ -16,10 +16,9 @@ use Rattle.ule_model.specs.Places.{hand_of, is_hand_of, is_number}
 use Rattle.ule_model.specs.Step.{step}
 use Rattle.ule_model.specs.WellMade.{IsWellMade, IsWellMadeWorld}
 use Rattle.ule_model.specs.World.{Member, World, is_numbered, thread_of}
-use Rattle.ule_members.proofs.Done.{holder_after, in_hand_after, kept_some, taken_member}
 use Rattle.ule_members.proofs.Lists.{slice_get-set_other, slice_get-set_same}
 use Rattle.ule_members.proofs.Reach.{number_from_test, takes_itself}
-use Rattle.ule_members.proofs.Steps.{step_holders, step_own_hand}
+use Rattle.ule_members.proofs.Steps.{in_hand_after, step_own_hand}
 use Rattle.ule_members.proofs.Threads.{thread_of_within}
 use Rattle.ule_members.proofs.Untouched.{step_in_hand}
 use Rattle.ule_members.proofs.Within.{found_at, within_found}
@@ -88,12 +87,17 @@ blocks_fit : (taken hand : Option ℕ) → hand ≡ None → FitsChange empty (b
 blocks_fit None hand none = tt
 blocks_fit (Some t) hand none = none
 
+-- so is one that is unborn
+unborn_fits : (u : ℕ) (taken hand : Option ℕ) → hand ≡ None → FitsChange (unborn u) (blocks taken) hand
+unborn_fits u None hand none = tt
+unborn_fits u (Some t) hand none = none
+
 module _ (w : World) (worker : ℕ) (e : Event) (now : ℕ) (hand : Option ℕ) (made : IsWellMadeWorld w) (can : IsPossible w worker e now) where
   -- each event's change of a word fits the hand that it needs
   change_fits : (x : Event) → FitsHand hand (handling x) → FitsChange (handling x) (change_of x (step w worker x now).1) hand
   change_fits (Drop c channel) fits = blocks_fit (taken_by 0 (step w worker (Drop c channel) now).1) hand fits
   change_fits (Wake t) fits = blocks_fit (taken_by t (step w worker (Wake t) now).1) hand fits
-  change_fits (Hatch t) fits = fits
+  change_fits (Hatch t) fits = unborn_fits t (taken_by t (step w worker (Hatch t) now).1) hand fits
   change_fits (Exit c) fits = blocks_fit (taken_by 0 (step w worker (Exit c) now).1) hand fits
   change_fits (Bed t channel) fits = fits
   change_fits (Land t c) fits = fits
@@ -101,28 +105,20 @@ module _ (w : World) (worker : ℕ) (e : Event) (now : ℕ) (hand : Option ℕ) 
   change_fits (Bury t) fits = fits
   change_fits _ fits = tt
 
-  -- a thread that is taken is found in the hand
-  taken_some : (t : ℕ) → change_of e (step w worker e now).1 ≡ Some (block t) → is_some (taken_member w worker e now t) ≡ true
-  taken_some t is =
-      let held : holder_of (step w worker e now).0.members t ≡ Some worker =
-      step_holders w worker e now made can t ∙ ap (λ change. holder_after worker change t (holder_of w.members t)) is ∙ ap (λ b. if b then Some worker else holder_of w.members t) (eq-eqb t t refl) in
-      sym (ap (λ o. is_some o) (step_own_hand w worker e now made can t ∙ ap (λ change. in_hand_after w worker e now change t (thread_in_hand worker t w.members)) is ∙
-      ap (λ b. if b then taken_member w worker e now t else thread_in_hand worker t w.members) (eq-eqb t t refl))) ∙ held_in_hand worker t (step w worker e now).0.members held
-
   -- what look-up in the hand finds, by the change of a word
-  hand_changes : (needs : Handling) (change : Option WordChange) → change_of e (step w worker e now).1 ≡ change → FitsChange needs change hand → (u : ℕ) (old : Option Member) →
-      is_some old ≡ is_number u hand → is_some (in_hand_after w worker e now change u old) ≡ is_number u (hand_left needs change hand)
-  hand_changes any None is fits u old was = kept_some w now e old ∙ was
-  hand_changes any (Some change) is fits u old was = absurd fits
-  hand_changes _ None is fits u old was = kept_some w now e old ∙ was
-  hand_changes _ (Some (block t)) is fits u old was = by_test (u == t)
+  hand_changes : (needs : Handling) (change : Option WordChange) → FitsChange needs change hand → (u : ℕ) (old : Bool) → old ≡ is_number u hand →
+      in_hand_after change u old ≡ is_number u (hand_left needs change hand)
+  hand_changes any None fits u old was = was
+  hand_changes any (Some change) fits u old was = absurd fits
+  hand_changes _ None fits u old was = was
+  hand_changes _ (Some (block t)) fits u old was = by_test (u == t)
     where
-      by_test : (b : Bool) → is_some (if b then taken_member w worker e now t else old) ≡ b
-      by_test true = taken_some t is
+      by_test : (b : Bool) → (if b then true else old) ≡ b
+      by_test true = refl
       by_test false = was ∙ ap (is_number u) fits
-  hand_changes _ (Some (point t l)) is fits u old was = by_test (u == t) (was ∙ ap (is_number u) fits)
+  hand_changes _ (Some (point t l)) fits u old was = by_test (u == t) (was ∙ ap (is_number u) fits)
     where
-      by_test : (b : Bool) → is_some old ≡ b → is_some (if b then None else old) ≡ false
+      by_test : (b : Bool) → old ≡ b → (if b then false else old) ≡ false
       by_test true at = refl
       by_test false at = at
 
@@ -130,8 +126,8 @@ module _ (w : World) (worker : ℕ) (e : Event) (now : ℕ) (hand : Option ℕ) 
   pub hand_follows : FitsHand hand (handling e) → ((u : ℕ) → is_some (thread_in_hand worker u w.members) ≡ is_number u hand) →
       (u : ℕ) → is_some (thread_in_hand worker u (step w worker e now).0.members) ≡ is_number u (hand_left (handling e) (change_of e (step w worker e now).1) hand)
   hand_follows fits was u =
-      ap (λ o. is_some o) (step_own_hand w worker e now made can u) ∙
-      hand_changes (handling e) (change_of e (step w worker e now).1) refl (change_fits e fits) u (thread_in_hand worker u w.members) (was u)
+      step_own_hand w worker e now made can u ∙
+      hand_changes (handling e) (change_of e (step w worker e now).1) (change_fits e fits) u (is_some (thread_in_hand worker u w.members)) (was u)
 
 -- hands and courses agree after the step of a worker's event
 pub agree_step : (w : World) (worker : ℕ) (e : Event) (now : ℕ) (courses : List Course) (course reached : Course) → IsWellMadeWorld w →

@@ -1,27 +1,35 @@
 -- What a step replies: of a form that its event has, with CPUs and threads that there are.
 use Rattle.std.proofs.Common.{◌≡◌, ℕ, ◌<◌, ◌==◌, Bool, true, false, nat_le, List, Option, Some, None, IfSome, IsSome, refl, sym, subst, arith}
 use Rattle.std.specs.List.{AllByRecursion}
+use Rattle.std.specs.Option.{option_map}
 use Rattle.std.proofs.lemmas.Bool.{and_parts, eqb-true, false≢true}
 use Rattle.ule_score.specs.Bounds.{KeepsBounds}
-use Rattle.ule_score.specs.Changes.{IsBy, after_tick, woken as woken_change}
+use Rattle.ule_score.specs.Changes.{IsBy, after_tick, ran, sleeps, woken as woken_change}
 use Rattle.ule_score.specs.declared.place.Place.{Place}
-use Rattle.ule_score.specs.declared.place.Place.TheVariants.{Asleep}
+use Rattle.ule_score.specs.declared.place.Place.TheVariants.{Running, Queued, Asleep, Unborn, Gone, Hand}
+use Rattle.ule_score.specs.declared.record.ThreadRecord.{ThreadRecord}
+use Rattle.ule_threads.specs.declared.standing.Standing.{Standing}
 use Rattle.ule_types.specs.Commands.{is_among}
-use Rattle.ule_types.specs.Needs.{sought_by}
+use Rattle.ule_types.specs.Needs.{handling, sought_by}
 use Rattle.ule_types.specs.declared.event.Event.{Event}
 use Rattle.ule_types.specs.declared.event.Event.TheVariants.{Tick, Drop, Wake, Look, Hatch, Exit}
-use Rattle.ule_types.specs.declared.event.Reply.TheVariants.{Ticked}
+use Rattle.ule_types.specs.declared.event.Reply.{Reply}
+use Rattle.ule_types.specs.declared.event.Reply.TheVariants.{Ticked, Dropped, Exited, Hatched}
 use Rattle.ule_program.specs.Hearing.{ChargesSoundly, IsDueOn, IsReplyTo, IsWokenWithin, is_of_drop, is_of_exit, is_of_wake}
-use Rattle.ule_model.specs.Birth.{exited_with}
+use Rattle.ule_model.specs.Actions.{Seen, go_action, leave_action, tick_action, wake_action, wake_action_at}
+use Rattle.ule_model.specs.ActionStep.{seen_on, seen_under}
+use Rattle.ule_model.specs.Events.{is_unborn_thread}
+use Rattle.ule_model.specs.Landing.{current_record}
 use Rattle.ule_model.specs.Places.{runs_on}
-use Rattle.ule_model.specs.Sleep.{dropped_with, woken_at, woken_with}
 use Rattle.ule_model.specs.Step.{step}
-use Rattle.ule_model.specs.Tick.{clocked, is_due, load_of, ticked_with}
-use Rattle.ule_model.specs.World.{Member, World, current_of, side_of, thread_of}
+use Rattle.ule_model.specs.Tick.{is_due}
+use Rattle.ule_model.specs.World.{Member, Side, World, current_of, standing_of, thread_of}
 use Rattle.ule_members.proofs.Membership.{Has, all_has, has_between, has_thread_of}
+use Rattle.ule_members.proofs.Steps.{step_reply}
 use Rattle.ule_members.proofs.Within.{found_at}
 use Rattle.ule_score.proofs.ChangeLaws.{change_by_now}
 use Rattle.ule_rounds.proofs.Bindings.{change_binds}
+use Rattle.ule_rounds.proofs.Hands.{FindsUnborn}
 use Rattle.ule_rounds.proofs.LastCpus.{woken_last}
 use Rattle.ule_rounds.proofs.Parents.{HasDeclaredParent}
 
@@ -39,63 +47,84 @@ pub record KeepsThreads (ids : List ℕ) (cpus now : ℕ) (ms : List Member) : T
   pub parents : AllByRecursion (HasDeclaredParent ids) ms
   pub bounds : AllByRecursion (λ m. KeepsBounds m.thread) ms
 
+-- a reply that an exit can have, whose parent is declared; and one that a wake can have, with CPUs that there are
+abbrev IsExitReply : List ℕ → Reply → Type 0
+IsExitReply ids r = (is_of_exit r ≡ true) × ChargesSoundly (is_among ids) r
+
+abbrev IsWakeReply : ℕ → ℕ → Reply → Type 0
+IsWakeReply cpus now r = (is_of_wake r ≡ true) × IsWokenWithin cpus now r
+
 module _ (ids : List ℕ) (cpus : ℕ) (w : World) (worker now : ℕ) (kept : KeepsThreads ids cpus now w.members) where
   -- a tick finds a balance due on CPU 0 alone
   tick_replies : (c : ℕ) → IsDueOn c (step w worker (Tick c) now).1
-  tick_replies c = at_current (current_of c (side_of c w).members)
+  tick_replies c = at_current (current_record c w.members) _
     where
-      due : Bool
-      due = is_due c (side_of c w).line.balance
+      at : Seen
+      at = seen_under w worker now (Tick c) c
 
-      first : due ≡ true → c ≡ 0
-      first is = eqb-true c 0 (and_parts (c == 0) (nat_le (side_of c w).line.balance 1) is).0
+      first : is_due c at.line.balance ≡ true → c ≡ 0
+      first is = eqb-true c 0 (and_parts (c == 0) (nat_le at.line.balance 1) is).0
 
-      at_current : (o : Option Member) → IsDueOn c (ticked_with o (load_of c (side_of c w).members) due now (clocked c (side_of c w))).1
-      at_current None = due_on c None due false first
-      at_current (Some m) = due_on c (Some m.thread.id) due (after_tick (clocked c (side_of c w)).settings now (load_of c (side_of c w).members) m.thread).1 first
+      at_current : (o : Option ThreadRecord) (into : Option ℕ) → IsDueOn c ((tick_action o at).reply into)
+      at_current None into = due_on c None (is_due c at.line.balance) false first
+      at_current (Some r) into = due_on c (Some r.id) (is_due c at.line.balance) (after_tick at.settings now at.load r).1 first
 
   -- a drop takes the current thread, if there is one
-  drop_replies : (c : ℕ) (o : Option Member) → is_of_drop (dropped_with o c worker now (side_of c w)).1 ≡ true
-  drop_replies c None = refl
-  drop_replies c (Some m) = refl
+  drop_replies : (o : Option ThreadRecord) (at : Seen) (into : Option ℕ) → is_of_drop ((leave_action sleeps (λ r next. Dropped r.id next) o at).reply into) ≡ true
+  drop_replies None at into = refl
+  drop_replies (Some r) at into = refl
 
   -- an exit takes it too, and charges its parent
-  exit_replies : (c : ℕ) (o : Option Member) → current_of c w.members ≡ o →
-      (is_of_exit (exited_with o c worker now (side_of c w)).1 ≡ true) × ChargesSoundly (is_among ids) (exited_with o c worker now (side_of c w)).1
-  exit_replies c None none = (refl, tt)
-  exit_replies c (Some m) found =
-      let at = found_at (λ n. runs_on c n.place) w.members m found in
-      let has : Has m w.members = subst (Has m) (sym at.whole) (has_between at.before m at.after) in
+  exit_replies : (c : ℕ) (o : Option Member) → current_of c w.members ≡ o → (at : Seen) (into : Option ℕ) →
+      IsExitReply ids ((leave_action ran (λ r next. Exited r.id next r.parent r.hist.run) (option_map (λ (m : Member). m.thread) o) at).reply into)
+  exit_replies c None none at into = (refl, tt)
+  exit_replies c (Some m) found at into =
+      let where_is = found_at (λ n. runs_on c n.place) w.members m found in
+      let has : Has m w.members = subst (Has m) (sym where_is.whole) (has_between where_is.before m where_is.after) in
       let bounded : KeepsBounds m.thread = all_has (λ n. KeepsBounds n.thread) m w.members kept.bounds has in
       (refl, (all_has (HasDeclaredParent ids) m w.members kept.parents has, omega (arith, bounded.history)))
 
   -- a wake takes the thread, if it sleeps
-  wake_replies : (t : ℕ) (o : Option Member) → thread_of t w.members ≡ o → IsSome o →
-      (is_of_wake (woken_with o worker now w.settings w.members).1 ≡ true) × IsWokenWithin cpus now (woken_with o worker now w.settings w.members).1
-  wake_replies t None none there = absurd (false≢true there)
-  wake_replies t (Some m) found there = at_place m.place
+  wake_replies : (t : ℕ) → IsSome (thread_of t w.members) → IsWakeReply cpus now (step w worker (Wake t) now).1
+  wake_replies t there =
+      step_reply (IsWakeReply cpus now) w worker (Wake t) now (λ l s settings into. at_thread l s into (thread_of t w.members) refl there)
     where
-      has : Has m w.members
-      has = (has_thread_of t m w.members found).0
+      at_thread : (l : ℕ) (s : Side) (into : Option ℕ) (o : Option Member) → thread_of t w.members ≡ o → IsSome o →
+          IsWakeReply cpus now ((wake_action t (option_map standing_of o) (seen_on l worker now o s)).reply into)
+      at_thread l s into None none there = absurd (false≢true there)
+      at_thread l s into (Some m) found there = at_place m.place
+        where
+          has : Has m w.members
+          has = (has_thread_of t m w.members found).0
 
-      at_place : (place : Place) →
-          (is_of_wake (woken_at place worker now w.settings m w.members).1 ≡ true) × IsWokenWithin cpus now (woken_at place worker now w.settings m w.members).1
-      at_place (Asleep channel) = (
-        refl,
-        (
-          change_binds (λ c. c < cpus) w.settings now woken_change m.thread (all_has (λ n. IfSome n.thread.bound (λ c. c < cpus)) m w.members kept.bound has),
-          subst (λ c. c < cpus) (sym (woken_last w.settings now m.thread)) (all_has (λ n. n.thread.last < cpus) m w.members kept.last has),
-          (change_by_now w.settings now woken_change m.thread (all_has (λ n. IsBy now n.thread) m w.members kept.by_now has)).last_run,
-        ),
-      )
-      at_place _ = (refl, tt)
+          at_place : (place : Place) → IsWakeReply cpus now ((wake_action_at place t m.thread (seen_on l worker now (Some m) s)).reply into)
+          at_place (Asleep channel) = (
+            refl,
+            (
+              change_binds (λ c. c < cpus) s.settings now woken_change m.thread (all_has (λ n. IfSome n.thread.bound (λ c. c < cpus)) m w.members kept.bound has),
+              subst (λ c. c < cpus) (sym (woken_last s.settings now m.thread)) (all_has (λ n. n.thread.last < cpus) m w.members kept.last has),
+              (change_by_now s.settings now woken_change m.thread (all_has (λ n. IsBy now n.thread) m w.members kept.by_now has)).last_run,
+            ),
+          )
+          at_place (Running c) = (refl, tt)
+          at_place (Queued c k b) = (refl, tt)
+          at_place Unborn = (refl, tt)
+          at_place Gone = (refl, tt)
+          at_place (Hand h) = (refl, tt)
 
-  -- the reply of a step is one that its event can have, where the thread that it seeks is there
-  pub step_replies : (e : Event) → IfSome (sought_by e) (λ t. IsSome (thread_of t w.members)) → IsReplyTo (is_among ids) cpus now e (step w worker e now).1
-  step_replies (Tick c) there = tick_replies c
-  step_replies (Drop c channel) there = drop_replies c (current_of c w.members)
-  step_replies (Wake t) there = wake_replies t (thread_of t w.members) refl there
-  step_replies (Look c) there = tt
-  step_replies (Hatch t) there = refl
-  step_replies (Exit c) there = exit_replies c (current_of c w.members) refl
-  step_replies _ there = tt
+  -- a hatch takes the unborn thread
+  hatch_replies : (t : ℕ) (o : Option Member) → is_unborn_thread o ≡ true → (into : Option ℕ) →
+      IsReplyTo (is_among ids) cpus now (Hatch t) ((go_action t (Hand worker) Hatched (option_map standing_of o)).reply into)
+  hatch_replies t None still into = absurd (false≢true still)
+  hatch_replies t (Some m) still into = refl
+
+  -- the reply of a step is one that its event can have, where the thread that it seeks is there, and so is the unborn one
+  pub step_replies : (e : Event) → IfSome (sought_by e) (λ t. IsSome (thread_of t w.members)) → FindsUnborn w.members (handling e) →
+      IsReplyTo (is_among ids) cpus now e (step w worker e now).1
+  step_replies (Tick c) there finds = tick_replies c
+  step_replies (Drop c channel) there finds = drop_replies (current_record c w.members) (seen_under w worker now (Drop c channel) c) _
+  step_replies (Wake t) there finds = wake_replies t there
+  step_replies (Look c) there finds = tt
+  step_replies (Hatch t) there finds = hatch_replies t (thread_of t w.members) finds _
+  step_replies (Exit c) there finds = exit_replies c (current_of c w.members) refl (seen_under w worker now (Exit c) c) _
+  step_replies _ there finds = tt
