@@ -1,6 +1,6 @@
 -- What the action of a tick, of a switch, of leaving and of a change makes of a CPU's value and of the hand is what the CPU's
 -- own call makes of its value.
-use Rattle.std.proofs.Common.{◌≡◌, ℕ, ◌==◌, Bool, true, false, not, ⊎_elim, [], ◌∷◌, slice_set, Option, Some, None, if◌then◌else◌, option_and_then, refl, sym, ◌∙◌, ap}
+use Rattle.std.proofs.Common.{◌≡◌, ℕ, ◌==◌, Bool, true, false, not, slice_set, Option, Some, None, if◌then◌else◌, option_and_then, refl, sym, ◌∙◌, ap}
 use Rattle.std.specs.Option.{option_map}
 use Rattle.std.specs.Prelude.{nat_lt}
 use Rattle.std.proofs.lemmas.List.{get_or-set_other, get_or-set_same}
@@ -8,34 +8,28 @@ use Rattle.ule_prio.specs.Preemption.{takes_over}
 use Rattle.ule_prio.specs.declared.kind.Kind.{Kind}
 use Rattle.ule_prio.specs.declared.kind.Kind.TheVariants.{Real, Batch, Idle}
 use Rattle.ule_score.proofs.ChangeLaws.{change_number}
-use Rattle.ule_score.specs.Changes.{RecordChange, after_change, after_sleep, changed, record_after, woken as woken_change}
+use Rattle.ule_score.specs.Changes.{RecordChange, after_change, changed, record_after}
 use Rattle.ule_score.specs.declared.place.Place.{Place}
 use Rattle.ule_score.specs.declared.place.Place.TheVariants.{Running, Queued, Asleep, Unborn, Gone, Hand}
 use Rattle.ule_score.specs.declared.record.Change.{Change}
-use Rattle.ule_score.specs.declared.record.Settings.{Settings}
 use Rattle.ule_score.specs.declared.record.ThreadRecord.{ThreadRecord}
 use Rattle.ule_score.specs.declared.record.Why.{Why}
-use Rattle.ule_sleep.specs.Chain.{ChainValue, standing_in, thread_standing, without_sleeper}
-use Rattle.ule_sleep.specs.Limbo.{LimboValue, without_still}
 use Rattle.ule_threads.specs.declared.standing.Standing.{Standing}
 use Rattle.ule_types.specs.declared.event.Reply.{Reply}
-use Rattle.ule_types.specs.declared.event.Reply.TheVariants.{Bedded, Buried, Changed, Hatched, NotAsleep, Nothing, Returned, Unmarked}
-use Rattle.ule_model.specs.Action.{Action, answers, move}
-use Rattle.ule_model.specs.Actions.{Seen, change_action, change_action_at, fork_action, give_way_action, go_action, land_action, leave_action, note_action, requeue_action, switch_action, tick_action, unborn_action, wake_action, wake_action_at}
-use Rattle.ule_model.specs.ActionStep.{on_chain, on_limbo, on_queue, seen_in, seen_off}
-use Rattle.ule_model.specs.ActionValue.{action_in_slots, action_on_cpu}
-use Rattle.ule_model.specs.CpuChange.{value_changed, value_changed_from, value_followed, value_forked_from, value_forked_with, forked_reply, value_recorded, value_requeued}
+use Rattle.ule_types.specs.declared.event.Reply.TheVariants.{Changed, Nothing, Unmarked}
+use Rattle.ule_model.specs.Action.{Action, answers}
+use Rattle.ule_model.specs.Actions.{Seen, change_action, change_action_at, give_way_action, leave_action, note_action, requeue_action, switch_action, tick_action}
+use Rattle.ule_model.specs.ActionStep.{on_queue, seen_in}
+use Rattle.ule_model.specs.ActionValue.{action_on_cpu}
+use Rattle.ule_model.specs.CpuChange.{value_changed, value_changed_from, value_followed, value_recorded, value_requeued}
 use Rattle.ule_model.specs.CpuValue.{CpuValue, Taken, chosen_next, current_in, inserted, inserted_thread, removed_from, takes_over_in, thread_in, value_clocked, value_switched, value_switched_from, value_taken, value_taken_from, value_taken_with, value_ticked, value_ticked_with, without_current, without_marks}
 use Rattle.ule_model.specs.Landing.{current_priority, marked_if}
 use Rattle.ule_model.specs.LockConditions.{IsOnCpu, IsPlacedOn, queue_kind}
-use Rattle.ule_model.specs.LockValue.{chain, found_on, limbo, queue}
-use Rattle.ule_model.specs.PriorityChange.{unborn_answer}
+use Rattle.ule_model.specs.LockValue.{found_on, queue}
 use Rattle.ule_model.specs.ActionStep.{Stepped, kept}
-use Rattle.ule_model.specs.Sleep.{woken_reply}
 use Rattle.ule_model.specs.declared.insertion.Insertion.TheVariants.{Borrowing}
 use Rattle.ule_model.specs.Switch.{is_preemption, is_unasked}
 use Rattle.ule_model.specs.Tick.{is_due}
-use Rattle.ule_laws.proofs.SlotStands.{IsStill}
 
 -- an event that leaves the hand
 abbrev pub queue_stepped : Option ThreadRecord → CpuValue × Reply → Stepped
