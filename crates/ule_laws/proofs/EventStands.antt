@@ -33,7 +33,7 @@ use Rattle.ule_model.specs.Landing.{current_record}
 use Rattle.ule_model.specs.LockConditions.{IsOnCpu}
 use Rattle.ule_model.specs.LockValue.{LockValue, chain, found_in, limbo, nothing, queue}
 use Rattle.ule_model.specs.Places.{is_hand_of, is_number, is_under, lock_of, runs_on, waits_on}
-use Rattle.ule_model.specs.PriorityChange.{unborn_answer}
+use Rattle.ule_model.specs.Actions.{unborn_answer}
 use Rattle.ule_model.specs.Step.{Stepped, lock_step, step, step_under_locks}
 use Rattle.ule_model.specs.Switch.{is_preemption, is_unasked}
 use Rattle.ule_model.specs.WellMade.{IsWellMade, IsWellMadeWorld}

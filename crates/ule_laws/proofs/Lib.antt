@@ -28,6 +28,7 @@ pub mod CpuChanges
 pub mod StepLaws
 pub mod TellLaws
 pub mod SoughtLaws
+pub mod CallStands
 pub mod StepConditions
 pub mod WorldSteps
 pub mod CpuStarts

@@ -53,13 +53,12 @@ on_is_under c t ms small = find_alike (is_on c) (is_under c) t ms (λ p. sym (is
 
 -- ---- what a value finds
 
--- a CPU finds a thread with its place where its side has it
-queue_finds : (v : CpuValue) (s : Side) (t : ℕ) → StandsFor v s → IsWellMade s.members → v.cpu < 16 →
-    found_on v t ≡ option_map standing_of (thread_under v.cpu t s.members)
-queue_finds v s t stands made small =
+-- a CPU finds a thread with its place where its side has it on the CPU
+pub cpu_finds : (v : CpuValue) (s : Side) (t : ℕ) → StandsFor v s → IsWellMade s.members → found_on v t ≡ option_map standing_of (thread_on v.cpu t s.members)
+cpu_finds v s t stands made =
     ap (option_and_then (λ (r : ThreadRecord). option_map (λ (at : Place × ℕ). record { thread = r; place = at.0 }) (value_place v t))) (stands.threads t) ∙
     ap (λ (o : Option (Place × ℕ)). option_and_then (λ (r : ThreadRecord). option_map (λ (at : Place × ℕ). record { thread = r; place = at.0 }) o) (option_map (λ (m : Member). m.thread) (thread_on v.cpu t s.members))) (positions_stand v s stands made t) ∙
-    split (thread_on v.cpu t s.members) ∙ ap (option_map standing_of) (on_is_under v.cpu t s.members small)
+    split (thread_on v.cpu t s.members)
   where
     split : (o : Option Member) →
         option_and_then (λ (r : ThreadRecord). option_map (λ (at : Place × ℕ). record { thread = r; place = at.0 }) (option_map (λ (m : Member). (m.place, position_of m.place m.order s.members)) o)) (option_map (λ (m : Member). m.thread) o) ≡ option_map standing_of o
@@ -75,7 +74,7 @@ some_standing (Some m) = refl
 pub found_stands : (w : World) (l t : ℕ) (value : LockValue) → IsWellMade w.members → length w.lines ≤ 16 → StandsUnder w l value →
     found_in value t ≡ option_map standing_of (thread_under l t w.members)
 found_stands w l t (queue v) made few stands =
-    queue_finds v (side_of l w) t stands.stands made (omega (arith, stands.cpu, stands.there)) ∙ ap (λ (c : ℕ). option_map standing_of (thread_under c t w.members)) stands.cpu
+    cpu_finds v (side_of l w) t stands.stands made ∙ ap (option_map standing_of) (on_is_under v.cpu t w.members (omega (arith, stands.cpu, stands.there))) ∙ ap (λ (c : ℕ). option_map standing_of (thread_under c t w.members)) stands.cpu
 found_stands w l t (chain v) made few stands = stands.under t
 found_stands w l t (limbo v) made few stands = stands.under t
 found_stands w l t nothing made few stands = sym (ap (option_map standing_of) (stands.none t))

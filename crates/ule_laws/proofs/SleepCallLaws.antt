@@ -10,14 +10,17 @@ use Rattle.ule_score.specs.declared.record.Settings.{Settings}
 use Rattle.ule_sleep.specs.Chain.{standing_changed, standing_in, with_standing, without_standing}
 use Rattle.ule_threads.specs.declared.standing.Standing.{Standing}
 use Rattle.ule_model.specs.Places.{is_number, is_under, lock_of}
-use Rattle.ule_model.specs.Sleep.{put_in_hand}
-use Rattle.ule_model.specs.World.{Member, World, moved_to, with_record}
+use Rattle.ule_model.specs.World.{Member, World, moved_to, with_change, with_record}
 use Rattle.ule_model.specs.WorldValue.{IsAsleepOn}
 use Rattle.ule_members.proofs.Moves.{moved_member}
 use Rattle.ule_members.proofs.Threads.{changed_further}
 use Rattle.ule_members.proofs.Within.{Within, within_thread}
 use Rattle.ule_laws.proofs.SlotStands.{AreSlots, IsStill, chain_slots, is_chain, is_limbo, limbo_slots, slots_joined, slots_left, slots_noted}
 use Rattle.ule_laws.specs.SleepCalls.{ChainCallsStand, IsThreadOf, LimboCallsStand}
+
+-- the threads with this one in a worker's hand, woken
+abbrev taken_up : Settings → ℕ → ℕ → ℕ → List Member → List Member
+taken_up settings now worker t members = moved_to t (Hand worker) (pos 0) (with_change settings now t woken members)
 
 -- a thread of a world, among the threads with places under lock l
 module _ (w : World) (l t : ℕ) (m : Member) (is : IsThreadOf w t m) (P : Standing → Type 0) (slots : List (Option Standing)) (are : AreSlots l P w.members slots) where
@@ -34,9 +37,9 @@ module _ (w : World) (l t : ℕ) (m : Member) (is : IsThreadOf w t m) (P : Stand
   comes to under so = subst (λ (u : ℕ). AreSlots l P (moved_to u to (pos 0) w.members) (with_standing m.thread to slots)) number (slots_joined l P m w.members slots within are to under so)
 
   -- it is woken
-  wakes : (worker now : ℕ) (settings : Settings) → AreSlots l P (put_in_hand settings now worker woken m.thread.id w.members) (without_standing t slots)
+  wakes : (worker now : ℕ) (settings : Settings) → AreSlots l P (taken_up settings now worker m.thread.id w.members) (without_standing t slots)
   wakes worker now settings =
-      subst (λ (u : ℕ). AreSlots l P (put_in_hand settings now worker woken m.thread.id w.members) (without_standing u slots)) number
+      subst (λ (u : ℕ). AreSlots l P (taken_up settings now worker m.thread.id w.members) (without_standing u slots)) number
       (subst (λ (ms : List Member). AreSlots l P ms (without_standing m.thread.id slots))
       (sym (changed_further m.thread.id (λ n. record n { thread = record_after settings now woken n.thread }) (moved_member (Hand worker) (pos 0)) w.members (λ n. change_number settings now woken n.thread)))
       (slots_left l P m w.members slots within are (λ n. record n { thread = record_after settings now woken n.thread; place = Hand worker; order = pos 0 }) (change_number settings now woken m.thread) refl))
@@ -60,7 +63,7 @@ chain_calls = record {
       is_chain w (record w { members = moved_to t (Asleep channel) (pos 0) w.members }) l v _ is
       (comes w l t m thread (IsAsleepOn v.number) v.slots (chain_slots w l v is) (Asleep channel) (eq-eqb l (16 + channel % 8) (let number = is.number in omega arith)) (record { channel = channel; place = refl; chain = same }));
   take_out = λ w l t worker now settings m v thread is.
-      is_chain w (record w { members = put_in_hand settings now worker woken m.thread.id w.members }) l v _ is (wakes w l t m thread (IsAsleepOn v.number) v.slots (chain_slots w l v is) worker now settings);
+      is_chain w (record w { members = taken_up settings now worker m.thread.id w.members }) l v _ is (wakes w l t m thread (IsAsleepOn v.number) v.slots (chain_slots w l v is) worker now settings);
   change = λ w l t settings given m v thread is lock.
       is_chain w (record w { members = with_record t (after_change settings given) w.members }) l v _ is
       (is_changed w l t m thread (IsAsleepOn v.number) v.slots (chain_slots w l v is) settings given (λ s so. record { channel = so.channel; place = so.place; chain = so.chain }) lock);

@@ -1,5 +1,5 @@
 -- Under the one lock of an event stands a value of its kind, which has the thread that the event seeks.
-use Rattle.std.proofs.Common.{◌≡◌, ◌≢◌, ℕ, ◌+◌, ◌%◌, ◌<◌, ◌≤◌, ◌==◌, true, false, List, [], ◌∷◌, length, Option, Some, None, if◌then◌else◌, refl, sym, ◌∙◌, ap, subst, arith, mod-lt}
+use Rattle.std.proofs.Common.{◌≡◌, ◌≢◌, ℕ, ◌+◌, ◌%◌, ◌<◌, ◌≤◌, ◌==◌, true, false, List, [], ◌∷◌, Option, Some, None, if◌then◌else◌, refl, sym, ◌∙◌, ap, subst, arith, mod-lt}
 use Rattle.std.specs.Option.{option_map}
 use Rattle.std.specs.Prelude.{max, min}
 use Rattle.std.proofs.lemmas.Bool.{eq-eqb, ltb-true, or_left, or_right}
@@ -14,8 +14,8 @@ use Rattle.ule_model.specs.CpuChange.{kind_queued}
 use Rattle.ule_model.specs.CpuValue.{CpuValue, StandsFor, current_in, thread_in}
 use Rattle.ule_model.specs.Events.{Locking, are_cpus, lock_numbers, lock_of_thread, locking, place_of, queues, sought_in}
 use Rattle.ule_model.specs.Events as events
-use Rattle.ule_model.specs.LockConditions.{HasPlaced, HasSleeper, HasStill, IsOnCpu, MayTakeChain, MayTakeLimbo, MayTakeQueue, queue_kind}
-use Rattle.ule_model.specs.LockValue.{chain, limbo, queue}
+use Rattle.ule_model.specs.LockConditions.{HasPlaced, HasSleeper, HasStill, IsOnCpu, IsPlacedOn, MayTakeChain, MayTakeLimbo, MayTakeQueue, queue_kind}
+use Rattle.ule_model.specs.LockValue.{chain, limbo}
 use Rattle.ule_model.specs.Places.{is_on, runs_on}
 use Rattle.ule_model.specs.WellMade.{IsWellMade}
 use Rattle.ule_model.specs.World.{Member, Side, World, current_of, side_of, standing_of, thread_of}
@@ -27,8 +27,9 @@ use Rattle.ule_members.proofs.Within.{Within, within_thread}
 use Rattle.ule_laws.proofs.CpuPlaces.{kind_running, kind_waiting}
 use Rattle.ule_laws.proofs.EventStands.{current_in_is, on_from_lock, same_lock, under_named}
 use Rattle.ule_laws.proofs.PlaceLaws.{place_from_runs_on}
-use Rattle.ule_laws.proofs.WorldLaws.{at_some}
 use Rattle.ule_laws.proofs.SlotStands.{IsStill}
+use Rattle.ule_laws.proofs.SeekLaws.{cpu_finds}
+use Rattle.ule_laws.proofs.WorldLaws.{at_some}
 
 -- ---- kinds
 
@@ -114,6 +115,18 @@ module _ (u : CpuValue) (s : Side) (stands : StandsFor u s) (made : IsWellMade s
   thread_recorded on =
       stands.threads m.thread.id ∙ ap (option_map (λ (n : Member). n.thread)) (thread_on_within u.cpu m.thread.id m s.members v ∙ ap (λ d. if d then Some m else None) on)
 
+  -- it is placed on the value as on the side
+  pub placed_on_cpu : IsOnCpu u.cpu m.place → IsPlacedOn u m.thread.id m.thread m.place
+  placed_on_cpu on = record {
+    on = on;
+    found = cpu_finds u s m.thread.id stands made ∙ ap (option_map standing_of) (thread_on_within u.cpu m.thread.id m s.members v ∙ ap (λ d. if d then Some m else None) (on_cpu_test u.cpu m.place on));
+    record_is = thread_recorded (on_cpu_test u.cpu m.place on);
+    number = refl;
+    small = subst (λ (i : ℕ). m.thread.id < i) (sym stands.slots) v.made.numbers.id;
+    kind = kind_is m.place refl on;
+    apart = λ k queued. runs_apart k queued;
+  }
+
 module _ (v : WorldValue) (w : World) (worker now : ℕ) (shows : Shows v w) (t l : ℕ) (is : IsUnder w t l) where
   -- the thread that is sought
   abbrev m : Member
@@ -129,19 +142,8 @@ module _ (v : WorldValue) (w : World) (worker now : ℕ) (shows : Shows v w) (t 
 
   -- the thread that is sought is on the CPU
   pub has_placed : (u : CpuValue) → IsQueueOf w l u → HasPlaced u t
-  has_placed u at = (
-    m.thread,
-    m.place,
-    record {
-      on = on;
-      found = under_named v w worker now shows t l (queue u) at is ∙ ap (option_map standing_of) is.found;
-      record_is = ap (thread_in u) (sym own_number) ∙ thread_recorded u (side_of l w) at.stands shows.made m own_within (on_cpu_test u.cpu m.place on);
-      number = own_number;
-      small = subst (λ (i : ℕ). i < length u.threads) own_number (subst (λ (i : ℕ). m.thread.id < i) (sym at.stands.slots) own_within.made.numbers.id);
-      kind = ap (kind_queued u) (sym own_number) ∙ kind_is u (side_of l w) at.stands shows.made m own_within m.place refl on;
-      apart = λ k queued runs. runs_apart u (side_of l w) at.stands shows.made m own_within k queued (runs ∙ ap (λ (i : ℕ). Some i) (sym own_number));
-    },
-  )
+  has_placed u at =
+      (m.thread, m.place, subst (λ (i : ℕ). IsPlacedOn u i m.thread m.place) own_number (placed_on_cpu u (side_of l w) at.stands shows.made m own_within on))
     where
       on : IsOnCpu u.cpu m.place
       on = subst (λ (c : ℕ). IsOnCpu c m.place) (sym at.cpu) (on_from_lock l m.place (let below = at.there in let few = shows.cpus in omega arith) is.under)

@@ -18,13 +18,13 @@ use Rattle.ule_types.specs.declared.event.Event.TheVariants.{Tick, Switch, Drop,
 use Rattle.ule_types.specs.declared.event.Reply.{Reply}
 use Rattle.ule_types.specs.declared.event.Reply.TheVariants.{Bedded, Buried, Dropped, Exited, Hatched, NotAsleep, Nothing, Returned, Unmarked}
 use Rattle.ule_model.specs.Action.{Action, Part, answers, move}
-use Rattle.ule_model.specs.Actions.{action_of, change_action, change_action_at, fork_action, give_way_action, go_action, land_action, leave_action, note_action, requeue_action, switch_action, tick_action, unborn_action, wake_action, wake_action_at}
+use Rattle.ule_model.specs.Actions.{Seen, action_of, change_action, change_action_at, fork_action, give_way_action, go_action, land_action, leave_action, note_action, requeue_action, switch_action, tick_action, unborn_action, wake_action, wake_action_at}
 use Rattle.ule_model.specs.ActionStep.{seen_under}
 use Rattle.ule_model.specs.Conditions.{IsByIfReached, IsPossible}
 use Rattle.ule_model.specs.Events.{lock_of_thread, locks_of}
 use Rattle.ule_model.specs.Frames.{IsSoundIn}
 use Rattle.ule_model.specs.Places.{is_on, lock_of, runs_on}
-use Rattle.ule_model.specs.PriorityChange.{gone_answer, unborn_answer}
+use Rattle.ule_model.specs.Actions.{gone_answer, unborn_answer}
 use Rattle.ule_model.specs.Switch.{is_preemption, is_unasked}
 use Rattle.ule_model.specs.WellMade.{IsPlace, IsWellMadeWorld}
 use Rattle.ule_model.specs.Words.{WordChange, block, change_of}
@@ -106,12 +106,12 @@ module _ (w : World) (worker now : ℕ) (made : IsWellMadeWorld w) where
   abbrev thread_if : Option Member → Option ThreadRecord
   thread_if o = option_map (λ (m : Member). m.thread) o
 
-  tick_fits : (c : ℕ) (o : Option Member) → current_of c w.members ≡ o → IsFit (Tick c) c (tick_action (thread_if o) (seen_under w worker now (Tick c) c))
+  pub tick_fits : (c : ℕ) (o : Option Member) → current_of c w.members ≡ o → IsFit (Tick c) c (tick_action (thread_if o) (seen_under w worker now (Tick c) c))
   tick_fits c None found = record { follows = (tt, tt, tt); word = λ into. refl }
   tick_fits c (Some m) found =
       record { follows = (tt, tt, ((runs_there c m found, here (Tick c) c (Running c) (takes_itself c) refl, tt), tt, (tt, tt, tt))); word = λ into. refl }
 
-  give_way_fits : (c : ℕ) (why : Why) (p : Bool) (o : Option Member) → current_of c w.members ≡ o →
+  pub give_way_fits : (c : ℕ) (why : Why) (p : Bool) (o : Option Member) → current_of c w.members ≡ o →
       IsFit (Switch c why) c (give_way_action p (thread_if o) (seen_under w worker now (Switch c why) c))
   give_way_fits c why p None found = record { follows = (tt, tt, (found, tt, tt)); word = λ into. refl }
   give_way_fits c why p (Some m) found =
@@ -129,7 +129,7 @@ module _ (w : World) (worker now : ℕ) (made : IsWellMadeWorld w) where
       if_asked false = give_way_fits c why p (current_of c w.members) refl
 
   -- an event by which the current thread leaves, if there is one, with this change of its record and this reply
-  leave_fits : (e : Event) (c : ℕ) (change : RecordChange) (reply : ThreadRecord → Option ℕ → Reply) → is_among (locks_of w e) c ≡ true → IsSoundIn w now change →
+  pub leave_fits : (e : Event) (c : ℕ) (change : RecordChange) (reply : ThreadRecord → Option ℕ → Reply) → is_among (locks_of w e) c ≡ true → IsSoundIn w now change →
       change_of e Nothing ≡ None → ((r : ThreadRecord) (into : Option ℕ) → change_of e (reply r into) ≡ Some (block r.id)) →
       (o : Option Member) → current_of c w.members ≡ o → IsFit e c (leave_action change reply (thread_if o) (seen_under w worker now e c))
   leave_fits e c change reply among sound none word None found = answer_fits e c Nothing none
@@ -214,29 +214,29 @@ module _ (w : World) (worker now : ℕ) (made : IsWellMadeWorld w) where
     unborn_fits l None new among at under = note_fits l Unborn new among at under
     unborn_fits l (Some refusal) new among at under = answer_fits e l refusal (none refusal)
 
-    change_fits : (l : ℕ) (place : Place) (r new : ThreadRecord) → is_among (locks_of w e) l ≡ true → StandsAt t place w.members → lock_of place ≡ Some l →
-        IsFit e l (change_action_at place given t r new (seen_under w worker now e l))
-    change_fits l (Queued d k b) r new among at under = if_better (nat_lt new.priority r.priority)
+    pub change_fits : (l : ℕ) (place : Place) (r new : ThreadRecord) (sees : Seen) → is_among (locks_of w e) l ≡ true → StandsAt t place w.members → lock_of place ≡ Some l →
+        IsFit e l (change_action_at place given t r new sees)
+    change_fits l (Queued d k b) r new sees among at under = if_better (nat_lt new.priority r.priority)
       where
-        if_better : (better : Bool) → IsFit e l (if better then requeue_action (Queued d k b) given t new (seen_under w worker now e l) else note_action (Queued d k b) given t new)
+        if_better : (better : Bool) → IsFit e l (if better then requeue_action (Queued d k b) given t new sees else note_action (Queued d k b) given t new)
         if_better true =
             let acted = here e l (Queued d k b) among under in record {
               follows = ((at, acted, sound), tt, ((at, acted, same_Some d l under), tt, (tt, tt, tt)));
-              word = λ into. none ((requeue_action (Queued d k b) given t new (seen_under w worker now e l)).reply into);
+              word = λ into. none ((requeue_action (Queued d k b) given t new sees).reply into);
             }
         if_better false = note_fits l (Queued d k b) new among at under
-    change_fits l (Running d) r new among at under = note_fits l (Running d) new among at under
-    change_fits l (Asleep channel) r new among at under = note_fits l (Asleep channel) new among at under
-    change_fits l Unborn r new among at under = unborn_fits l (unborn_answer given) new among at under
-    change_fits l Gone r new among at under = answer_fits e l (gone_answer given) (none (gone_answer given))
-    change_fits l (Hand h) r new among at under = answer_fits e l Nothing (none Nothing)
+    change_fits l (Running d) r new sees among at under = note_fits l (Running d) new among at under
+    change_fits l (Asleep channel) r new sees among at under = note_fits l (Asleep channel) new among at under
+    change_fits l Unborn r new sees among at under = unborn_fits l (unborn_answer given) new among at under
+    change_fits l Gone r new sees among at under = answer_fits e l (gone_answer given) (none (gone_answer given))
+    change_fits l (Hand h) r new sees among at under = answer_fits e l Nothing (none Nothing)
 
     -- where it stands
     changes_fit : (l : ℕ) → is_among (locks_of w e) l ≡ true → is_among (lock_of_thread w.members t) l ≡ true → IsFit e l (change_action given t (option_map standing_of (thread_of t w.members)) (seen_under w worker now e l))
     changes_fit l among under =
         let s = sought_under w t l under in
         named_is t s.member (λ o. IsFit e l (change_action given t (option_map standing_of o) (seen_under w worker now e l))) s.found
-        (change_fits l s.member.place s.member.thread (after_change w.settings given s.member.thread) among (record { member = s.member; found = s.found; place_is = refl }) s.under)
+        (change_fits l s.member.place s.member.thread (after_change w.settings given s.member.thread) (seen_under w worker now e l) among (record { member = s.member; found = s.found; place_is = refl }) s.under)
 
   -- ---- each event
 

@@ -25,7 +25,6 @@ use Rattle.ule_model.specs.World.{Member, Side, is_numbered, moved_to, others, t
 use Rattle.ule_model.proofs.IndexLaws.{ordinary_is_ahead}
 use Rattle.ule_model.specs.CalendarPromise.{IsInBucket, chosen_by, goes_next, numbers_on, takes_up}
 use Rattle.ule_model.specs.Places.{waits_on}
-use Rattle.ule_model.specs.Sleep.{taken}
 use Rattle.ule_members.proofs.CalendarMoves.{AllCpus, AreMoved, IsQueuedOn, Others, moved, moved_aside, moved_finds, queued_where_waits, unmoved}
 use Rattle.ule_members.proofs.CalendarPlaces.{Filing, FindsEach, IsFiled, filed_at, filed_found, filed_in, filed_itself, filing_found, filing_moved, filing_moved_other, filing_of, filing_recorded, none_where_filed, some_filed, unfiled_kind}
 use Rattle.ule_members.proofs.CalendarRules.{IndexRule, IsClose, IsWithin, Passage, TellsEmpty, removes, rule_from, stays, turns, rule_nowhere}

@@ -26,7 +26,7 @@ use Rattle.ule_model.specs.CalendarPromise.{IsInBucket, choosing_side, choosing_
 use Rattle.ule_model.specs.Events.{has_thread, holder_of, is_own, locks_of, sought_by}
 use Rattle.ule_model.specs.Landing.{current_record}
 use Rattle.ule_model.specs.Places.{lock_of}
-use Rattle.ule_model.specs.PriorityChange.{gone_answer, unborn_answer}
+use Rattle.ule_model.specs.Actions.{gone_answer, unborn_answer}
 use Rattle.ule_model.specs.Switch.{insertion_of, is_preemption, is_unasked, started_reply}
 use Rattle.ule_model.specs.World.{Member, Side, World, current_of, fresh_line, side_of, standing_of, thread_of}
 use Rattle.ule_members.proofs.ActionFits.{IsUnder, only_lock, running_at, sought_under}

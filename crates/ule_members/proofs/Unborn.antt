@@ -32,7 +32,7 @@ use Rattle.ule_model.specs.Conditions.{IsPossible}
 use Rattle.ule_model.specs.Events.{holder_of, is_unborn, is_unborn_thread, locks_of}
 use Rattle.ule_model.specs.Landing.{current_record}
 use Rattle.ule_model.specs.Places.{waits_on}
-use Rattle.ule_model.specs.PriorityChange.{unborn_answer}
+use Rattle.ule_model.specs.Actions.{unborn_answer}
 use Rattle.ule_model.specs.Shows.{numbers_of}
 use Rattle.ule_model.specs.Start.{laid, empty_world, unborn_member, unborn_record, with_unborn, world_at_start}
 use Rattle.ule_model.specs.Step.{step, step_under_locks}

@@ -10,13 +10,12 @@ use Rattle.ule_sleep.specs.Limbo.{LimboValue}
 use Rattle.ule_threads.specs.declared.standing.Standing.{Standing}
 use Rattle.ule_types.specs.declared.event.Event.{Event}
 use Rattle.ule_types.specs.declared.event.Reply.{Reply}
-use Rattle.ule_types.specs.declared.event.Reply.TheVariants.{Nothing}
-use Rattle.ule_model.specs.Actions.{Seen, action_of}
-use Rattle.ule_model.specs.ActionValue.{HandAndCpu, HandAndSlots, action_in_slots, action_on_cpu}
+use Rattle.ule_model.specs.Actions.{Seen}
+use Rattle.ule_model.specs.ActionValue.{HandAndCpu, HandAndSlots}
 use Rattle.ule_model.specs.CpuValue.{CpuValue, current_in}
 use Rattle.ule_model.specs.Events.{Handling, Locking, any, empty, handling, has, locking, place_of, unborn}
 use Rattle.ule_model.specs.Landing.{current_record}
-use Rattle.ule_model.specs.LockValue.{LockValue, queue, chain, limbo, nothing, found_in}
+use Rattle.ule_model.specs.LockValue.{LockValue, queue, chain, limbo, found_in}
 use Rattle.ule_model.specs.Tick.{load_of}
 use Rattle.ule_model.specs.World.{Member, Side, World, fresh_line, side_of, standing_of, thread_of}
 

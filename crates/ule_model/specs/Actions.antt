@@ -15,12 +15,10 @@ use Rattle.ule_threads.specs.declared.standing.Standing.{Standing}
 use Rattle.ule_types.specs.declared.event.Event.{Event}
 use Rattle.ule_types.specs.declared.event.Event.TheVariants.{Tick, Switch, Drop, Bed, Wake, Look, Land, Move, Lend, Unlend, Renice, Hatch, Fork, Return, Exit, Bury, Inherit}
 use Rattle.ule_types.specs.declared.event.Reply.{Reply}
-use Rattle.ule_types.specs.declared.event.Reply.TheVariants.{Ticked, Unmarked, Nothing, Switched, Dropped, Bedded, NotAsleep, Landed, Changed, Hatched, Forked, Returned, Exited, Buried}
+use Rattle.ule_types.specs.declared.event.Reply.TheVariants.{Ticked, Unmarked, Nothing, Switched, Dropped, Bedded, NotAsleep, Woken, Landed, Changed, NotAllowed, Hatched, Forked, Returned, Exited, Buried, ParentGone}
 use Rattle.ule_model.specs.Action.{Action, answers, choose, clear_marks, clock, count_switch, end_slice_if, insert, mark_if, move, note}
 use Rattle.ule_model.specs.Insertion.{Ordinary, Borrowing, bucket_of}
 use Rattle.ule_model.specs.Landing.{current_priority}
-use Rattle.ule_model.specs.PriorityChange.{gone_answer, unborn_answer}
-use Rattle.ule_model.specs.Sleep.{woken_reply}
 use Rattle.ule_model.specs.Switch.{insertion_of, is_preemption, is_unasked, started_reply}
 use Rattle.ule_model.specs.Tick.{is_due}
 
@@ -96,6 +94,10 @@ go_action t to reply (Some s) = record { parts = move t s.place to ∷ []; reply
 
 -- ---- a wake, after sched_wakeup
 
+-- what a woken thread's record tells
+abbrev pub woken_reply : ThreadRecord → Reply
+woken_reply r = Woken r.priority r.bound r.last r.last_run
+
 -- a sleeping thread goes to the hand, where its sleep is noted; one at another place stays
 abbrev pub wake_action_at : Place → ℕ → ThreadRecord → Seen → Action
 wake_action_at (Asleep channel) t r at = record {
@@ -120,6 +122,20 @@ land_action t (Some s) at =
     }
 
 -- ---- a change that can move a priority, after sched_thread_priority
+
+-- what a change answers of a thread that is gone: none is made
+abbrev pub gone_answer : Change → Reply
+gone_answer (change.Lend p) = NotAllowed Gone
+gone_answer change.Unlend = NotAllowed Gone
+gone_answer (change.Renice n) = NotAllowed Gone
+gone_answer (change.Inherit run) = ParentGone
+
+-- what a change answers of an unborn thread, where none is made; run time is charged to one all the same
+abbrev pub unborn_answer : Change → Option Reply
+unborn_answer (change.Lend p) = Some (NotAllowed Unborn)
+unborn_answer change.Unlend = Some (NotAllowed Unborn)
+unborn_answer (change.Renice n) = Some (NotAllowed Unborn)
+unborn_answer (change.Inherit run) = None
 
 -- the record changes, and the thread keeps its place
 abbrev pub note_action : Place → Change → ℕ → ThreadRecord → Action

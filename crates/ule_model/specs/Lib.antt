@@ -6,9 +6,7 @@ pub mod Choice
 pub mod Switch
 pub mod Start
 pub mod Tick
-pub mod Sleep
 pub mod Landing
-pub mod Birth
 pub mod Events
 pub mod Words
 pub mod Action
@@ -16,6 +14,7 @@ pub mod Actions
 pub mod ActionValue
 pub mod ActionStep
 pub mod Step
+pub mod CpuActions
 pub mod Program
 pub mod Rounds
 pub mod Finals
@@ -26,7 +25,6 @@ pub mod WellMade
 pub mod CpuValue
 pub mod CpuChange
 pub mod CpuNumbers
-pub mod PriorityChange
 pub mod CpuStart
 pub mod Conditions
 pub mod Frames

@@ -1,34 +1,22 @@
 -- The step of the sequential scheduler: what each event does to the world, and what it does to the value under its
 -- lock and the worker's hand; and what it answers.
-use Rattle.std.specs.Prelude.{ℕ, false, not, ◌==◌, List, [], ◌∷◌, Option, Some, None}
+use Rattle.std.specs.Prelude.{ℕ, List, [], ◌∷◌, Option, None}
 use Rattle.ule_types.specs.declared.event.Event.{Event}
 use Rattle.ule_types.specs.declared.event.Reply.{Reply}
-use Rattle.ule_types.specs.declared.event.Reply.TheVariants.{Nothing, Dropped, Bedded, NotAsleep, Landed, Changed, Hatched, Returned, Buried}
+use Rattle.ule_types.specs.declared.event.Reply.TheVariants.{Nothing}
+use Rattle.ule_score.specs.declared.record.Settings.{Settings}
+use Rattle.ule_score.specs.declared.record.ThreadRecord.{ThreadRecord}
+use Rattle.ule_sleep.specs.Chain.{ChainValue}
+use Rattle.ule_sleep.specs.Limbo.{LimboValue}
 use Rattle.ule_model.specs.Action.{action_done}
 use Rattle.ule_model.specs.Actions.{action_of}
 pub use Rattle.ule_model.specs.ActionStep.{Stepped, kept}
 use Rattle.ule_model.specs.ActionStep.{bare_side, named_by, named_held, on_chain, on_limbo, on_queue, seen_in, seen_off, seen_on, seen_under}
 use Rattle.ule_model.specs.ActionValue.{action_in_slots, action_on_cpu}
-use Rattle.ule_model.specs.Birth.{exited_reply}
+use Rattle.ule_model.specs.CpuValue.{CpuValue}
 use Rattle.ule_model.specs.Events.{handling, locking, locks_of}
-use Rattle.ule_model.specs.CpuChange.{forked_reply, value_changed, value_forked}
-use Rattle.ule_model.specs.Sleep.{woken_reply}
-use Rattle.ule_model.specs.PriorityChange.{gone_answer, unborn_answer}
-use Rattle.ule_model.specs.World.{World, on_side}
-use Rattle.ule_prio.specs.Kind.{kind_at}
-use Rattle.ule_score.specs.Changes.{after_change, ran, record_after, sleeps, woken as woken_change}
-use Rattle.ule_score.specs.declared.place.Place.{Place}
-use Rattle.ule_score.specs.declared.place.Place.TheVariants.{Running, Queued, Asleep, Unborn, Gone, Hand}
-use Rattle.ule_score.specs.declared.record.Change.{Change}
-use Rattle.ule_score.specs.declared.record.Change.TheVariants as change
-use Rattle.ule_score.specs.declared.record.Settings.{Settings}
-use Rattle.ule_score.specs.declared.record.ThreadRecord.{ThreadRecord}
-use Rattle.ule_sleep.specs.Chain.{ChainValue, standing_in, with_sleeper, with_sleeper_changed, without_sleeper}
-use Rattle.ule_sleep.specs.Limbo.{LimboValue, with_still, with_still_changed, without_still}
-use Rattle.ule_threads.specs.declared.standing.Standing.{Standing}
-use Rattle.ule_model.specs.CpuValue.{CpuValue, Taken, takes_over_in, value_added, value_switched, value_taken, value_ticked}
-use Rattle.ule_model.specs.Insertion.{Ordinary, bucket_of}
 use Rattle.ule_model.specs.LockValue.{LockValue, queue, chain, limbo, nothing}
+use Rattle.ule_model.specs.World.{World, on_side}
 
 -- ---- the step on a world
 

@@ -3,18 +3,18 @@ use Rattle.std.specs.Prelude.{ℕ, Bool, false, not, ◌==◌, pos, List, length
 pub use Rattle.ule_io.specs.Counter.{one_more}
 use Rattle.ule_prio.specs.declared.kind.Kind.{Kind}
 use Rattle.ule_prio.specs.declared.kind.Kind.TheVariants.{Real, Batch, Idle}
-use Rattle.ule_score.specs.Changes.{ran, runs}
+use Rattle.ule_score.specs.Changes.{runs}
 use Rattle.ule_score.specs.declared.place.Place.{Place}
 use Rattle.ule_score.specs.declared.place.Place.TheVariants.{Running, Queued, Asleep, Unborn, Gone, Hand}
 use Rattle.ule_score.specs.declared.record.CpuLine.{CpuLine}
 use Rattle.ule_score.specs.declared.record.Why.{Why}
 use Rattle.ule_score.specs.declared.record.Why.TheVariants.{Yield, Resched}
 use Rattle.ule_types.specs.declared.event.Reply.{Reply}
-use Rattle.ule_types.specs.declared.event.Reply.TheVariants.{Unmarked, Nothing, Switched}
+use Rattle.ule_types.specs.declared.event.Reply.TheVariants.{Nothing, Switched}
 use Rattle.ule_model.specs.CalendarIndexes.{ridx_after_removal}
 use Rattle.ule_model.specs.Choice.{choice_of}
-use Rattle.ule_model.specs.Insertion.{Insertion, Ordinary, Preempted, members_in, queued}
-use Rattle.ule_model.specs.World.{Member, Side, current_of, moved_to, others, with_change}
+use Rattle.ule_model.specs.Insertion.{Insertion, Ordinary, Preempted, members_in}
+use Rattle.ule_model.specs.World.{Member, Side, moved_to, others, with_change}
 
 -- ---- leaving a place
 
@@ -72,24 +72,10 @@ counted s = record s { line = record s.line { switches = one_more s.line.switche
 abbrev pub insertion_of : Bool → Insertion
 insertion_of preempted = if preempted then Preempted else Ordinary
 
--- the side with CPU c's current thread queued again
-abbrev pub given_way : ℕ → Bool → ℕ → ℕ → Side → Side
-given_way c preempted now t s =
-    queued (insertion_of preempted) c t
-    (counted (record s { members = with_change s.settings now t ran s.members }))
-
 -- the reply where there was no current thread
 abbrev pub started_reply : Option ℕ → Reply
 started_reply None = Nothing
 started_reply (Some t) = Switched None (Some t) false
-
--- the switch from the current thread, if there is one
-abbrev pub switched_from : Option Member → ℕ → Bool → ℕ → Side → Side × Reply
-switched_from None c preempted now s =
-    let next = choosing_next c now s in (next.0, started_reply next.1)
-switched_from (Some m) c preempted now s =
-    let next = choosing_next c now (given_way c preempted now m.thread.id s) in
-    (next.0, Switched (Some m.thread.id) next.1 preempted)
 
 -- whether a switch for this reason takes the processor from a thread that would have gone on
 abbrev pub is_preemption : Why → Bool → Bool
@@ -100,9 +86,3 @@ is_preemption Resched slice_end = not slice_end
 abbrev pub is_unasked : Why → Bool → Bool
 is_unasked Yield resched = false
 is_unasked Resched resched = not resched
-
--- the step of a switch of CPU c
-abbrev pub switched : ℕ → Why → ℕ → Side → Side × Reply
-switched c why now s =
-    if is_unasked why s.line.resched then (s, Unmarked)
-    else switched_from (current_of c s.members) c (is_preemption why s.line.slice_end) now (unmarked s)

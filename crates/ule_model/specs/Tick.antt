@@ -1,15 +1,12 @@
 -- A stathz tick on a CPU, after sched_clock.
-use Rattle.std.specs.Prelude.{ℕ, ◌-◌, Bool, false, nat_le, ◌==◌, ◌&&◌, ◌||◌, List, length, count_by, Option, Some, None, if◌then◌else◌}
+use Rattle.std.specs.Prelude.{ℕ, ◌-◌, Bool, nat_le, ◌==◌, ◌&&◌, ◌||◌, List, length, count_by, if◌then◌else◌}
 use Rattle.ule_prio.specs.declared.kind.Kind.TheVariants.{Batch}
-use Rattle.ule_score.specs.Changes.{after_tick, ticked as tick_of}
 use Rattle.ule_score.specs.declared.record.CpuLine.{CpuLine}
-use Rattle.ule_types.specs.declared.event.Reply.{Reply}
-use Rattle.ule_types.specs.declared.event.Reply.TheVariants.{Ticked}
 use Rattle.ule_model.specs.CalendarIndexes.{idx_after_turn, ridx_after_turn}
 use Rattle.ule_model.specs.Insertion.{members_in}
 use Rattle.ule_model.specs.Places.{is_on}
 use Rattle.ule_model.specs.Start.{balance_count, stepped_word}
-use Rattle.ule_model.specs.World.{Member, Side, current_of, with_change}
+use Rattle.ule_model.specs.World.{Member, Side}
 
 -- load: how many threads run or are queued on CPU c
 abbrev pub load_of : ℕ → List Member → ℕ
@@ -48,25 +45,6 @@ clocked c s = record s {
   balance_word = word_after_tick c s.line.balance s.balance_word;
 }
 
--- ---- the step
-
 -- the numbers of a CPU with both marks set where a slice ended
 abbrev pub marked_at_end : Bool → CpuLine → CpuLine
 marked_at_end ended line = record line { resched = line.resched || ended; slice_end = line.slice_end || ended }
-
--- the side after a tick that found this current thread, and the reply
-abbrev pub ticked_with : Option Member → ℕ → Bool → ℕ → Side → Side × Reply
-ticked_with None load due now s = (s, Ticked None due false)
-ticked_with (Some m) load due now s =
-    let ended = (after_tick s.settings now load m.thread).1 in (
-      record s {
-        members = with_change s.settings now m.thread.id (tick_of load) s.members;
-        line = marked_at_end ended s.line;
-      },
-      Ticked (Some m.thread.id) due ended,
-    )
-
--- the step of a tick of CPU c
-abbrev pub ticked : ℕ → ℕ → Side → Side × Reply
-ticked c now s =
-    ticked_with (current_of c s.members) (load_of c s.members) (is_due c s.line.balance) now (clocked c s)

@@ -11,16 +11,15 @@ use Rattle.ule_sleep.specs.Chain.{ChainValue, with_sleeper, with_sleeper_changed
 use Rattle.ule_sleep.specs.Limbo.{LimboValue, with_still, with_still_changed, without_still}
 use Rattle.ule_threads.specs.declared.standing.Standing.{Standing}
 use Rattle.ule_types.specs.declared.event.Reply.{Reply}
-use Rattle.ule_types.specs.declared.event.Reply.TheVariants.{Nothing, Dropped, Bedded, NotAsleep, Landed, Changed, Hatched, Returned, Buried}
+use Rattle.ule_types.specs.declared.event.Reply.TheVariants.{Nothing, Dropped, Exited, Bedded, NotAsleep, Landed, Changed, Hatched, Returned, Buried}
 use Rattle.ule_model.specs.ActionStep.{Stepped, kept}
-use Rattle.ule_model.specs.Birth.{exited_reply}
 use Rattle.ule_model.specs.CpuChange.{forked_reply, value_forked}
 use Rattle.ule_model.specs.CpuValue.{CpuValue, Taken, takes_over_in, value_added}
 use Rattle.ule_model.specs.Insertion.{bucket_of}
 use Rattle.ule_model.specs.declared.insertion.Insertion.TheVariants.{Ordinary}
 use Rattle.ule_model.specs.LockValue.{LockValue, queue, chain, limbo}
-use Rattle.ule_model.specs.PriorityChange.{gone_answer, unborn_answer}
-use Rattle.ule_model.specs.Sleep.{woken_reply}
+use Rattle.ule_model.specs.Actions.{gone_answer, unborn_answer}
+use Rattle.ule_model.specs.Actions.{woken_reply}
 
 -- ---- the events of a CPU
 
@@ -28,6 +27,10 @@ use Rattle.ule_model.specs.Sleep.{woken_reply}
 abbrev pub queue_dropped : Option ThreadRecord → CpuValue × Option Taken → Stepped
 queue_dropped hand (made, None) = kept hand (queue made) Nothing
 queue_dropped hand (made, Some out) = record { hand = Some out.thread; value = queue made; reply = Dropped out.thread.id out.into }
+
+-- what an exit tells of the thread that left with this record: its parent and its run time, and who runs now
+abbrev pub exited_reply : ThreadRecord → Option ℕ → Reply
+exited_reply r into = Exited r.id into r.parent r.hist.run
 
 -- an exit: the thread that left goes to the hand
 abbrev pub queue_exited : Option ThreadRecord → CpuValue × Option Taken → Stepped

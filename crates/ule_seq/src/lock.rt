@@ -4,7 +4,7 @@ ghost use Rattle.ule_model.specs.CpuChange.{value_changed};
 ghost use Rattle.ule_model.specs.CpuValue.{IsNoEarlier, thread_in, value_taken};
 ghost use Rattle.ule_model.specs.LockConditions.{CanStepAt, CanStepChain, CanStepLimbo, CanStepQueue, IsTime};
 ghost use Rattle.ule_model.specs.LockValue.{found_on, has_under, line_under, standing_line};
-ghost use Rattle.ule_model.specs.PriorityChange.{gone_answer, unborn_answer};
+ghost use Rattle.ule_model.specs.Actions.{gone_answer, unborn_answer};
 ghost use Rattle.ule_model.specs.Step.{chain_step, limbo_step, lock_step, queue_step};
 ghost use Rattle.ule_seq.specs.Calls.{chain_bedded, chain_changed, chain_woken, limbo_buried, limbo_changed, limbo_changed_unborn, limbo_hatched, limbo_returned, not_asleep, queue_dropped, queue_exited, queue_forked, queue_landed};
 ghost use Rattle.ule_model.specs.LockValue as value;

@@ -24,18 +24,20 @@ use Rattle.ule_model.specs.CpuStart.{StartsAs}
 use Rattle.ule_model.specs.CpuValue.{CpuValue, StandsFor, takes_over_in, thread_in, thread_on, value_added, value_laid, value_line, value_place, value_switched, value_taken, value_ticked}
 use Rattle.ule_model.specs.Insertion.{bucket_of}
 use Rattle.ule_model.specs.declared.insertion.Insertion.TheVariants.{Ordinary}
-use Rattle.ule_model.specs.Landing.{landed}
+use Rattle.ule_model.specs.CpuActions.{landed}
 use Rattle.ule_model.specs.Places.{is_on, runs_on, waits_on}
-use Rattle.ule_model.specs.PriorityChange.{carried_off, forked_on, priority_changed}
+use Rattle.ule_model.specs.CpuActions.{carried_off, forked_on, priority_changed}
 use Rattle.ule_model.specs.Start.{laid_on}
-use Rattle.ule_model.specs.Sleep.{departed}
-use Rattle.ule_model.specs.Switch.{switched}
-use Rattle.ule_model.specs.Tick.{ticked}
+use Rattle.ule_model.specs.CpuActions.{departed}
+use Rattle.ule_model.specs.CpuActions.{switched}
+use Rattle.ule_model.specs.CpuActions.{ticked}
 use Rattle.ule_model.specs.WellMade.{IsWellMade}
-use Rattle.ule_model.specs.World.{Member, Side, thread_of}
-use Rattle.ule_laws.proofs.CpuChanges.{AreForked, forked_stands, priority_changed_stands, removed_stands}
-use Rattle.ule_laws.proofs.CpuEvents.{AreLanded, landed_stands, left_stands, reply_left, ticked_stands}
-use Rattle.ule_laws.proofs.CpuLaws.{ActsAlike, laid_stands, switched_stands}
+use Rattle.ule_model.specs.Frames.{IsSoundIn}
+use Rattle.ule_model.specs.World.{Member, Side, thread_of, World}
+use Rattle.ule_laws.proofs.CallStands.{ActsAlike, left_stands, priority_changed_stands, reply_left, switched_stands, ticked_stands}
+use Rattle.ule_laws.proofs.CpuChanges.{AreForked, forked_stands, removed_stands}
+use Rattle.ule_laws.proofs.CpuEvents.{AreLanded, landed_stands}
+use Rattle.ule_laws.proofs.CpuLaws.{laid_stands}
 use Rattle.ule_laws.proofs.CpuNumbers.{summary_stands}
 use Rattle.ule_laws.proofs.CpuPlaces.{kind_running, kind_waiting, line_stands, place_stands}
 use Rattle.ule_laws.proofs.CpuStarts.{start_stands}
@@ -108,9 +110,9 @@ change_answers t change remote old new answer there new_is answer_is = record {
 }
 
 -- a change of a record that leaves its CPU brings no numbers of its own
-leaving_sound : (sleeping : Bool) (now : ℕ) → IsSoundChange now (leaving sleeping)
-leaving_sound true now = tt
-leaving_sound false now = tt
+leaving_sound : (sleeping : Bool) (now : ℕ) (w : World) → IsSoundIn w now (leaving sleeping)
+leaving_sound true now w = tt
+leaving_sound false now w = tt
 
 -- the current thread leaves, to sleep or not, and the next is chosen
 pub leaving_answers : (sleeping : Bool) (now : ℕ) (old new : CpuValue) (result : Option (ThreadRecord × Option ℕ)) →
@@ -121,7 +123,7 @@ leaving_answers sleeping now old new result new_is result_is = record {
   each = λ worker reply. record {
     each = λ s made stands. let left = left_stands (leaving sleeping) reply worker now old s (leaving_sound sleeping now) stands made in record {
       stands = subst (λ (x : CpuValue). StandsFor x (departed (leaving sleeping) reply old.cpu worker now s).0) (sym new_is) left.stands;
-      replied = replied reply result ∙ ap (reply_left reply) result_is ∙ sym left.answer;
+      replied = replied reply result ∙ ap (reply_left reply) result_is ∙ left.answer;
       well_made = left.well_made;
     };
   };

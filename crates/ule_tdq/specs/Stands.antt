@@ -6,10 +6,10 @@ use Rattle.ule_model.specs.CpuChange.{forked_reply}
 use Rattle.ule_model.specs.CpuStart.{line_at_start, word_at_start}
 use Rattle.ule_model.specs.CpuValue.{CpuValue, StandsFor, thread_on}
 use Rattle.ule_model.specs.Finals.{final_line}
-use Rattle.ule_model.specs.Landing.{landed}
+use Rattle.ule_model.specs.CpuActions.{landed}
 use Rattle.ule_model.specs.Places.{is_on}
-use Rattle.ule_model.specs.PriorityChange.{carried_off, forked_on, priority_changed}
-use Rattle.ule_model.specs.Sleep.{departed}
+use Rattle.ule_model.specs.CpuActions.{carried_off, forked_on, priority_changed}
+use Rattle.ule_model.specs.CpuActions.{departed}
 use Rattle.ule_model.specs.Start.{laid_on}
 use Rattle.ule_model.specs.WellMade.{IsWellMade}
 use Rattle.ule_model.specs.World.{Member, Side, current_of, thread_of}

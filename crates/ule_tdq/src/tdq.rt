@@ -8,8 +8,9 @@ ghost use Rattle.ule_model.specs.CpuChange.{kind_queued, value_changed, value_fo
 ghost use Rattle.ule_model.specs.CpuNumbers.{is_movable, next_record, summary_of, value_marked, value_summary, with_mark};
 ghost use Rattle.ule_model.specs.CpuValue.{IsNoEarlier, StandsFor, chosen_next, current_in, takes_over_in, thread_in, value_added, value_clocked, value_laid, value_line, value_place, value_switched, value_taken, value_ticked, value_ticked_with, with_given_way, with_thread_after, without_current, without_marks};
 ghost use Rattle.ule_model.specs.Places.{lock_of};
-ghost use Rattle.ule_model.specs.Switch.{is_preemption, started_reply, switched};
-ghost use Rattle.ule_model.specs.Tick.{ticked};
+ghost use Rattle.ule_model.specs.Switch.{is_preemption, started_reply};
+ghost use Rattle.ule_model.specs.CpuActions.{switched};
+ghost use Rattle.ule_model.specs.CpuActions.{ticked};
 ghost use Rattle.ule_model.specs.CpuStart.{StartsAs};
 ghost use Rattle.ule_model.specs.Insertion.{bucket_of};
 ghost use Rattle.ule_model.specs.declared.insertion.Insertion.TheVariants.{Ordinary};
