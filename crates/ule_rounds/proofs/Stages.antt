@@ -1,6 +1,6 @@
 -- The laws of programs, with a line for each stage: that items run out, the time that they add, that each item names
 -- threads and CPUs that there are, and what an item and its reply do to the worker's hand and to the next stage.
-use Rattle.std.proofs.Common.{◌≡◌, ℕ, ◌+◌, ◌*◌, ◌^◌, ◌<◌, ◌≤◌, ◌==◌, ◌&&◌, true, nat_lt, List, [], ◌∷◌, Option, Some, None, IfSome, IsTrue, refl, sym, ◌∙◌, subst, lt-ltb, arith, Bool, false, is_some, if◌then◌else◌, ap}
+use Rattle.std.proofs.Common.{◌≡◌, ℕ, ◌+◌, ◌*◌, ◌^◌, ◌<◌, ◌≤◌, ◌==◌, ◌&&◌, true, nat_lt, List, [], ◌∷◌, Option, Some, None, IfSome, IsTrue, refl, sym, ◌∙◌, subst, lt-ltb, arith, Bool, false, if◌then◌else◌, ap}
 use Rattle.std.proofs.lemmas.Bool.{and_parts, cond_both, false≢true}
 use Rattle.ule_prio.specs.Class.{is_within}
 use Rattle.ule_score.specs.TimesharePriority.{IsNice}
@@ -28,7 +28,7 @@ use Rattle.ule_model.specs.Places.{is_number, runs_on}
 use Rattle.ule_model.specs.Step.{step}
 use Rattle.ule_model.specs.WellMade.{IsWellMade}
 use Rattle.ule_model.specs.Words.{change_of}
-use Rattle.ule_model.specs.World.{Member, Side, World, current_of, side_of, standing_of, thread_of}
+use Rattle.ule_model.specs.World.{Member, Side, World, current_of, standing_of, thread_of}
 use Rattle.ule_members.proofs.Steps.{in_hand_after, step_reply}
 use Rattle.ule_members.proofs.Reach.{takes_itself}
 use Rattle.ule_members.proofs.Starts.{nice_is, within_byte}
