@@ -1,7 +1,7 @@
 -- An event on the value under its lock and on the worker's hand is its action on the world that they stand for: one theorem
 -- for all events, and a line or two for each.
 use Rattle.std.proofs.Common.{◌≡◌, ℕ, ◌+◌, ◌%◌, ◌<◌, Bool, true, false, ◌⊎◌, inl, inr, List, [], ◌∷◌, length, Option, Some, None, if◌then◌else◌, option_and_then, refl, sym, ◌∙◌, ap, subst, arith}
-use Rattle.std.specs.Option.{option_map, option_to_list}
+use Rattle.std.specs.Option.{option_map}
 use Rattle.std.specs.Prelude.{max, min, nat_lt}
 use Rattle.std.proofs.lemmas.Bool.{cond-true, eq-eqb, ltb-true, or_left}
 use Rattle.std.proofs.lemmas.List.{get_or-set_same, length-set}
@@ -39,7 +39,7 @@ use Rattle.ule_model.specs.Switch.{is_preemption, is_unasked}
 use Rattle.ule_model.specs.WellMade.{IsWellMade, IsWellMadeWorld}
 use Rattle.ule_model.specs.World.{Member, Side, World, current_of, fresh_line, side_of, standing_of, thread_of, with_side}
 use Rattle.ule_model.specs.WorldValue.{IsAsleepOn, IsChainOf, IsLimboOf, IsQueueOf, Shows, StandsUnder, WorldValue, held_by}
-use Rattle.ule_members.proofs.ActionFits.{event_fits}
+use Rattle.ule_members.proofs.ActionFits.{IsUnder, event_fits, sought_under}
 use Rattle.ule_members.proofs.Membership.{has_thread_of}
 use Rattle.ule_members.proofs.PartDone.{IsReady, Known, StandsAt, parts_follow}
 use Rattle.ule_members.proofs.PlaceFinds.{thread_at_within}
@@ -260,37 +260,13 @@ module _ (v : WorldValue) (w : World) (worker now : ℕ) (shows : Shows v w) whe
       within_of : (t : ℕ) (m : Member) → thread_of t w.members ≡ Some m → Within m.thread.id m w.members
       within_of t m found = subst (λ (u : ℕ). Within u m w.members) (sym (has_thread_of t m w.members found).1) (within_thread t w.members m shows.made found)
 
-  -- a thread that stands under a lock
-  pub record IsUnder (t l : ℕ) : Type 0 where
-    pub member : Member
-    pub found : thread_of t w.members ≡ Some member
-    pub lock : lock_of member.place ≡ Some l
-
-  -- the thread that is sought under one lock stands there
-  pub under_from_locks : (t l : ℕ) → lock_of_thread w.members t ≡ l ∷ [] → IsUnder t l
-  under_from_locks t l locks = split (thread_of t w.members) refl locks
-    where
-      at_lock : (m : Member) (o : Option ℕ) → thread_of t w.members ≡ Some m → lock_of m.place ≡ o → option_to_list o ≡ l ∷ [] → IsUnder t l
-      at_lock m None found under is = absurd (no_lock is)
-        where
-          no_lock : [] ≡ l ∷ [] → ⊥
-          no_lock is = cc
-      at_lock m (Some k) found under is = record { member = m; found = found; lock = under ∙ ap (λ (x : ℕ). Some x) (same_lock k l is) }
-
-      split : (o : Option Member) → thread_of t w.members ≡ o → option_to_list (option_and_then (λ (m : Member). lock_of m.place) o) ≡ l ∷ [] → IsUnder t l
-      split None found is = absurd (no_lock is)
-        where
-          no_lock : [] ≡ l ∷ [] → ⊥
-          no_lock is = cc
-      split (Some m) found is = at_lock m (lock_of m.place) found refl is
-
-  -- it is found there with its place
-  pub under_named : (t l : ℕ) (value : LockValue) → StandsUnder w l value → IsUnder t l → found_in value t ≡ option_map standing_of (thread_of t w.members)
+  -- a thread that stands under a lock is found there with its place
+  pub under_named : (t l : ℕ) (value : LockValue) → StandsUnder w l value → IsUnder w t l → found_in value t ≡ option_map standing_of (thread_of t w.members)
   under_named t l value stands is =
       found_stands w l t value shows.made shows.cpus stands ∙
       ap (option_map standing_of)
       (thread_at_within (is_under l) t is.member w.members (within_thread t w.members is.member shows.made is.found) ∙
-      cond-true (is_under l is.member.place) (Some is.member) None (ap (is_number l) is.lock ∙ eq-eqb l l refl) ∙ sym is.found)
+      cond-true (is_under l is.member.place) (Some is.member) None (ap (is_number l) is.under ∙ eq-eqb l l refl) ∙ sym is.found)
 
   -- ---- the kinds of locks
 
@@ -324,7 +300,7 @@ module _ (v : WorldValue) (w : World) (worker now : ℕ) (shows : Shows v w) whe
       (under : (l : ℕ) (P : Standing → Type 0) (p : Place) (r : ThreadRecord) (at : Seen) → at.worker ≡ worker → IsOffCpus p → lock_of p ≡ Some l → FollowsUnder l worker P IsEmpty (act p r at).parts)
       (alike : (p : Place) (r : ThreadRecord) (at to : Seen) → IsOffCpus p → at.worker ≡ to.worker → at.now ≡ to.now → at.settings ≡ to.settings → act p r at ≡ act p r to) where
     -- on each kind of lock
-    of_sought : (l : ℕ) → IsPossible w worker e now → locks_of w e ≡ l ∷ [] → IsUnder t l → (value : LockValue) → StandsUnder w l value → IsMadeBy e l value
+    of_sought : (l : ℕ) → IsPossible w worker e now → locks_of w e ≡ l ∷ [] → IsUnder w t l → (value : LockValue) → StandsUnder w l value → IsMadeBy e l value
     of_sought l possible locks is value stands = by_kind value stands (under_named t l value stands is)
       where
         m : Member
@@ -346,7 +322,7 @@ module _ (v : WorldValue) (w : World) (worker now : ℕ) (shows : Shows v w) whe
         same away = acts off (standing_of m) sees ∙ alike m.place m.thread off at away refl refl refl ∙ action_is
 
         follows : (P : Standing → Type 0) → IsOffCpus m.place → FollowsUnder l worker P IsEmpty (action_at e l).parts
-        follows P away = subst (λ (a : Action). FollowsUnder l worker P IsEmpty a.parts) action_is (under l P m.place m.thread at refl away is.lock)
+        follows P away = subst (λ (a : Action). FollowsUnder l worker P IsEmpty a.parts) action_is (under l P m.place m.thread at refl away is.under)
 
         still_off : (p : Place) → (p ≡ Unborn) ⊎ (p ≡ Gone) → IsOffCpus p
         still_off p (inl unborn) = subst IsOffCpus (sym unborn) tt
@@ -356,7 +332,7 @@ module _ (v : WorldValue) (w : World) (worker now : ℕ) (shows : Shows v w) whe
         by_kind (queue u) stands finds =
             made_on_cpu e l u possible locks stands (names (queue u) finds)
             (subst (λ (a : Action). FollowsHere l worker (Unit {0}) IsEmpty a.parts) action_is
-            (here l m.place m.thread at (on_from_lock l m.place (let below = stands.there in let few = shows.cpus in omega arith) is.lock)))
+            (here l m.place m.thread at (on_from_lock l m.place (let below = stands.there in let few = shows.cpus in omega arith) is.under)))
         by_kind (chain c) stands finds =
             let asleep = at_some (IsAsleepOn c.number) (standing_in c.slots t) (standing_of m) (stands.asleep t) (finds ∙ ap (option_map standing_of) is.found) in
             let away = subst IsOffCpus (sym asleep.place) tt in
@@ -477,7 +453,7 @@ module _ (v : WorldValue) (w : World) (worker now : ℕ) (shows : Shows v w) whe
       (value : LockValue) → StandsUnder w l value → IsMadeBy e l value
   change_made e t given is named names l possible locks sought =
       of_sought e t (change_act given t) (λ at x sees. is at ∙ ap (λ (o : Option Standing). change_action given t o at) sees) named names (change_here given t) (change_under given t) (change_alike given t)
-      l possible locks (under_from_locks t l sought)
+      l possible locks (sought_under w t l (ap (λ (ls : List ℕ). is_among ls l) sought ∙ takes_itself l))
 
   -- what a worker makes of the value under the one lock of an event and of its hand is what the event's action makes there
   pub action_made : (e : Event) (l : ℕ) → IsPossible w worker e now → locks_of w e ≡ l ∷ [] → (value : LockValue) → StandsUnder w l value → IsMadeBy e l value
@@ -513,7 +489,7 @@ module _ (v : WorldValue) (w : World) (worker now : ℕ) (shows : Shows v w) whe
       (refl, refl, λ r. record { channel = channel; place = refl; chain = (let number = q.2.number in omega arith) })))) stands
   action_made (Hatch t) l possible locks value stands =
       let h = unborn_found w.members t possible.hand.1 in
-      of_limbo (Hatch t) l possible refl locks value stands (λ c is. under_named t 24 (limbo c) is (record { member = h.member; found = h.found; lock = ap lock_of h.place })) refl
+      of_limbo (Hatch t) l possible refl locks value stands (λ c is. under_named t 24 (limbo c) is (record { member = h.member; found = h.found; under = ap lock_of h.place })) refl
       (goes_under 24 t IsStill Unborn (Hand worker) Hatched h.member h.found h.place (hand_empty possible.hand.0, refl, refl))
   action_made (Return t) l possible locks value stands =
       let h = held_found w.members t worker possible.hand in
@@ -525,7 +501,7 @@ module _ (v : WorldValue) (w : World) (worker now : ℕ) (shows : Shows v w) whe
       (goes_under 24 t IsStill (Hand worker) Gone Buried h.member h.found (place_from_hand worker h.member.place h.hand) (refl, refl, λ r. inr refl))
   action_made (Wake t) l possible locks value stands =
       of_sought (Wake t) t (λ p r at. wake_action_at p t r at) (λ at x sees. ap (λ (o : Option Standing). wake_action t o at) sees) refl (λ value finds. finds) (wake_here t)
-      (wake_under (hand_empty possible.hand) t) (wake_alike t) l possible locks (under_from_locks t l locks) value stands
+      (wake_under (hand_empty possible.hand) t) (wake_alike t) l possible locks (sought_under w t l (among (Wake t) l locks)) value stands
   action_made (Lend t p) l possible locks value stands = change_made (Lend t p) t (change.Lend p) (λ at. refl) refl (λ value finds. finds) l possible locks locks value stands
   action_made (Unlend t) l possible locks value stands = change_made (Unlend t) t change.Unlend (λ at. refl) refl (λ value finds. finds) l possible locks locks value stands
   action_made (Renice t n) l possible locks value stands = change_made (Renice t n) t (change.Renice n) (λ at. refl) refl (λ value finds. finds) l possible locks locks value stands

@@ -20,11 +20,12 @@ use Rattle.ule_model.specs.Places.{is_on, runs_on}
 use Rattle.ule_model.specs.WellMade.{IsWellMade}
 use Rattle.ule_model.specs.World.{Member, Side, World, current_of, side_of, standing_of, thread_of}
 use Rattle.ule_model.specs.WorldValue.{IsAsleepOn, IsChainOf, IsLimboOf, IsQueueOf, Shows, WorldValue}
+use Rattle.ule_members.proofs.ActionFits.{IsUnder}
 use Rattle.ule_members.proofs.Membership.{has_thread_of, has_within}
 use Rattle.ule_members.proofs.Threads.{current_runs, thread_of_within, thread_on_within, within_current}
 use Rattle.ule_members.proofs.Within.{Within, within_thread}
 use Rattle.ule_laws.proofs.CpuPlaces.{kind_running, kind_waiting}
-use Rattle.ule_laws.proofs.EventStands.{IsUnder, current_in_is, on_from_lock, same_lock, under_named}
+use Rattle.ule_laws.proofs.EventStands.{current_in_is, on_from_lock, same_lock, under_named}
 use Rattle.ule_laws.proofs.PlaceLaws.{place_from_runs_on}
 use Rattle.ule_laws.proofs.SlotStands.{IsStill}
 use Rattle.ule_laws.proofs.SeekLaws.{cpu_finds}
@@ -126,7 +127,7 @@ module _ (u : CpuValue) (s : Side) (stands : StandsFor u s) (made : IsWellMade s
     apart = λ k queued. runs_apart k queued;
   }
 
-module _ (v : WorldValue) (w : World) (worker now : ℕ) (shows : Shows v w) (t l : ℕ) (is : IsUnder v w worker now shows t l) where
+module _ (v : WorldValue) (w : World) (worker now : ℕ) (shows : Shows v w) (t l : ℕ) (is : IsUnder w t l) where
   -- the thread that is sought
   abbrev m : Member
   m = is.member
@@ -145,7 +146,7 @@ module _ (v : WorldValue) (w : World) (worker now : ℕ) (shows : Shows v w) (t 
       (m.thread, m.place, subst (λ (i : ℕ). IsPlacedOn u i m.thread m.place) own_number (placed_on_cpu u (side_of l w) at.stands shows.made m own_within on))
     where
       on : IsOnCpu u.cpu m.place
-      on = subst (λ (c : ℕ). IsOnCpu c m.place) (sym at.cpu) (on_from_lock l m.place (let below = at.there in let few = shows.cpus in omega arith) is.lock)
+      on = subst (λ (c : ℕ). IsOnCpu c m.place) (sym at.cpu) (on_from_lock l m.place (let below = at.there in let few = shows.cpus in omega arith) is.under)
 
   -- or sleeps on the chain
   pub has_sleeper : (c : ChainValue) → IsChainOf w l c → HasSleeper c t

@@ -10,6 +10,7 @@ use Rattle.ule_score.specs.declared.place.Place.{Place}
 use Rattle.ule_score.specs.declared.record.ThreadRecord.{ThreadRecord}
 use Rattle.ule_sleep.specs.Chain.{standing_in}
 use Rattle.ule_threads.specs.declared.standing.Standing.{Standing}
+use Rattle.ule_types.specs.Commands.{is_among}
 use Rattle.ule_types.specs.declared.event.Event.{Event}
 use Rattle.ule_types.specs.declared.event.Event.TheVariants.{Hatch}
 use Rattle.ule_model.specs.Conditions.{IsByIfReached, IsHandled, IsPossible}
@@ -23,11 +24,12 @@ use Rattle.ule_model.specs.WellMade.{IsWellMade}
 use Rattle.ule_sleep.specs.Limbo.{HasUnborn}
 use Rattle.ule_model.specs.World.{Member, World, side_of}
 use Rattle.ule_model.specs.WorldValue.{CanStep, Shows, StandsUnder, WorldValue, held_by, if_thread, lock_for, standing_of}
+use Rattle.ule_members.proofs.ActionFits.{IsUnder, sought_under}
 use Rattle.ule_members.proofs.Membership.{all_has, has_within}
-use Rattle.ule_members.proofs.Reach.{place_from_hand}
+use Rattle.ule_members.proofs.Reach.{place_from_hand, takes_itself}
 use Rattle.ule_members.proofs.PlaceFinds.{thread_at_stands, thread_at_within, within_thread_at}
 use Rattle.ule_laws.proofs.SeekLaws.{on_is_under}
-use Rattle.ule_laws.proofs.EventStands.{IsUnder, same_lock, under_from_locks}
+use Rattle.ule_laws.proofs.EventStands.{same_lock}
 use Rattle.ule_laws.proofs.SoughtLaws.{current_numbered, has_placed, has_sleeper, has_still, sought_locks, takes_chain, takes_limbo, takes_queue}
 use Rattle.ule_laws.proofs.StepFrom.{IsAtEvent, slot_of}
 use Rattle.ule_laws.proofs.StepLaws.{HasLock, event_lock, is_pair, pair_unlocked, unborn_stands}
@@ -70,9 +72,10 @@ not_under v w worker l r shows held = at_thread (thread_in_hand worker r.id w.me
 -- ---- what the step needs
 
 -- the thread that an event of one lock seeks stands under it
-sought_under : (v : WorldValue) (w : World) (worker : ℕ) (e : Event) (now l t : ℕ) (at : IsAtEvent v w worker e now) → locks_of w e ≡ l ∷ [] → sought_by e ≡ Some t →
-    IsUnder v w worker now at.shows t l
-sought_under v w worker e now l t at locks sought = under_from_locks v w worker now at.shows t l (sym (sought_locks w.members (locking e) t sought) ∙ locks)
+seeks_under : (v : WorldValue) (w : World) (worker : ℕ) (e : Event) (now l t : ℕ) (at : IsAtEvent v w worker e now) → locks_of w e ≡ l ∷ [] → sought_by e ≡ Some t →
+    IsUnder w t l
+seeks_under v w worker e now l t at locks sought =
+    sought_under w t l (ap (λ (ls : List ℕ). is_among ls l) (sym (sought_locks w.members (locking e) t sought) ∙ locks) ∙ takes_itself l)
 
 -- the step under an event's lock has what it needs
 pub can_step_at : (v : WorldValue) (w : World) (worker : ℕ) (e : Event) (now l : ℕ) (value : LockValue) → IsAtEvent v w worker e now → locks_of w e ≡ l ∷ [] →
@@ -85,7 +88,7 @@ can_step_at v w worker e now l (queue u) at locks is = record {
   cpu = λ t c same. is.cpu ∙ sym (same_lock c l (sym (ap (locks_of w) same) ∙ locks));
   lock = takes_queue w.members l (locking e) (let below = is.there in let few = at.shows.cpus in omega arith) locks;
   runs = current_numbered u (side_of l w) is.stands at.shows.made;
-  sought = if_some (HasPlaced u) (sought_by e) (λ t same. has_placed v w worker now at.shows t l (sought_under v w worker e now l t at locks same) u is);
+  sought = if_some (HasPlaced u) (sought_by e) (λ t same. has_placed v w worker now at.shows t l (seeks_under v w worker e now l t at locks same) u is);
 }
   where
     under : (t : ℕ) → thread_on u.cpu t w.members ≡ thread_under l t w.members
@@ -101,7 +104,7 @@ can_step_at v w worker e now l (chain c) at locks is = record {
   numbers = at.possible.numbers;
   channel = λ t channel same. let number = is.number in let lock : 16 + channel % 8 ≡ l = same_lock (16 + channel % 8) l (sym (ap (locks_of w) same) ∙ locks) in omega arith;
   lock = takes_chain w.members l (length w.lines) (locking e) (let number = is.number in omega arith) (let number = is.number in let small = is.small in omega arith) at.shows.cpus at.possible.cpus locks;
-  sought = if_some (HasSleeper c) (sought_by e) (λ t same. has_sleeper v w worker now at.shows t l (sought_under v w worker e now l t at locks same) c is);
+  sought = if_some (HasSleeper c) (sought_by e) (λ t same. has_sleeper v w worker now at.shows t l (seeks_under v w worker e now l t at locks same) c is);
 }
   where
     on : (t : ℕ) (o : Option Member) → thread_under l t w.members ≡ o → IfSome (option_map standing_of o) (λ s. IsBy now s.thread)
@@ -112,7 +115,7 @@ can_step_at v w worker e now l (limbo c) at locks is = record {
   numbers = at.possible.numbers;
   unborn = λ t same. hatched t same;
   lock = takes_limbo w.members l (length w.lines) (locking e) is.number at.shows.cpus at.possible.cpus locks;
-  sought = if_some (HasStill c) (sought_by e) (λ t same. has_still v w worker now at.shows t l (sought_under v w worker e now l t at locks same) c is);
+  sought = if_some (HasStill c) (sought_by e) (λ t same. has_still v w worker now at.shows t l (seeks_under v w worker e now l t at locks same) c is);
 }
   where
     hatched : (t : ℕ) → e ≡ Hatch t → HasUnborn c t
