@@ -1,5 +1,5 @@
 -- Each entry of the play of a setup is possible where it was made, so a world can be stepped through them.
-use Rattle.std.proofs.Common.{◌≡◌, ℕ, ◌+◌, List, [], ◌∷◌, ◌++◌, drop, slice_get, Some, sym, ap, subst, ◌∙◌}
+use Rattle.std.proofs.Common.{◌≡◌, ℕ, ◌+◌, List, [], ◌∷◌, ◌++◌, drop, slice_get, Some, sym, ap, subst}
 use Rattle.std.proofs.lemmas.Bool.{cond_both}
 use Rattle.ule_types.specs.Form.{IsOfForm}
 use Rattle.ule_types.specs.Outcome.{OutcomeValue}

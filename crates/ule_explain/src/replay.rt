@@ -103,7 +103,7 @@ fn tell_waiting(rt: &impl Print, world: &World, outcome: &Outcome, made: u32) ->
             seen[worker] = true;
             if let Ready::InHand(holder) = world.ready(next.worker, &next.event) {
                 println!(rt;
-                    "  worker {worker} seeks a thread that worker {holder} has in hand: until it is put down, its turn is lost"
+                    "  worker {worker} is to seek a thread that worker {holder} has in hand: until it is put down, such a turn is lost"
                 )?;
             }
         }

@@ -1,6 +1,5 @@
 -- The next entry can be made, and behind it those that are left can be replayed.
 use Rattle.std.proofs.Common.{◌≡◌, ◌+◌, ◌-◌, drop, slice_get, Some, subst, arith}
-use Rattle.ule_explain.specs.Replay.{CanReplay}
 use Rattle.ule_explain.proofs.Replays.{first_can, left_at, others_replay}
 use Rattle.ule_explain.proofs.replay.replay.Goals as goal
 
