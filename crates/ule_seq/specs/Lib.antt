@@ -2,7 +2,6 @@ pub mod Hands
 pub mod Locks
 pub mod Worlds
 pub mod Readiness
-pub mod Starting
 pub mod Outcomes
 pub mod Programs
 pub mod Playing
