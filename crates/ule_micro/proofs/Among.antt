@@ -3,6 +3,7 @@ use Rattle.std.proofs.Common.{◌≡◌, ◌≢◌, ◌⊎◌, ℕ, Bool, true, 
 use Rattle.std.specs.Prelude.{◌||◌, ◌==◌}
 use mathlib.Core.Logic.{dite}
 use native.Mathlib.Decide.{ℕ_discrete}
+use Rattle.ule_micro.specs.declared.entry.HeldLocks.{HeldLocks}
 use Rattle.ule_micro.specs.declared.entry.HeldLocks.TheVariants.{One, Two}
 use Rattle.ule_micro.specs.Histories.{is_lock_among}
 
@@ -25,6 +26,11 @@ among_first a b = ap (λ x. x || (b == a)) (eq-eqb a a refl)
 -- the second of two locks is among them
 pub among_second : (a b : ℕ) → is_lock_among (Two a b) b ≡ true
 among_second a b = ap (λ x. (a == b) || x) (eq-eqb b b refl) ∙ or_right (a == b)
+
+-- some lock is among those that are held
+pub first_among : (held : HeldLocks) → (l : ℕ) × (is_lock_among held l ≡ true)
+first_among (One a) = (a, among_this a)
+first_among (Two a b) = (a, among_first a b)
 
 -- a lock among two is one of them
 pub among_two : (a b l : ℕ) → is_lock_among (Two a b) l ≡ true → (l ≡ a) ⊎ (l ≡ b)

@@ -7,9 +7,9 @@ use Rattle.ule_micro.specs.Means.{Means}
 use Rattle.ule_micro.specs.Standings.{Standing, asks, has, rests, Acted, Journal}
 use Rattle.ule_micro.specs.Histories.{Follows, own_entries}
 use Rattle.ule_micro.specs.Courses.{WorkerCourse, unbegun, answered, ordered, advanced_by, done_by, LegalPlay, opens, answers, begins, advances, performs}
-use Rattle.ule_micro.specs.Laws.{IsLawful, AreOrders, AreValid, IsEmpty, total}
+use Rattle.ule_micro.specs.Laws.{IsLawful, AreOrders, AreValid, IsEmpty, total_charge}
 use Rattle.ule_micro.proofs.Lists.{get_set, map_get, drop_get, there}
-use Rattle.ule_micro.proofs.Effects.{effect_so, its_locks}
+use Rattle.ule_micro.proofs.Effects.{effect_so, guarded_many, its_locks}
 
 module _ {E R : Type 0} where
   -- a worker's entries with one more of its own
@@ -31,7 +31,7 @@ module _ {H O G E R C : Type 0} (m : Means H O G E R C) (orders : ℕ → List C
     pub given : List C
     pub stands : m.stands (journal given w h) c.own c.standing
     pub ahead : AreValid m w given (drop c.begun (orders w))
-    pub count : c.items + m.left c.own c.standing + total (m.charge w) (drop c.begun (orders w)) ≤ total (m.charge w) (orders w)
+    pub count : c.items + m.left c.own c.standing + total_charge (m.charge w) (drop c.begun (orders w)) ≤ total_charge (m.charge w) (orders w)
 
   module _ (laws : IsLawful m) (lists : AreOrders m orders) where
     module _ (h : List (Entry E R)) (w : ℕ) (c : WorkerCourse O E R) (r : IsCourse h w c) where
@@ -65,7 +65,7 @@ module _ {H O G E R C : Type 0} (m : Means H O G E R C) (orders : ℕ → List C
         stands = z.1;
         ahead = (valid_next order at).1;
         count = let a = r.count in let d : m.left (m.begin c.own order) (asks None) ≤ m.charge w order = subst (λ i. m.left (m.begin c.own order) (asks None) ≤ m.charge i order) r.number z.2 in
-            let e : total (m.charge w) (drop c.begun (orders w)) ≡ m.charge w order + total (m.charge w) (drop (c.begun + 1) (orders w)) = ap (total (m.charge w)) (drop_get (orders w) c.begun order at) in omega arith;
+            let e : total_charge (m.charge w) (drop c.begun (orders w)) ≡ m.charge w order + total_charge (m.charge w) (drop (c.begun + 1) (orders w)) = ap (total_charge (m.charge w)) (drop_get (orders w) c.begun order at) in omega arith;
       }
 
       advanced_course : (k : ℕ) → c.standing ≡ has (Advance k) → IsCourse h w (advanced_by m c k)
@@ -83,7 +83,7 @@ module _ {H O G E R C : Type 0} (m : Means H O G E R C) (orders : ℕ → List C
         let so = effect_so m x.worker x.event x.now (m.hand c.own) x.locks vs follows.guarded follows.under after follows.effect in
         let j = journal r.given x.worker h in
         let z = laws.standing.performs j c.own x follows.guarded (stands_at h x.worker c r (has (Event x.event)) is) (sym r.number) follows.may
-        (its_locks m vs follows.guarded x.locks (m.needs x.event) follows.under follows.locks) (sym follows.reply ∙ ap (λ (y : Acted H G R). y.reply) so) in
+        (its_locks m vs follows.guarded x.locks (m.needs x.event) follows.under follows.locks) (guarded_many x.locks vs follows.guarded follows.under) (sym follows.reply ∙ ap (λ (y : Acted H G R). y.reply) so) in
         let hand : after.hand ≡ (m.act x.worker x.event x.now (m.hand c.own) follows.guarded).hand = ap (λ (y : Acted H G R). y.hand) so in
         let now = asks (Some (x.reply, x.now)) in record {
           number = laws.hands.put_number c.own after.hand ∙ r.number;

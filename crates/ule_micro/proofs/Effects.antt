@@ -7,7 +7,7 @@ use Rattle.ule_micro.specs.declared.entry.HeldLocks.TheVariants.{One, Two}
 use Rattle.ule_micro.specs.declared.locks.TheConstants.{LOCKS}
 use Rattle.ule_micro.specs.Means.{Means, Needs, one, both, lock_of, stands_under}
 use Rattle.ule_micro.specs.Standings.{Acted}
-use Rattle.ule_micro.specs.Histories.{AreLocksFor, effect_on, effect_of, effect_under, is_lock_among, laid, values_under, alone, with_first}
+use Rattle.ule_micro.specs.Histories.{AreLocksFor, effect_on, effect_of, effect_under, is_lock_among, laid_under, values_under, alone, with_first}
 use Rattle.ule_micro.specs.Laws.{AreInRisingOrder, AreItsLocks, AreRising, has_true, lock_count, places}
 use Rattle.ule_micro.specs.Performing.{HasEffect}
 use Rattle.ule_micro.proofs.Lists.{take_get, drop_get, get_else, index_get, one_there, something}
@@ -48,7 +48,7 @@ module _ {G : Type 0} where
   guarded_many (Two a b) values guarded is = let v = under_two a b values guarded is in ap length v.4
 
   -- the values under other locks stay
-  pub laid_else : (values : List G) (held : HeldLocks) (guarded : List G) (l : ℕ) → is_lock_among held l ≡ false → slice_get (laid held values guarded) l ≡ slice_get values l
+  pub laid_else : (values : List G) (held : HeldLocks) (guarded : List G) (l : ℕ) → is_lock_among held l ≡ false → slice_get (laid_under held values guarded) l ≡ slice_get values l
   laid_else values (One a) [] l out = refl
   laid_else values (One a) (v ∷ vs) l out = get_else values a l v (λ z. true≢false (sym (ap (is_lock_among (One a)) z ∙ among_this a) ∙ out))
   laid_else values (Two a b) [] l out = refl
@@ -57,7 +57,7 @@ module _ {G : Type 0} where
       ∙ get_else values a l v (λ z. true≢false (sym (ap (is_lock_among (Two a b)) z ∙ among_first a b) ∙ out))
 
   -- there are as many values as before
-  pub laid_many : (values : List G) (held : HeldLocks) (guarded : List G) → length (laid held values guarded) ≡ length values
+  pub laid_many : (values : List G) (held : HeldLocks) (guarded : List G) → length (laid_under held values guarded) ≡ length values
   laid_many values (One a) [] = refl
   laid_many values (One a) (v ∷ vs) = length-set values a v
   laid_many values (Two a b) [] = refl
@@ -122,6 +122,6 @@ module _ {H O G E R C : Type 0} (m : Means H O G E R C) where
   -- what the code does under its locks is the effect of the event
   pub performs_so : (own own' : O) (values guarded : List G) (e : E) (now : ℕ) (held : HeldLocks) (guarded' values' : List G) (reply : R) → values_under held values ≡ Some guarded
       → own' ≡ m.with_hand own (m.act (m.number own) e now (m.hand own) guarded).hand → (m.act (m.number own) e now (m.hand own) guarded).values ≡ guarded'
-      → reply ≡ (m.act (m.number own) e now (m.hand own) guarded).reply → values' ≡ laid held values guarded' → HasEffect m own values e now held own' values' reply
+      → reply ≡ (m.act (m.number own) e now (m.hand own) guarded).reply → values' ≡ laid_under held values guarded' → HasEffect m own values e now held own' values' reply
   performs_so own own' values guarded e now held guarded' values' reply under is_own is_values is_reply laid_so =
-      (effect_on held values (m.act (m.number own) e now (m.hand own) guarded), effect_is (m.number own) e now (m.hand own) held values guarded under, is_own, laid_so ∙ ap (laid held values) (sym is_values), is_reply)
+      (effect_on held values (m.act (m.number own) e now (m.hand own) guarded), effect_is (m.number own) e now (m.hand own) held values guarded under, is_own, laid_so ∙ ap (laid_under held values) (sym is_values), is_reply)

@@ -9,18 +9,21 @@ use Rattle.ule_micro.specs.declared.seat.Progress.TheVariants as progress
 use Rattle.ule_micro.specs.declared.todo.Todo.{Todo}
 use Rattle.ule_micro.specs.declared.todo.Todo.TheVariants as todo
 use Rattle.ule_micro.specs.Standings.{standing_with}
-use Rattle.ule_micro.specs.States.{took, standing_of_phase}
+use Rattle.ule_micro.specs.States.{read_in, took, standing_of_phase}
 use Rattle.ule_micro.specs.Turns.{phase_with}
 
 module _ {E R : Type 0} where
-  abbrev phase_given : Option (Todo E) → Phase E R
-  phase_given x = phase_with x
-
   -- a worker that was given an item took no lock for it
   pub took_nothing : (x : Option (Todo E)) (f : Phase E R) (l : ℕ) → f ≡ phase_with x → took f l ≡ false
   took_nothing None f l e = ap (λ g. took g l) e
   took_nothing (Some (todo.Event a)) f l e = ap (λ g. took g l) e
   took_nothing (Some (todo.Advance k)) f l e = ap (λ g. took g l) e
+
+  -- a worker that was given an item read no time for it
+  pub read_nothing : (x : Option (Todo E)) (f : Phase E R) → f ≡ phase_with x → read_in f ≡ None
+  read_nothing None f e = ap read_in e
+  read_nothing (Some (todo.Event a)) f e = ap read_in e
+  read_nothing (Some (todo.Advance k)) f e = ap read_in e
 
   -- where a worker stands that was given an item is the item
   pub standing_given : (x : Option (Todo E)) (f : Phase E R) → f ≡ phase_with x → standing_of_phase f ≡ standing_with x
@@ -45,7 +48,3 @@ module _ {E R : Type 0} where
   given_not_leaving None f reply now held e is = cc
   given_not_leaving (Some (todo.Event a)) f reply now held e is = cc
   given_not_leaving (Some (todo.Advance k)) f reply now held e is = cc
-
--- an event that is not begun has read no time
-pub open_not_timed : (held : HeldLocks) (now : ℕ) → progress.Open ≡ progress.Timed held now → ⊥
-open_not_timed held now e = cc

@@ -10,7 +10,7 @@ use Rattle.ule_micro.specs.declared.entry.HeldLocks.TheVariants.{One, Two}
 use Rattle.ule_micro.specs.declared.word.WordChange.{WordChange}
 use Rattle.ule_micro.specs.declared.word.WordChange.TheVariants.{Block, Point}
 use Rattle.ule_micro.specs.Means.{Means, thread_of_change, stands_under}
-use Rattle.ule_micro.specs.Histories.{is_lock_among, laid, values_under}
+use Rattle.ule_micro.specs.Histories.{is_lock_among, laid_under, values_under}
 use Rattle.ule_micro.specs.Laws.{AreInRisingOrder, Leaves, Moves, at_lock, has_true, lock_count, places}
 use Rattle.ule_micro.proofs.Lists.{get_here, get_else, length_map, there}
 use Rattle.ule_micro.proofs.Among.{among_first, among_one, among_second, among_this, among_two, bool_case}
@@ -100,10 +100,10 @@ module _ {H O G E R C : Type 0} (m : Means H O G E R C) (values guarded : List G
   module _ (guarded' : List G) where
     -- after the event it stands there as in the value that the event left
     stands_at : (held : HeldLocks) → AreInRisingOrder held → values_under held values ≡ Some guarded → length guarded' ≡ lock_count held → (l : ℕ) → is_lock_among held l ≡ true
-        → stands_under m (laid held values guarded') l t ≡ pick held (places m guarded' t) l
+        → stands_under m (laid_under held values guarded') l t ≡ pick held (places m guarded' t) l
     stands_at held low is many l at = by held guarded' low is many at where
       by : (hs : HeldLocks) (after : List G) → AreInRisingOrder hs → values_under hs values ≡ Some guarded → length after ≡ lock_count hs → is_lock_among hs l ≡ true
-          → stands_under m (laid hs values after) l t ≡ pick hs (places m after t) l
+          → stands_under m (laid_under hs values after) l t ≡ pick hs (places m after t) l
       by (One a) [] low is many at = absurd (omega arith)
       by (One a) (v' ∷ []) low is many at = let v = under_one a values guarded is in
           ap (λ i. stands_under m (set values a v') i t) (among_one a l at) ∙ stands_here m (set values a v') a t v' (get_here values a v' (there values a v.0 v.1))
@@ -123,25 +123,25 @@ module _ {H O G E R C : Type 0} (m : Means H O G E R C) (values guarded : List G
 
     -- each declared thread stays, leaves a lock for the hand, or comes to a lock
     pub moved : (held : HeldLocks) (h h' : H) (change : Option WordChange) → AreInRisingOrder held → values_under held values ≡ Some guarded → length guarded ≡ lock_count held
-        → Moves m held h guarded change h' guarded' → m.declared t ≡ true → Moved m held h h' values (laid held values guarded') t change
+        → Moves m held h guarded change h' guarded' → m.declared t ≡ true → Moved m held h h' values (laid_under held values guarded') t change
     moved held h h' change low is many law dec = by (about m change t) where
       many' : length guarded' ≡ lock_count held
       many' = law.count ∙ many
 
-      else_same : (l : ℕ) → is_lock_among held l ≡ false → stands_under m (laid held values guarded') l t ≡ stands_under m values l t
+      else_same : (l : ℕ) → is_lock_among held l ≡ false → stands_under m (laid_under held values guarded') l t ≡ stands_under m values l t
       else_same l out = ap (λ o. in_value m o t) (laid_else values held guarded' l out)
 
       either_way : {X : Type 0} (l : ℕ) → (is_lock_among held l ≡ true → X) → (is_lock_among held l ≡ false → X) → X
       either_way l among out = ⊎_elim among out (bool_case (is_lock_among held l))
 
-      by : About m change t → Moved m held h h' values (laid held values guarded') t change
+      by : About m change t → Moved m held h h' values (laid_under held values guarded') t change
       by (none far) = let k = law.others t dec far in stays far
           (λ l. either_way l (λ at. stands_at held low is many' l at ∙ (ap (λ xs. pick held xs l) k.0 ∙ sym (stood_at held low is l at))) (else_same l)) k.1
       by (blocks of) = let k = law.blocks t of in let some = pick_some held (places m guarded t) low (length_map (λ v. m.stands_in v t) guarded ∙ many) k.0 in
           left some.0 of some.1 (stood_at held low is some.0 some.1 ∙ some.2)
           (λ l st. either_way l (λ at. absurd (true≢false (sym st ∙ (stands_at held low is many' l at ∙ pick_none held (places m guarded' t) l k.1)))) (λ out. (sym (else_same l out) ∙ st, out))) k.2
       by (points j of) = let k = law.points t j of in
-          let at_lock_is : (l : ℕ) → is_lock_among held l ≡ true → stands_under m (laid held values guarded') l t ≡ (l == j) = λ l at. stands_at held low is many' l at ∙ (ap (λ xs. pick held xs l) k.2 ∙ pick_lock held j l low at) in
+          let at_lock_is : (l : ℕ) → is_lock_among held l ≡ true → stands_under m (laid_under held values guarded') l t ≡ (l == j) = λ l at. stands_at held low is many' l at ∙ (ap (λ xs. pick held xs l) k.2 ∙ pick_lock held j l low at) in
           came j of
           (⊎_elim (λ e. inl e) (λ e. let some = pick_some held (places m guarded t) low (length_map (λ v. m.stands_in v t) guarded ∙ many) e in inr (some.0, some.1, stood_at held low is some.0 some.1 ∙ some.2)) k.0)
           k.1 (at_lock_is j k.1 ∙ eq-eqb j j refl)

@@ -4,7 +4,7 @@ use Rattle.std.specs.Prelude.{Option, Some, None, is_some, true, false, slice_ge
 use Rattle.ule_micro.specs.declared.todo.Todo.{Todo}
 use Rattle.ule_micro.specs.Means.{Means}
 use Rattle.ule_micro.specs.Programs.{CanBegin}
-use Rattle.ule_micro.specs.Turns.{Fetched, next_command, fetch}
+use Rattle.ule_micro.specs.Turns.{Fetched, next_command}
 use Rattle.ule_micro.proofs.Lists.{drop_get, drop_none}
 
 module _ {H O G E R C : Type 0} (m : Means H O G E R C) where
@@ -65,13 +65,3 @@ module _ {H O G E R C : Type 0} (m : Means H O G E R C) where
   -- what a worker fetches after it asked for its next item
   abbrev pub fetched : ℕ → List C → Option (Todo E) → O → Fetched O E
   fetched k orders item own = elim item as (λ _. Fetched O E) [ None ↦ next_command m own k orders | Some x ↦ record { item = Some x; own = own; begun = k } ]
-
-  -- where no item comes of the last command, the next ones begin
-  pub fetch_none : (own told : O) (k : ℕ) (last : Option (R × ℕ)) (orders : List C) → (m.next own last).0 ≡ None → told ≡ (m.next own last).1
-      → fetch m own k last orders ≡ next_command m told k orders
-  fetch_none own told k last orders e is = ap (λ o. fetched k orders o (m.next own last).1) e ∙ ap (λ o. next_command m o k orders) (sym is)
-
-  -- an item of the last command is the next item
-  pub fetch_some : (own told : O) (k : ℕ) (last : Option (R × ℕ)) (orders : List C) (x : Todo E) → (m.next own last).0 ≡ Some x → told ≡ (m.next own last).1
-      → fetch m own k last orders ≡ record { item = Some x; own = told; begun = k }
-  fetch_some own told k last orders x e is = ap (λ o. fetched k orders o (m.next own last).1) e ∙ (λ i. record { item = Some x; own = sym is i; begun = k })

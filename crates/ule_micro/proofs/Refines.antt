@@ -24,25 +24,25 @@ use Rattle.ule_micro.specs.declared.word.Word.TheVariants.{Lock, Blocked}
 use Rattle.ule_micro.specs.declared.word.WordChange.{WordChange}
 use Rattle.ule_micro.specs.declared.word.WordChange.TheVariants.{Block, Point}
 use Rattle.ule_micro.specs.Means.{budgets, Needs, lock_of, one, both, thread_sought_by, fixed_by}
-use Rattle.ule_micro.specs.Histories.{effect_under}
+use Rattle.ule_micro.specs.Histories.{effect_under, entry_made}
 use Rattle.ule_micro.specs.Performing.{CanPerform, Acts}
 use Rattle.ule_micro.specs.Programs.{CanGoOn}
 use Rattle.ule_micro.specs.States.{pending, pending_by, courses, course_of_seat}
-use Rattle.ule_micro.specs.Turns.{with_seat, with_lock, with_word, first_read, second_read, store, leave, commit, calm, is_named, seat_going_on, open_event, entry_made, played}
+use Rattle.ule_micro.specs.Turns.{with_seat, with_lock, with_word, first_read, second_read, store, leave, commit, calm, is_named, seat_going_on, open_event, played}
 use Rattle.ule_micro.specs.declared.locks.TheConstants.{LIMBO, LOCKS, THREADS}
 use Rattle.ule_micro.specs.Standings.{asks}
 use Rattle.ule_micro.specs.Courses.{WorkerCourse}
 use Rattle.ule_micro.proofs.Lists.{index_get, any_default, there, something, get_here, drop_get}
 use Rattle.ule_micro.proofs.Seats.{seat_course_at}
 use Rattle.ule_micro.proofs.Numbers.{play_small, items_small, advanced_set, advanced_at}
+use Rattle.ule_micro.proofs.Showing.{now_is, ticket_is}
 use Rattle.ule_micro.proofs.Goings.{can_go_on, quiet_advance, asking_advance, asking_leave}
 use Rattle.ule_micro.proofs.Effects.{apart_for}
-use Rattle.ule_micro.proofs.Commits.{guards, may, few_entries, few_items, entry_has_room, rises}
-use Rattle.ule_micro.specs.Theorem.{WordTellsPlace, HasLegalPlay, IsNoStep, IsNotStuck, LockAgreement}
+use Rattle.ule_micro.proofs.Commits.{performable, rises, still_small}
+use Rattle.ule_micro.specs.Theorem.{WordTellsPlace, HasLegalPlay, IsNoStep, IsNotStuck}
 use Rattle.ule_micro.proofs.Turning.{rises_at, worker_turn_kept, tells_place}
-use Rattle.ule_micro.proofs.Unstuck.{not_stuck}
-use Rattle.ule_micro.proofs.Finishes.{ends_there}
-use Rattle.ule_micro.proofs.Workers.{same_workers, unmoved}
+use Rattle.ule_micro.proofs.Unstuck.{ends_there, not_stuck}
+use Rattle.ule_micro.proofs.Outcomes.{same_workers, unmoved}
 
 module _ {O E R : Type 0} where
   -- the worker that the code reads is the one that stands there
@@ -168,7 +168,7 @@ module _ {P H O G E R C : Type 0} (means : P → Means H O G E R C) (orders : P 
     -- a change was stored
     pub stored_turned : (k : IsKeptState (means parts) (orders parts) s) (change : WordChange) → ((p : Seat O E R) × (slice_get s.seats w ≡ Some p) × (p.pending ≡ Some change))
         → turn_of_worker (means parts) (orders parts) s w ≡ store s w q change
-    stored_turned k change (p, at, pends) = let seat = seat_now s.seats w p q at is in let same : p ≡ q = same_Some p q (sym at ∙ seat) in let z = k.agreement.changes w p at change pends in
+    stored_turned k change (p, at, pends) = let seat = seat_now s.seats w p q at is in let same : p ≡ q = same_Some p q (sym at ∙ seat) in let z = (k.agreement.workers w p at).leaving change pends in
         turn_standing_at w (phase.Leaving z.0.reply z.0.now z.0.locks) q (p, at, z.2) is ∙ ap (leave (means parts) (orders parts) s w q z.0.reply z.0.now z.0.locks) (ap (λ (y : Seat O E R). y.pending) (sym same) ∙ pends)
 
     -- time was raised, and the worker went on
@@ -191,7 +191,7 @@ module _ {P H O G E R C : Type 0} (means : P → Means H O G E R C) (orders : P 
     -- an event took effect
     pub committed_turned : (k : IsKeptState (means parts) (orders parts) s) (e : E) (held : HeldLocks) (now : ℕ) (q' : Seat O E R) (values' : List G) (reply : R) (history' : List (Entry E R))
         → WorkerStandsAt s w (phase.Event e (progress.Timed held now))
-        → Acts (means parts) q s.values e now held q' values' reply → history' ≡ entry_made (means parts) w e held now reply ∷ s.history
+        → Acts (means parts) q s.values e now held q' values' reply → history' ≡ entry_made w e held now reply ∷ s.history
         → turn_of_worker (means parts) (orders parts) s w ≡ (
           turn.Moved (done.Commit (s.ticket + 1)),
           record {
@@ -206,7 +206,7 @@ module _ {P H O G E R C : Type 0} (means : P → Means H O G E R C) (orders : P 
         )
     committed_turned k e held now q' values' reply history' (p, at, here) (after, effect, is_q, is_values, is_reply) is_history = let seat = seat_now s.seats w p q at is in
         turn_standing_at w (phase.Event e (progress.Timed held now)) q (p, at, here) is
-        ∙ (ap (commit (means parts) s w q e held now) (ap (λ i. effect_under (means parts) i e now ((means parts).hand q.own) held s.values) (sym (k.numbers w q seat)) ∙ effect)
+        ∙ (ap (commit (means parts) s w q e held now) (ap (λ i. effect_under (means parts) i e now ((means parts).hand q.own) held s.values) (sym ((k.seats w q seat).number)) ∙ effect)
         ∙ (λ j. (
           turn.Moved (done.Commit (s.ticket + 1)),
           record {
@@ -216,7 +216,7 @@ module _ {P H O G E R C : Type 0} (means : P → Means H O G E R C) (orders : P 
             now = s.now;
             values = sym is_values j;
             seats = set s.seats w (sym is_q j);
-            history = (ap (λ r. entry_made (means parts) w e held now r ∷ s.history) (sym is_reply) ∙ sym is_history) j;
+            history = (ap (λ r. entry_made w e held now r ∷ s.history) (sym is_reply) ∙ sym is_history) j;
           },
         )))
 
@@ -250,15 +250,7 @@ module _ {P H O G E R C : Type 0} (means : P → Means H O G E R C) (orders : P 
         → turn_of_worker (means parts) (orders parts) s w ≡ (turn.Moved (done.Point t l), with_word s i (Lock l) w (calm q))
     pointed_turned k change t l i pends point same = stored_turned k change pends ∙ (ap (store s w q) point ∙ (λ j. (turn.Moved (done.Point t l), with_word s (sym same j) (Lock l) w (calm q))))
 
-  -- a worker that stands somewhere is there
-  pub is_there : (w : ℕ) (place : Phase E R) → WorkerStandsAt s w place → w < length s.seats
-  is_there w place (p, at, here) = there s.seats w p at
-
   module _ (laws : (p : P) → IsLawful (means p)) (lists : (p : P) → AreOrders (means p) (orders p)) where
-    -- what a turn leaves keeps the state
-    pub keeps_by : (w : ℕ) (r : Turn × State O G E R) → IsKeptState (means parts) (orders parts) s → turn_of_worker (means parts) (orders parts) s w ≡ r → IsKeptState (means parts) (orders parts) r.1
-    keeps_by w r k is = subst (λ (x : Turn × State O G E R). IsKeptState (means parts) (orders parts) x.1) is (worker_turn_kept (means parts) (orders parts) (laws parts) (lists parts) s w k)
-
     module _ (k : IsKeptState (means parts) (orders parts) s) (w : ℕ) where
       module _ (q : Seat O E R) (is : q ≡ slice_index_or s.seats w q) where
         -- a worker that goes on is there, and may
@@ -267,7 +259,7 @@ module _ {P H O G E R C : Type 0} (means : P → Means H O G E R C) (orders : P 
 
         -- a worker began commands of its list
         pub begun_low : (there : Phase E R) → WorkerStandsAt s w there → q.begun ≤ length (orders parts w)
-        begun_low there (p, at, here) = k.begun w q (seat_now s.seats w p q at is)
+        begun_low there (p, at, here) = (k.seats w q (seat_now s.seats w p q at is)).begun
 
         phase_now : (there : Phase E R) → WorkerStandsAt s w there → q.phase ≡ there
         phase_now there (p, at, here) = ap (λ (y : Seat O E R). y.phase) (same_Some q p (sym (seat_now s.seats w p q at is) ∙ at)) ∙ here
@@ -289,7 +281,7 @@ module _ {P H O G E R C : Type 0} (means : P → Means H O G E R C) (orders : P 
             let at_c = get_here (courses s) w c (there (courses s) w (course_of_seat q) (seat_course_at s.seats w q q seat)) in
             let few = (play_small (means parts) (orders parts) (laws parts) (lists parts) s.history s.values (set (courses s) w c) play).2 in
             let items = items_small (means parts) (orders parts) (laws parts) (lists parts) s.history s.values (set (courses s) w c) w c play at_c in
-            let sum = advanced_set (courses s) w (course_of_seat q) c (seat_course_at s.seats w q q seat) in let mine = advanced_at (set (courses s) w c) w c at_c in let now = k.agreement.now in
+            let sum = advanced_set (courses s) w (course_of_seat q) c (seat_course_at s.seats w q q seat) in let mine = advanced_at (set (courses s) w c) w c at_c in let now = now_is (means parts) (orders parts) s k in
             (omega arith, items, omega arith)
 
         -- a worker that gives its last lock back may go on
@@ -307,9 +299,9 @@ module _ {P H O G E R C : Type 0} (means : P → Means H O G E R C) (orders : P 
           -- the event that is next may be performed
           pub can_perform : WorkerStandsAt s w (phase.Event e (progress.Timed held now)) → CanPerform (means parts) q.own s.values e now held
           can_perform (p, at, here) = let seat = seat_now s.seats w p q at is in let here' = phase_now (phase.Event e (progress.Timed held now)) (p, at, here) in
-              let g = guards (means parts) (orders parts) (laws parts) (lists parts) s k w q seat e held now here' in (
-                apart_for (means parts) s.values held ((means parts).needs e) (rises (means parts) (orders parts) (laws parts) (lists parts) s k w q seat e held now here') (k.agreement.ways w q e (progress.Timed held now) seat here'),
-                (g.0, g.1, subst (λ i. (means parts).may i e now ((means parts).hand q.own) g.0) (sym (k.numbers w q seat)) (may (means parts) (orders parts) (laws parts) (lists parts) s k w q seat e held now here')),
+              let g = performable (means parts) (orders parts) (laws parts) (lists parts) s k w q seat e held now here' in (
+                apart_for (means parts) s.values held ((means parts).needs e) (rises (means parts) (orders parts) (laws parts) (lists parts) s k w q seat e held now here') ((k.agreement.workers w q seat).way e (progress.Timed held now) here'),
+                (g.0, g.1, subst (λ i. (means parts).may i e now ((means parts).hand q.own) g.0) (sym ((k.seats w q seat).number)) g.2),
               )
 
           -- its locks rise
@@ -319,12 +311,9 @@ module _ {P H O G E R C : Type 0} (means : P → Means H O G E R C) (orders : P 
           -- the numbers of a worker that commits are small
           pub commit_small : WorkerStandsAt s w (phase.Event e (progress.Timed held now))
               → (q.items < 65536) × (s.ticket < 65536) × (length s.history < budgets (means parts).budget (length (means parts).owns))
-          commit_small (p, at, here) = let seat = seat_now s.seats w p q at is in let here' = phase_now (phase.Event e (progress.Timed held now)) (p, at, here) in
-              let few = few_entries (means parts) (orders parts) (laws parts) (lists parts) s k w q seat e held now here' in (
-                few_items (means parts) (orders parts) (laws parts) (lists parts) s k w q seat e held now here',
-                (let t = k.agreement.ticket in omega arith),
-                entry_has_room (means parts) (orders parts) (laws parts) (lists parts) s k w q seat e held now here',
-              )
+          commit_small (p, at, here) = let seat = seat_now s.seats w p q at is in
+              let z = still_small (means parts) (orders parts) (laws parts) (lists parts) s k w q seat e held now (phase_now (phase.Event e (progress.Timed held now)) (p, at, here)) in
+              let few = z.1 in let t = ticket_is (means parts) (orders parts) s k in (z.0, omega arith, z.2)
 
       -- the locks of an event on the way rise
       pub open_rises : (e : E) (way : Progress) → WorkerStandsAt s w (phase.Event e way) → AreRising ((means parts).needs e)
@@ -339,6 +328,13 @@ module _ {P H O G E R C : Type 0} (means : P → Means H O G E R C) (orders : P 
     -- a turn of the fields is a turn of what contracts see
     pub turned_by : (w : ℕ) (r : Turn × State O G E R) → turn_of_worker (means parts) (orders parts) s w ≡ r → IsTurned (means m.parts) (orders m.parts) m w r.0 record { parts = parts; state = r.1 }
     turned_by w r is = subst (λ (n : Machine P O G E R). IsTurned (means n.parts) (orders n.parts) n w r.0 record { parts = parts; state = r.1 }) view (refl, ap (λ (x : Turn × State O G E R). x.0) is, ap (λ (x : Turn × State O G E R). x.1) is)
+
+    -- what a turn leaves keeps the state
+    pub keeps_turned : ((p : P) → IsLawful (means p)) → ((p : P) → AreOrders (means p) (orders p)) → (w : ℕ) (r : Turn) (n : Machine P O G E R) → IsKeptState (means parts) (orders parts) s
+        → IsTurned (means m.parts) (orders m.parts) m w r n → IsKeptState (means parts) (orders parts) n.state
+    keeps_turned laws lists w r n k turned = subst (IsKeptState (means parts) (orders parts)) (turned_so view).2 (worker_turn_kept (means parts) (orders parts) (laws parts) (lists parts) s w k) where
+      turned_so : record { parts = parts; state = s } ≡ m → IsTurned (means parts) (orders parts) (record { parts = parts; state = s }) w r n
+      turned_so is = subst (λ (i : Machine P O G E R). IsTurned (means i.parts) (orders i.parts) i w r n) (sym is) turned
 
     -- a worker stands in the fields where contracts see it
     pub stands_inside : (w : ℕ) (there : Phase E R) → WorkerStandsAt m.state w there → WorkerStandsAt s w there
@@ -389,10 +385,6 @@ module _ {P H O G E R C : Type 0} (means : P → Means H O G E R C) (orders : P 
     -- the play that contracts see is legal
     pub legal_there : IsKeptState (means parts) (orders parts) s → HasLegalPlay (means m.parts) (orders m.parts) m.state
     legal_there k = subst (λ (n : Machine P O G E R). HasLegalPlay (means n.parts) (orders n.parts) n.state) view k.play
-
-    -- the state that contracts see is in lock agreement
-    pub agrees_there : IsKeptState (means parts) (orders parts) s → LockAgreement (means m.parts) (orders m.parts) m.state
-    agrees_there k = subst (λ (n : Machine P O G E R). LockAgreement (means n.parts) (orders n.parts) n.state) view k.agreement
 
 module _ {P H O G E R C : Type 0} (means : P → Means H O G E R C) (orders : P → ℕ → List C) where
   -- one more turn of those that are played

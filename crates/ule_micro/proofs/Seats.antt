@@ -8,7 +8,7 @@ use Rattle.ule_micro.specs.declared.seat.Phase.TheVariants as phase
 use Rattle.ule_micro.specs.declared.seat.Seat.{Seat}
 use Rattle.ule_micro.specs.Means.{Means}
 use Rattle.ule_micro.specs.Agreement.{NamesOneHolder}
-use Rattle.ule_micro.specs.States.{State, lock_holder, holds, lock_held_by, pending_by, carried_at, course_of_seat, hand_of_seat, took}
+use Rattle.ule_micro.specs.States.{State, lock_holder, holds, lock_held_by, pending_by, course_of_seat, hand_of_seat, took}
 use Rattle.ule_micro.proofs.Lists.{get_here, get_else, get_set, set_same, get_map, map_set, there, same_at, index_past}
 
 module _ {O E R : Type 0} (seats : List (Seat O E R)) (w : ℕ) (p p' : Seat O E R) (at : slice_get seats w ≡ Some p) where
@@ -44,17 +44,9 @@ module _ {O E R : Type 0} (seats : List (Seat O E R)) (w : ℕ) (p p' : Seat O E
   pub held_same : (l : ℕ) → took p'.phase l ≡ took p.phase l → (v : ℕ) → lock_held_by (slice_get seats_after v) l ≡ lock_held_by (slice_get seats v) l
   held_same l e v = same_at (λ o. lock_held_by o l) seats w p p' at e v
 
-  -- the worker's pending change is the one that it has now
-  pub pending_here : pending_by (slice_get seats_after w) ≡ p'.pending
-  pending_here = ap pending_by seat_here
-
   -- the worker's pending change was the one that it had
   pub pending_before : pending_by (slice_get seats w) ≡ p.pending
   pending_before = ap pending_by at
-
-  -- every other worker's pending change stays
-  pub pending_else : (v : ℕ) → v ≢ w → pending_by (slice_get seats_after v) ≡ pending_by (slice_get seats v)
-  pending_else v n = ap pending_by (seat_else v n)
 
   -- where the worker has the change that it had, all have what they had
   pub pending_same : p'.pending ≡ p.pending → (v : ℕ) → pending_by (slice_get seats_after v) ≡ pending_by (slice_get seats v)
@@ -73,22 +65,6 @@ module _ {O E R : Type 0} (seats : List (Seat O E R)) (w : ℕ) (p p' : Seat O E
   courses_same e = seat_courses_set ∙ (ap (set (map course_of_seat seats) w) e ∙ set_same (map course_of_seat seats) w (course_of_seat p) seat_course_at)
 
 module _ {H O G E R C : Type 0} (m : Means H O G E R C) (seats : List (Seat O E R)) (w : ℕ) (p p' : Seat O E R) (at : slice_get seats w ≡ Some p) where
-  -- the worker that changed has in hand what it has now
-  pub carried_here : (t : ℕ) → carried_at m (slice_get (set seats w p') w) t ≡ m.carried_in (m.hand p'.own) t
-  carried_here t = ap (λ o. carried_at m o t) (seat_here seats w p p' at)
-
-  -- the worker had in hand what it had
-  pub carried_before : (t : ℕ) → carried_at m (slice_get seats w) t ≡ m.carried_in (m.hand p.own) t
-  carried_before t = ap (λ o. carried_at m o t) at
-
-  -- every other worker has in hand what it had
-  pub carried_else : (t v : ℕ) → v ≢ w → carried_at m (slice_get (set seats w p') v) t ≡ carried_at m (slice_get seats v) t
-  carried_else t v n = ap (λ o. carried_at m o t) (seat_else seats w p p' at v n)
-
-  -- where the hand of the worker stays, all hands have what they had
-  pub carried_same : (t : ℕ) → m.hand p'.own ≡ m.hand p.own → (v : ℕ) → carried_at m (slice_get (set seats w p') v) t ≡ carried_at m (slice_get seats v) t
-  carried_same t e v = same_at (λ o. carried_at m o t) seats w p p' at (ap (λ h. m.carried_in h t) e) v
-
   -- the hand of the worker is among the hands
   pub seat_hand_at : slice_get (map (hand_of_seat m) seats) w ≡ Some (m.hand p.own)
   seat_hand_at = get_map (hand_of_seat m) seats w p at

@@ -3,28 +3,28 @@ use Rattle.std.proofs.Common.{◌≡◌, ℕ, zero, suc, ◌+◌, ◌≤◌, ◌
 use Rattle.std.specs.Prelude.{Option, Some, None, Result, Ok, Err, is_ok, is_err, if◌then◌else◌, slice_get, slice_index_or}
 use Rattle.std.proofs.lemmas.Option.{none-some, same_Some}
 use mathlib.Core.Logic.{dite}
-use native.Mathlib.Decide.{ℕ_discrete}
-use Rattle.ule_micro.specs.declared.seat.Progress.TheVariants as progress
+use native.Mathlib.Decide.{dec_lt, ℕ_discrete}
 use Rattle.ule_micro.specs.declared.seat.Seat.{Seat}
 use Rattle.ule_micro.specs.declared.word.Word.TheVariants.{Lock}
-use Rattle.ule_micro.specs.Means.{Means, stands_under}
-use Rattle.ule_micro.specs.Histories.{Leads}
+use Rattle.ule_micro.specs.Means.{Means, carried_by, stands_under}
 use Rattle.ule_micro.specs.declared.locks.TheConstants.{LIMBO, LOCKS, THREADS}
 use Rattle.ule_micro.specs.Standings.{standing_with}
 use Rattle.ule_micro.specs.Courses.{WorkerCourse, all_advanced, unbegun, LegalPlay, opens}
-use Rattle.ule_micro.specs.Laws.{AreOrders, IsLawful, values_and_hands_at_start}
-use Rattle.ule_micro.specs.Agreement.{under}
+use Rattle.ule_micro.specs.Laws.{AreOrders, IsLawful}
+use Rattle.ule_micro.specs.Agreement.{ThreadAgrees, under}
 use Rattle.ule_micro.specs.Programs.{CanBegin}
-use Rattle.ule_micro.specs.States.{State, holds, lock_held_by, pending, pending_by, carried_at, course_of_seat, hand_of_seat, courses, values_and_hands}
+use Rattle.ule_micro.specs.Shared.{Agrees}
+use Rattle.ule_micro.specs.States.{State, holds, lock_held_by, pending, pending_by, read_by, time_read, course_of_seat, hand_of_seat, courses, shared_of, word_of}
 use Rattle.ule_micro.specs.Turns.{Fetched, next_command, seated, phase_with}
-use Rattle.ule_micro.specs.Theorem.{IsStart, HasWhatItNeeds, ThreadAgreesIn}
+use Rattle.ule_micro.specs.Theorem.{IsStart, HasWhatItNeeds, WorkerAgrees}
 use Rattle.ule_micro.specs.Kept.{IsKeptState}
 use Rattle.ule_micro.specs.declared.entry.Entry.{Entry}
 use Rattle.ule_micro.specs.declared.word.Word.{Word}
 use Rattle.ule_micro.specs.Opening.{AreFreeLocks, AreFirstWords, AreFirstValues, AreFirstSeats, IsFirstSeat}
-use Rattle.ule_micro.proofs.Lists.{set_same, there, something, get_map, length_map, index_get}
+use Rattle.ule_micro.proofs.Lists.{set_same, there, something, get_map, map_get, length_map, index_get, index_past}
 use Rattle.ule_micro.proofs.Fetches.{IsFetchedWell, commands_well}
-use Rattle.ule_micro.proofs.Fresh.{took_nothing, standing_given, given_none, given_open, given_not_leaving, open_not_timed}
+use Rattle.ule_micro.proofs.Fresh.{took_nothing, read_nothing, standing_given, given_none, given_open, given_not_leaving}
+use Rattle.ule_micro.proofs.Showing.{advanced_all}
 
 module _ {X : Type 0} where
   -- mixed: the first n of one list, and the rest of another
@@ -139,16 +139,16 @@ module _ {H O G E R C : Type 0} (m : Means H O G E R C) (orders : ℕ → List C
     by None e = ap (λ i. lock_held_by i l) e
     by (Some p) e = let z = each_start w p e in ap (λ i. lock_held_by i l) e ∙ took_nothing (first_item w z.0).item p.phase l (ap (λ (y : Seat O E R). y.phase) z.2)
 
-  no_thread : (t w : ℕ) → m.declared t ≡ true → carried_at m (slice_get s.seats w) t ≡ false
-  no_thread t w dec = by (slice_get s.seats w) refl where
-    by : (o : Option (Seat O E R)) → slice_get s.seats w ≡ o → carried_at m (slice_get s.seats w) t ≡ false
-    by None e = ap (λ i. carried_at m i t) e
-    by (Some p) e = let z = hand_start w p e in ap (λ i. carried_at m i t) e ∙ (ap (λ h. m.carried_in h t) z.2 ∙ laws.settled.empty t w z.0 dec z.1)
+  no_thread : (t w : ℕ) → m.declared t ≡ true → carried_by m (map (hand_of_seat m) s.seats) w t ≡ false
+  no_thread t w dec = ap (λ hs. carried_by m hs w t) hands_start ∙ by (slice_get (map m.hand m.owns) w) refl where
+    by : (o : Option H) → slice_get (map m.hand m.owns) w ≡ o → carried_by m (map m.hand m.owns) w t ≡ false
+    by None e = ap (λ i. elim i as (λ _. Bool) [ None ↦ false | Some h ↦ m.carried_in h t ]) e
+    by (Some h) e = let o = map_get m.hand m.owns w h e in ap (λ i. elim i as (λ _. Bool) [ None ↦ false | Some h ↦ m.carried_in h t ]) e ∙ (ap (λ i. m.carried_in i t) (sym o.2) ∙ laws.settled.empty t w o.0 dec o.1)
 
   stands_start : (l t : ℕ) → stands_under m s.values l t ≡ stands_under m m.values l t
   stands_start l t = ap (λ vs. stands_under m vs l t) st.values
 
-  thread_start : (t : ℕ) → m.declared t ≡ true → ThreadAgreesIn m s t
+  thread_start : (t : ℕ) → m.declared t ≡ true → ThreadAgrees (holds s) (pending s) (λ l. stands_under m s.values l t) (λ w. carried_by m (map (hand_of_seat m) s.seats) w t) t (word_of s t)
   thread_start t dec = record {
     place = under (m.word t);
     there = stands_start (m.word t) t ∙ laws.settled.stands t dec;
@@ -162,33 +162,54 @@ module _ {H O G E R C : Type 0} (m : Means H O G E R C) (orders : ℕ → List C
   none_advanced [] each = refl
   none_advanced (p ∷ ps) each = let a = each 0 p refl in let b = none_advanced ps (λ w q e. each (suc w) q e) in omega arith
 
+  no_time : (w : ℕ) → time_read s w ≡ None
+  no_time w = by (slice_get s.seats w) refl where
+    by : (o : Option (Seat O E R)) → slice_get s.seats w ≡ o → time_read s w ≡ None
+    by None e = ap read_by e
+    by (Some p) e = let z = each_start w p e in ap read_by e ∙ read_nothing (first_item w z.0).item p.phase (ap (λ (y : Seat O E R). y.phase) z.2)
+
+  word_low : (t : ℕ) → m.declared t ≡ false → word_of s t ≡ Lock LIMBO
+  word_low t none = dite (dec_lt t THREADS) (λ h. st.words t h ∙ ap Lock (laws.settled.limbo t none)) (λ far. index_past s.words t (Lock LIMBO) (let a = words in let b = far in omega arith))
+
+  -- what the state at the start shows agrees
+  start_agrees : Agrees m (shared_of m s [])
+  start_agrees = record {
+    values = ap length st.values ∙ laws.small.locks;
+    locks = λ l. record { named = λ w h. absurd (true≢false (sym h ∙ no_lock w l)); held = λ w e. absurd (none-some w (sym (st.locks l) ∙ e)) };
+    threads = thread_start;
+    undeclared = word_low;
+    changes = λ w c is. absurd (none-some c (sym (no_change w) ∙ is));
+    times = λ w r is. absurd (none-some r (sym (no_time w) ∙ is));
+    past = λ j x e. absurd (none-some x e);
+    now = let a = none_advanced s.seats (λ w p e. ap (λ (y : Seat O E R). y.advanced) (each_start w p e).2) in let b = st.now in let c = advanced_all s.seats in omega arith;
+    ticket = st.ticket;
+    history = λ i. record { values = st.values i; hands = hands_start i };
+  }
+
+  worker_start : (w : ℕ) (p : Seat O E R) → slice_get s.seats w ≡ Some p → WorkerAgrees m orders s w p
+  worker_start w p e = let z = each_start w p e in let given = ap (λ (y : Seat O E R). y.phase) z.2 in record {
+    leaving = λ c is. absurd (none-some c (sym (no_change w) ∙ (ap pending_by e ∙ is)));
+    way = λ a on is. subst (HasWhatItNeeds m s a) (sym (given_open (first_item w z.0).item p.phase a on given is)) tt;
+    finished = λ fin. record {
+      ended = subst (λ (y : Seat O E R). slice_get (orders w) y.begun ≡ None) (sym z.2) ((fetched w z.0 z.1).ended (given_none (first_item w z.0).item p.phase given fin));
+      free = λ l is. none-some w (sym (st.locks l) ∙ is);
+      calm = ap (λ (y : Seat O E R). y.pending) z.2;
+      empty = λ t dec. let h = hand_start w p e in ap (λ i. m.carried_in i t) h.2 ∙ laws.settled.empty t w h.0 dec h.1;
+    };
+  }
+
   -- the state at the start is kept
   pub start_kept : IsKeptState m orders s
   start_kept = record {
     locks = locks;
     words = words;
-    values = ap length st.values ∙ laws.small.locks;
     workers = st.workers;
-    numbers = λ w p e. let z = each_start w p e in ap (λ (y : Seat O E R). m.number y.own) z.2 ∙ ((fetched w z.0 z.1).number ∙ laws.small.numbered w z.0 z.1);
-    begun = λ w p e. let z = each_start w p e in subst (λ (y : Seat O E R). y.begun ≤ length (orders w)) (sym z.2) (fetched w z.0 z.1).low;
-    apart = λ w p reply now held e is. absurd (let z = each_start w p e in given_not_leaving (first_item w z.0).item p.phase reply now held (ap (λ (y : Seat O E R). y.phase) z.2) is);
-    agreement = record {
-      locks = λ l. record { named = λ w h. absurd (true≢false (sym h ∙ no_lock w l)); held = λ w e. absurd (none-some w (sym (st.locks l) ∙ e)) };
-      threads = thread_start;
-      changes = λ w p e c is. absurd (none-some c (sym (no_change w) ∙ (ap pending_by e ∙ is)));
-      ways = λ w p e on at is. let z = each_start w p at in subst (HasWhatItNeeds m s e) (sym (given_open (first_item w z.0).item p.phase e on (ap (λ (y : Seat O E R). y.phase) z.2) is)) tt;
-      times = λ w p e held now at is. absurd (let z = each_start w p at in open_not_timed held now (sym (given_open (first_item w z.0).item p.phase e (progress.Timed held now) (ap (λ (y : Seat O E R). y.phase) z.2) is)));
-      past = λ j x e. absurd (none-some x (ap (λ h. slice_get h j) (sym st.history) ∙ e));
-      now = let a = none_advanced s.seats (λ w p e. ap (λ (y : Seat O E R). y.advanced) (each_start w p e).2) in let b = st.now in omega arith;
-      finished = λ w p e fin. record {
-        ended = let z = each_start w p e in subst (λ (y : Seat O E R). slice_get (orders w) y.begun ≡ None) (sym z.2) ((fetched w z.0 z.1).ended (given_none (first_item w z.0).item p.phase (ap (λ (y : Seat O E R). y.phase) z.2) fin));
-        free = λ l is. none-some w (sym (st.locks l) ∙ is);
-        calm = ap (λ (y : Seat O E R). y.pending) (each_start w p e).2;
-        empty = λ t dec. let z = hand_start w p e in ap (λ h. m.carried_in h t) z.2 ∙ laws.settled.empty t w z.0 dec z.1;
-      };
-      ticket = st.ticket ∙ sym (ap length st.history);
-      history = subst (λ h. Leads m (values_and_hands_at_start m) h (values_and_hands m s)) (sym st.history) (λ i. record { values = st.values i; hands = hands_start i });
+    seats = λ w p e. let z = each_start w p e in record {
+      number = ap (λ (y : Seat O E R). m.number y.own) z.2 ∙ ((fetched w z.0 z.1).number ∙ laws.small.numbered w z.0 z.1);
+      begun = subst (λ (y : Seat O E R). y.begun ≤ length (orders w)) (sym z.2) (fetched w z.0 z.1).low;
+      apart = λ reply now held is. absurd (given_not_leaving (first_item w z.0).item p.phase reply now held (ap (λ (y : Seat O E R). y.phase) z.2) is);
     };
+    agreement = record { history = []; same_entries = sym st.history; shared = start_agrees; workers = worker_start };
     play = subst (λ h. LegalPlay m orders h s.values (courses s)) (sym st.history) (subst (λ vs. LegalPlay m orders [] vs (courses s)) (sym st.values) start_play);
   }
 

@@ -1,6 +1,6 @@
 -- Each turn keeps the state.
-use Rattle.std.proofs.Common.{◌≡◌, ◌≢◌, ℕ, ◌<◌, Bool, true, false, List, [], ◌∷◌, set, sym, refl, ap, ◌∙◌, subst, subst₂, inl, inr, arith, true≢false, length-set, ne_eqb}
-use Rattle.std.specs.Prelude.{Option, Some, None, slice_get, slice_index_or, if◌then◌else◌}
+use Rattle.std.proofs.Common.{◌≡◌, ◌≢◌, ℕ, ◌<◌, Bool, true, false, List, [], ◌∷◌, map, set, sym, refl, ap, ◌∙◌, subst, subst₂, inl, inr, arith, true≢false, ne_eqb}
+use Rattle.std.specs.Prelude.{Option, Some, None, slice_get, if◌then◌else◌}
 use mathlib.Core.Logic.{dite}
 use native.Mathlib.Decide.{ℕ_discrete}
 use Rattle.ule_micro.specs.declared.entry.HeldLocks.{HeldLocks}
@@ -14,27 +14,25 @@ use Rattle.ule_micro.specs.declared.word.Word.{Word}
 use Rattle.ule_micro.specs.declared.word.Word.TheVariants.{Lock, Blocked}
 use Rattle.ule_micro.specs.declared.word.WordChange.{WordChange}
 use Rattle.ule_micro.specs.declared.word.WordChange.TheVariants.{Block, Point}
-use Rattle.ule_micro.specs.Means.{Means, Needs, one, both, lock_of, stands_under}
+use Rattle.ule_micro.specs.Means.{Means, Needs, carried_by, one, both, lock_of, stands_under}
 use Rattle.ule_micro.specs.declared.locks.TheConstants.{LOCKS}
 use Rattle.ule_micro.specs.Standings.{Acted}
 use Rattle.ule_micro.specs.Histories.{effect_under, is_lock_among, AreLocksFor, own_entries}
 use Rattle.ule_micro.specs.Laws.{AreInRisingOrder, AreOrders, AreRising, IsLawful}
 use Rattle.ule_micro.specs.Agreement.{Place, IsThere, WordAgrees, under, in_hand}
-use Rattle.ule_micro.specs.States.{State, lock_holder, word_of, holds, lock_held_by, pending, carried_at, course_of_seat, courses, took, standing_of_phase}
+use Rattle.ule_micro.specs.States.{State, lock_holder, word_of, holds, pending, course_of_seat, hand_of_seat, read_in, read_on_the_way, took, took_on_the_way, standing_of_phase}
 use Rattle.ule_micro.specs.Turns.{at as placed, is_named, take, first_read, commit, leave, open_event, approach, step_of, turn_by, turn_of_worker, played}
-use Rattle.ule_micro.specs.Theorem.{HasWhatItNeeds, IsTimely, WordTellsPlace}
+use Rattle.ule_micro.specs.Theorem.{HasWhatItNeeds, WordTellsPlace}
 use Rattle.ule_micro.specs.Kept.{IsKeptState}
-use Rattle.ule_micro.proofs.Lists.{there, index_here, index_else}
-use Rattle.ule_micro.proofs.Seats.{lock_held_here, held_before, held_else, held_same, pending_before, seat_course_at, held_low}
+use Rattle.ule_micro.proofs.Lists.{there}
+use Rattle.ule_micro.proofs.Seats.{held_before, pending_before, seat_course_at, held_low}
 use Rattle.ule_micro.proofs.Threads.{word_tells, lock_injective, lock_not_blocked}
-use Rattle.ule_micro.proofs.Words.{names_kept, names_taken, names_freed, one_holder}
+use Rattle.ule_micro.proofs.Words.{one_holder}
 use Rattle.ule_micro.proofs.Among.{among_this, among_first, among_second, not_among_one, not_among_two}
 use Rattle.ule_micro.proofs.Courses.{asked_for}
 use Rattle.ule_micro.proofs.Effects.{stands_value}
-use Rattle.ule_micro.proofs.Numbers.{advanced_at}
-use Rattle.ule_micro.proofs.Steps.{steps_on}
+use Rattle.ule_micro.proofs.Steps.{block_kept, release_keeps, point_kept, read_now_keeps, read_keeps, take_keeps}
 use Rattle.ule_micro.proofs.Goings.{advance_kept, leave_kept}
-use Rattle.ule_micro.proofs.Stores.{store_kept}
 use Rattle.ule_micro.proofs.Commits.{commit_kept}
 
 -- of two locks the first alone is left where the second is not asked for
@@ -49,17 +47,17 @@ named_is Blocked l e = absurd (true≢false (sym e))
 module _ {H O G E R C : Type 0} (m : Means H O G E R C) where
   -- the lock that a thread's word names tells where the thread stands
   pub tells_place : (orders : ℕ → List C) (s : State O G E R) → IsKeptState m orders s → WordTellsPlace m s
-  tells_place orders s k w t l dec took_it calm named = word_tells (holds s) (pending s) (λ i. stands_under m s.values i t) (λ v. carried_at m (slice_get s.seats v) t) t (word_of s t) w l calm
-      (λ v h. one_holder (lock_holder s l) (λ i. holds s i l) (k.agreement.locks l) v w h took_it) named (k.agreement.threads t dec)
+  tells_place orders s k w t l dec took_it calm named = word_tells (holds s) (pending s) (λ i. stands_under m s.values i t) (λ v. carried_by m (map (hand_of_seat m) s.seats) v t) t (word_of s t) w l calm
+      (λ v h. one_holder (lock_holder s l) (λ i. holds s i l) (k.agreement.shared.locks l) v w h took_it) named (k.agreement.shared.threads t dec)
 
   -- a declared thread's word names one of the locks that there are
   pub word_low : (orders : ℕ → List C) (s : State O G E R) (k : IsKeptState m orders s) (t l : ℕ) → m.declared t ≡ true → word_of s t ≡ Lock l → l < LOCKS
-  word_low orders s k t l dec named = by (k.agreement.threads t dec).place (k.agreement.threads t dec).word_agrees (k.agreement.threads t dec).there where
+  word_low orders s k t l dec named = by (k.agreement.shared.threads t dec).place (k.agreement.shared.threads t dec).word_agrees (k.agreement.shared.threads t dec).there where
     held : (v a : ℕ) → word_of s t ≡ Lock a → holds s v a ≡ true → l < LOCKS
-    held v a at took_it = let z = held_low s k.agreement.locks v a took_it in let same : a ≡ l = lock_injective a l (sym at ∙ named) in let c = k.locks in omega arith
+    held v a at took_it = let z = held_low s k.agreement.shared.locks v a took_it in let same : a ≡ l = lock_injective a l (sym at ∙ named) in let c = k.locks in omega arith
 
-    by : (p : Place) → WordAgrees (holds s) (pending s) t (word_of s t) p → IsThere (λ i. stands_under m s.values i t) (λ v. carried_at m (slice_get s.seats v) t) p → l < LOCKS
-    by (under j) (inl (is, calm)) st = let v = stands_value m s.values j t st in let z = there s.values j v.0 v.1 in let same : j ≡ l = lock_injective j l (sym is ∙ named) in let c = k.values in omega arith
+    by : (p : Place) → WordAgrees (holds s) (pending s) t (word_of s t) p → IsThere (λ i. stands_under m s.values i t) (λ v. carried_by m (map (hand_of_seat m) s.seats) v t) p → l < LOCKS
+    by (under j) (inl (is, calm)) st = let v = stands_value m s.values j t st in let z = there s.values j v.0 v.1 in let same : j ≡ l = lock_injective j l (sym is ∙ named) in let c = k.agreement.shared.values in omega arith
     by (under j) (inr (v, (is, took_it, inl b))) st = absurd (lock_not_blocked l (sym named ∙ b))
     by (under j) (inr (v, (is, took_it, inr (a, at, ha)))) st = held v a at ha
     by (in_hand v) (inl (is, calm)) st = absurd (lock_not_blocked l (sym named ∙ is))
@@ -79,52 +77,36 @@ module _ {H O G E R C : Type 0} (m : Means H O G E R C) (orders : ℕ → List C
   quiet_event e way here = by p.pending refl where
     by : (o : Option WordChange) → p.pending ≡ o → p.pending ≡ None
     by None is = is
-    by (Some c) is = absurd (let z = k.agreement.changes w p at c is in let y : phase.Event e way ≡ phase.Leaving z.0.reply z.0.now z.0.locks = sym here ∙ z.2 in cc)
+    by (Some c) is = absurd (let z = (k.agreement.workers w p at).leaving c is in let y : phase.Event e way ≡ phase.Leaving z.0.reply z.0.now z.0.locks = sym here ∙ z.2 in cc)
 
   module _ (e : E) (way to : Progress) (here : p.phase ≡ phase.Event e way) (needs : HasWhatItNeeds m s e to) where
-    no_leaving : (reply : R) (now : ℕ) (held : HeldLocks) → phase.Event e to ≡ phase.Leaving reply now held → AreInRisingOrder held
+    no_leaving : (reply : R) (now : ℕ) (held : HeldLocks) → on_way e to ≡ phase.Leaving reply now held → AreInRisingOrder held
     no_leaving reply now held is = absurd (cc)
 
+    unfinished : on_way e to ≢ phase.Finished
+    unfinished is = cc
+
+    same_item : standing_of_phase (on_way e to) ≡ standing_of_phase p.phase
+    same_item = sym (ap standing_of_phase here)
+
     -- the worker takes a lock on its way
-    pub taken_on : (l : ℕ) → l < LOCKS → ((held : HeldLocks) (now : ℕ) → to ≡ progress.Timed held now → ⊥) → took (on_way e to) l ≡ true
-        → ((i : ℕ) → i ≢ l → took (on_way e to) i ≡ took p.phase i)
+    taken_on : (l : ℕ) → l < LOCKS → read_on_the_way to ≡ None → took (on_way e to) l ≡ true → ((i : ℕ) → i ≢ l → took (on_way e to) i ≡ took_on_the_way way i)
         → (o : Option ℕ) → lock_holder s l ≡ o → IsKeptState m orders (take s w p l (phase.Event e to) o).1
     taken_on l low untimed has_l rest (Some holder) is = k
-    taken_on l low untimed has_l rest None is = steps_on m orders s k w p at (phase.Event e to) (set s.locks l (Some w)) (length-set s.locks l (Some w) ∙ k.locks) (quiet_event e way here) (sym (ap standing_of_phase here))
-        (λ z. cc)
-        (λ i. dite (ℕ_discrete i l)
-        (λ z. names_taken (lock_holder s i) (slice_index_or (set s.locks l (Some w)) i None) (λ v. holds s v i) (λ v. lock_held_by (slice_get (set s.seats w (placed p (phase.Event e to))) v) i) (k.agreement.locks i) w (held_else s.seats w p (placed p (phase.Event e to)) at i)
-        (ap (lock_holder s) z ∙ is) (ap (λ j. slice_index_or (set s.locks l (Some w)) j None) z ∙ index_here s.locks l None (Some w) (let c = k.locks in omega arith))
-        (lock_held_here s.seats w p (placed p (phase.Event e to)) at i ∙ (ap (took (on_way e to)) z ∙ has_l)))
-        (λ n. names_kept (lock_holder s i) (slice_index_or (set s.locks l (Some w)) i None) (λ v. holds s v i) (λ v. lock_held_by (slice_get (set s.seats w (placed p (phase.Event e to))) v) i) (k.agreement.locks i) (index_else s.locks l i None (Some w) n)
-        (held_same s.seats w p (placed p (phase.Event e to)) at i (rest i n))))
-        no_leaving (way_is e to needs)
-        (λ e' held now z. absurd (untimed held now (let y : to ≡ progress.Timed held now = cc in y)))
+    taken_on l low untimed has_l rest None is = take_keeps m orders s k w p at (on_way e to) (quiet_event e way here) same_item unfinished no_leaving (way_is e to needs) untimed l low has_l
+        (λ i n. rest i n ∙ sym (ap (λ f. took f i) here)) is
 
-    -- the worker reads on its way
-    pub read_on : ((i : ℕ) → took (on_way e to) i ≡ took p.phase i)
-        → ((e' : E) (held : HeldLocks) (now : ℕ) → on_way e to ≡ phase.Event e' (progress.Timed held now) → IsTimely m s w p held now)
+    -- the worker reads a word on its way
+    read_on : read_on_the_way to ≡ None → read_on_the_way way ≡ None → ((i : ℕ) → took (on_way e to) i ≡ took_on_the_way way i)
         → IsKeptState m orders record { locks = s.locks; words = s.words; ticket = s.ticket; now = s.now; values = s.values; seats = set s.seats w (placed p (phase.Event e to)); history = s.history }
-    read_on rest time = steps_on m orders s k w p at (phase.Event e to) s.locks k.locks (quiet_event e way here) (sym (ap standing_of_phase here)) (λ z. cc)
-        (λ i. names_kept (lock_holder s i) (lock_holder s i) (λ v. holds s v i) (λ v. lock_held_by (slice_get (set s.seats w (placed p (phase.Event e to))) v) i) (k.agreement.locks i) refl (held_same s.seats w p (placed p (phase.Event e to)) at i (rest i)))
-        no_leaving (way_is e to needs) time
+    read_on untimed none rest = read_keeps m orders s k w p at (on_way e to) (quiet_event e way here) same_item unfinished no_leaving (way_is e to needs) untimed
+        (λ i. rest i ∙ sym (ap (λ f. took f i) here)) (ap read_in here ∙ none)
 
-  -- the worker gives a lock back, and stays in its item
-  pub freed_on : (l : ℕ) (there : Phase E R) → p.pending ≡ None → standing_of_phase there ≡ standing_of_phase p.phase → there ≢ phase.Finished → took p.phase l ≡ true
-      → took there l ≡ false → ((i : ℕ) → i ≢ l → took there i ≡ took p.phase i)
-      → ((reply : R) (now : ℕ) (held : HeldLocks) → there ≡ phase.Leaving reply now held → AreInRisingOrder held)
-      → ((e : E) (way : Progress) → there ≡ phase.Event e way → HasWhatItNeeds m s e way)
-      → ((e : E) (held : HeldLocks) (now : ℕ) → there ≡ phase.Event e (progress.Timed held now) → ⊥)
-      → IsKeptState m orders record { locks = set s.locks l None; words = s.words; ticket = s.ticket; now = s.now; values = s.values; seats = set s.seats w (placed p there); history = s.history }
-  freed_on l there quiet course unfinished had gone rest apart way untimed = let had_l : holds s w l ≡ true = held_before s.seats w p (placed p there) at l ∙ had in
-      steps_on m orders s k w p at there (set s.locks l None) (length-set s.locks l None ∙ k.locks) quiet course unfinished
-      (λ i. dite (ℕ_discrete i l)
-      (λ z. names_freed (lock_holder s i) (slice_index_or (set s.locks l None) i None) (λ v. holds s v i) (λ v. lock_held_by (slice_get (set s.seats w (placed p there)) v) i) (k.agreement.locks i) w (held_else s.seats w p (placed p there) at i)
-      (ap (holds s w) z ∙ had_l) (ap (λ j. slice_index_or (set s.locks l None) j None) z ∙ index_here s.locks l None None (held_low s k.agreement.locks w l had_l))
-      (lock_held_here s.seats w p (placed p there) at i ∙ (ap (took there) z ∙ gone)))
-      (λ n. names_kept (lock_holder s i) (slice_index_or (set s.locks l None) i None) (λ v. holds s v i) (λ v. lock_held_by (slice_get (set s.seats w (placed p there)) v) i) (k.agreement.locks i) (index_else s.locks l i None None n)
-      (held_same s.seats w p (placed p there) at i (rest i n))))
-      apart way (λ e held now z. absurd (untimed e held now z))
+    -- the worker gives a lock back on its way
+    freed_on : (l : ℕ) → read_on_the_way to ≡ None → took_on_the_way way l ≡ true → took (on_way e to) l ≡ false → ((i : ℕ) → i ≢ l → took (on_way e to) i ≡ took_on_the_way way i)
+        → IsKeptState m orders record { locks = set s.locks l None; words = s.words; ticket = s.ticket; now = s.now; values = s.values; seats = set s.seats w (placed p (phase.Event e to)); history = s.history }
+    freed_on l untimed had gone rest = release_keeps m orders s k w p at (on_way e to) (quiet_event e way here) same_item unfinished no_leaving (way_is e to needs) untimed l
+        (ap (λ f. took f l) here ∙ had) gone (λ i n. rest i n ∙ sym (ap (λ f. took f i) here))
 
   module _ (laws : IsLawful m) (lists : AreOrders m orders) where
     -- an event on the way was asked for
@@ -140,16 +122,14 @@ module _ {H O G E R C : Type 0} (m : Means H O G E R C) (orders : ℕ → List C
     sought_declared e way t here needs = (laws.sound.seeks w (own_entries w s.history) (m.hand p.own) e t (asked e way here) needs).0
 
     first_kept : (e : E) (t : ℕ) → p.phase ≡ phase.Event e progress.Open → m.needs e ≡ lock_of t → (x : Word) → word_of s t ≡ x → IsKeptState m orders (first_read s w p e t x).1
-    first_kept e t here needs (Lock l) is = read_on e progress.Open (progress.Named t l) here (needs, word_low m orders s k t l (sought_declared e progress.Open t here needs) is)
-        (λ i. sym (ap (λ f. took f i) here)) (λ e' held now z. absurd (cc))
+    first_kept e t here needs (Lock l) is = read_on e progress.Open (progress.Named t l) here (needs, word_low m orders s k t l (sought_declared e progress.Open t here needs) is) refl refl (λ i. refl)
     first_kept e t here needs Blocked is = k
 
     open_kept : (e : E) → p.phase ≡ phase.Event e progress.Open → (n : Needs) → m.needs e ≡ n → IsKeptState m orders (open_event m s w p e n).1
-    open_kept e here (one a) is = taken_on e progress.Open (progress.Locked (One a)) here (subst (AreLocksFor m s.values (One a)) (sym is) refl) a (subst AreRising is (rises_at e progress.Open here)) (λ held now z. cc)
-        (among_this a) (λ i n. not_among_one a i n ∙ sym (ap (λ f. took f i) here)) (lock_holder s a) refl
+    open_kept e here (one a) is = taken_on e progress.Open (progress.Locked (One a)) here (subst (AreLocksFor m s.values (One a)) (sym is) refl) a (subst AreRising is (rises_at e progress.Open here)) refl
+        (among_this a) (not_among_one a) (lock_holder s a) refl
     open_kept e here (both a b) is = let low = subst AreRising is (rises_at e progress.Open here) in
-        taken_on e progress.Open (progress.Half a b) here is a (let x = low.0 in let y = low.1 in omega arith) (λ held now z. cc)
-        (among_this a) (λ i n. not_among_one a i n ∙ sym (ap (λ f. took f i) here)) (lock_holder s a) refl
+        taken_on e progress.Open (progress.Half a b) here is a (let x = low.0 in let y = low.1 in omega arith) refl (among_this a) (not_among_one a) (lock_holder s a) refl
     open_kept e here (lock_of t) is = first_kept e t here is (word_of s t) refl
 
     second_kept : (e : E) (t l : ℕ) → p.phase ≡ phase.Event e (progress.Taken t l) → (x : Word) → word_of s t ≡ x → (b : Bool) → is_named x l ≡ b
@@ -162,27 +142,21 @@ module _ {H O G E R C : Type 0} (m : Means H O G E R C) (orders : ℕ → List C
           seats = set s.seats w (placed p (phase.Event e (if b then progress.Locked (One l) else progress.Stale l)));
           history = s.history;
         }
-    second_kept e t l here x is true named = let needs = k.agreement.ways w p e (progress.Taken t l) at here in
+    second_kept e t l here x is true named = let needs = (k.agreement.workers w p at).way e (progress.Taken t l) here in
         let stood = tells_place m orders s k w t l (sought_declared e (progress.Taken t l) t here needs) (held_before s.seats w p p at l ∙ (ap (λ f. took f l) here ∙ among_this l)) (pending_before s.seats w p p at ∙ quiet_event e (progress.Taken t l) here) (is ∙ named_is x l named) in
-        read_on e (progress.Taken t l) (progress.Locked (One l)) here (subst (AreLocksFor m s.values (One l)) (sym needs) (l, refl, stood)) (λ i. sym (ap (λ f. took f i) here)) (λ e' held now z. absurd (cc))
-    second_kept e t l here x is false named = read_on e (progress.Taken t l) (progress.Stale l) here tt (λ i. sym (ap (λ f. took f i) here)) (λ e' held now z. absurd (cc))
+        read_on e (progress.Taken t l) (progress.Locked (One l)) here (subst (AreLocksFor m s.values (One l)) (sym needs) (l, refl, stood)) refl refl (λ i. refl)
+    second_kept e t l here x is false named = read_on e (progress.Taken t l) (progress.Stale l) here tt refl refl (λ i. refl)
 
     approach_kept : (e : E) (way : Progress) → p.phase ≡ phase.Event e way → IsKeptState m orders (approach m s w p e way).1
     approach_kept e progress.Open here = open_kept e here (m.needs e) refl
-    approach_kept e (progress.Named t l) here = let it = k.agreement.ways w p e (progress.Named t l) at here in
-        taken_on e (progress.Named t l) (progress.Taken t l) here it.0 l it.1 (λ held now z. cc) (among_this l) (λ i n. not_among_one l i n ∙ sym (ap (λ f. took f i) here)) (lock_holder s l) refl
+    approach_kept e (progress.Named t l) here = let it = (k.agreement.workers w p at).way e (progress.Named t l) here in
+        taken_on e (progress.Named t l) (progress.Taken t l) here it.0 l it.1 refl (among_this l) (not_among_one l) (lock_holder s l) refl
     approach_kept e (progress.Taken t l) here = second_kept e t l here (word_of s t) refl (is_named (word_of s t) l) refl
-    approach_kept e (progress.Stale l) here = freed_on l (phase.Event e progress.Open) (quiet_event e (progress.Stale l) here) (sym (ap standing_of_phase here)) (λ z. cc) (ap (λ f. took f l) here ∙ among_this l) refl
-        (λ i n. sym (ap (λ f. took f i) here ∙ not_among_one l i n)) (λ reply now held z. absurd (cc)) (way_is e progress.Open tt) (λ e' held now z. cc)
-    approach_kept e (progress.Half a b) here = let needs = k.agreement.ways w p e (progress.Half a b) at here in let low = subst AreRising needs (rises_at e (progress.Half a b) here) in
-        taken_on e (progress.Half a b) (progress.Locked (Two a b)) here (subst (AreLocksFor m s.values (Two a b)) (sym needs) refl) b low.1 (λ held now z. cc) (among_second a b)
-        (λ i n. only_first i a b n ∙ sym (ap (λ f. took f i) here)) (lock_holder s b) refl
-    approach_kept e (progress.Locked held) here = read_on e (progress.Locked held) (progress.Timed held s.now) here (k.agreement.ways w p e (progress.Locked held) at here) (λ i. sym (ap (λ f. took f i) here))
-        (λ e' other now z. let same : held ≡ other = cc in let n : s.now ≡ now = cc in subst₂ (IsTimely m s w p) same n record {
-          past = omega arith;
-          own = let a = k.agreement.now in let b = advanced_at (courses s) w (course_of_seat p) (seat_course_at s.seats w p p at) in omega arith;
-          no_earlier = record { begun = (let a = k.agreement.now in omega arith); after = λ j x is _. k.agreement.past j x is };
-        })
+    approach_kept e (progress.Stale l) here = freed_on e (progress.Stale l) progress.Open here tt l refl (among_this l) refl (λ i n. sym (not_among_one l i n))
+    approach_kept e (progress.Half a b) here = let needs = (k.agreement.workers w p at).way e (progress.Half a b) here in let low = subst AreRising needs (rises_at e (progress.Half a b) here) in
+        taken_on e (progress.Half a b) (progress.Locked (Two a b)) here (subst (AreLocksFor m s.values (Two a b)) (sym needs) refl) b low.1 refl (among_second a b) (λ i n. only_first i a b n) (lock_holder s b) refl
+    approach_kept e (progress.Locked held) here = read_now_keeps m orders s k w p at (phase.Event e (progress.Timed held s.now)) (quiet_event e (progress.Locked held) here) (sym (ap standing_of_phase here)) (λ z. cc)
+        (λ r n h z. absurd (cc)) (way_is e (progress.Timed held s.now) ((k.agreement.workers w p at).way e (progress.Locked held) here)) held refl (λ i. sym (ap (λ f. took f i) here)) (λ l a. ap (λ f. took f l) here ∙ a)
     approach_kept e (progress.Timed held now) here = by (effect_under m w e now (m.hand p.own) held s.values) refl where
       by : (o : Option (Acted H G R)) → effect_under m w e now (m.hand p.own) held s.values ≡ o → IsKeptState m orders (commit m s w p e held now o).1
       by None is = k
@@ -198,14 +172,14 @@ module _ {H O G E R C : Type 0} (m : Means H O G E R C) (orders : ℕ → List C
           seats = set s.seats w (placed p (phase.Leaving reply now (One a)));
           history = s.history;
         }
-    leave_two reply now a b here quiet = let apart : a < b = k.apart w p reply now (Two a b) at here in
-        freed_on b (phase.Leaving reply now (One a)) quiet (sym (ap standing_of_phase here)) (λ z. cc) (ap (λ f. took f b) here ∙ among_second a b) (not_among_one a b (λ z. omega arith))
-        (λ i n. sym (ap (λ f. took f i) here ∙ only_first i a b n)) (λ r n held z. let same : One a ≡ held = cc in subst AreInRisingOrder same tt) (λ e way z. absurd (cc)) (λ e held n z. cc)
+    leave_two reply now a b here quiet = let apart : a < b = (k.seats w p at).apart reply now (Two a b) here in
+        release_keeps m orders s k w p at (phase.Leaving reply now (One a)) quiet (sym (ap standing_of_phase here)) (λ z. cc) (λ r n held z. let same : One a ≡ held = cc in subst AreInRisingOrder same tt) (λ e way z. absurd (cc)) refl
+        b (ap (λ f. took f b) here ∙ among_second a b) (not_among_one a b (λ z. omega arith)) (λ i n. sym (ap (λ f. took f i) here ∙ only_first i a b n))
 
     leave_kept_all : (reply : R) (now : ℕ) (held : HeldLocks) → p.phase ≡ phase.Leaving reply now held → (o : Option WordChange) → p.pending ≡ o
         → IsKeptState m orders (leave m orders s w p reply now held o).1
-    leave_kept_all reply now held here (Some (Block t)) is = store_kept m orders laws.settled s k w p at (Block t) is
-    leave_kept_all reply now held here (Some (Point t l)) is = store_kept m orders laws.settled s k w p at (Point t l) is
+    leave_kept_all reply now held here (Some (Block t)) is = block_kept m orders s k w p at laws.settled.few t is
+    leave_kept_all reply now held here (Some (Point t l)) is = point_kept m orders s k w p at laws.settled.few t l is
     leave_kept_all reply now (One a) here None is = leave_kept m orders laws lists s k w p at a reply now here is
     leave_kept_all reply now (Two a b) here None is = leave_two reply now a b here is
 

@@ -37,17 +37,17 @@ module _ {G : Type 0} where
   values_under (One a) values = alone (slice_get values a)
   values_under (Two a b) values = with_first (slice_get values a) (slice_get values b)
 
-  -- laid: the values under all locks, with these under the locks that are held
-  abbrev pub laid : HeldLocks → List G → List G → List G
-  laid (One a) values [] = values
-  laid (One a) values (v ∷ vs) = slice_set values a v
-  laid (Two a b) values [] = values
-  laid (Two a b) values (v ∷ []) = values
-  laid (Two a b) values (v ∷ u ∷ us) = slice_set (slice_set values a v) b u
+  -- laid under: the values under all locks, with these under the locks that are held
+  abbrev pub laid_under : HeldLocks → List G → List G → List G
+  laid_under (One a) values [] = values
+  laid_under (One a) values (v ∷ vs) = slice_set values a v
+  laid_under (Two a b) values [] = values
+  laid_under (Two a b) values (v ∷ []) = values
+  laid_under (Two a b) values (v ∷ u ∷ us) = slice_set (slice_set values a v) b u
 
   -- effect on: an act on the values under these locks, as what it leaves of the values under all locks
   abbrev pub effect_on : {H R : Type 0} → HeldLocks → List G → Acted H G R → Acted H G R
-  effect_on held values acted = record { hand = acted.hand; values = laid held values acted.values; reply = acted.reply }
+  effect_on held values acted = record { hand = acted.hand; values = laid_under held values acted.values; reply = acted.reply }
 
 module _ {H O G E R C : Type 0} (m : Means H O G E R C) where
   -- effect of: what an event of a worker does at a time, with the worker's hand, to the values under its locks, of which there is no such effect where a value is missing
@@ -75,6 +75,10 @@ module _ {H O G E R C : Type 0} (m : Means H O G E R C) where
     pub reply : after.reply ≡ x.reply
 
 module _ {E R : Type 0} where
+  -- entry made: the entry that an event of the worker makes
+  abbrev pub entry_made : ℕ → E → HeldLocks → ℕ → R → Entry E R
+  entry_made w e held now reply = record { worker = w; locks = held; now = now; event = e; reply = reply }
+
   -- shares: an entry is of this worker, or under one of these locks
   abbrev pub Shares : ℕ → HeldLocks → Entry E R → Type 0
   Shares w held x = (x.worker ≡ w) ⊎ ((l : ℕ) × (is_lock_among held l ≡ true) × (is_lock_among x.locks l ≡ true))

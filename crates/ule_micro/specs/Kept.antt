@@ -16,15 +16,18 @@ use Rattle.ule_micro.specs.Turns.{turn_of_worker, take, release, at}
 use Rattle.ule_micro.specs.Theorem.{LockAgreement}
 
 module _ {H O G E R C : Type 0} (m : Means H O G E R C) (orders : ℕ → List C) where
+  -- is kept seat: a worker has its number, began commands of its list, and leaves two locks in falling order
+  pub record IsKeptSeat (w : ℕ) (p : Seat O E R) : Type 0 where
+    pub number : m.number p.own ≡ w
+    pub begun : p.begun ≤ length (orders w)
+    pub apart : (reply : R) (now : ℕ) (held : HeldLocks) → p.phase ≡ phase.Leaving reply now held → AreInRisingOrder held
+
   -- is kept state: what the state of a step model keeps, of which lock agreement is what callers see
   pub record IsKeptState (s : State O G E R) : Type 0 where
     pub locks : length s.locks ≡ LOCKS
     pub words : length s.words ≡ THREADS
-    pub values : length s.values ≡ LOCKS
     pub workers : length s.seats ≡ length m.owns
-    pub numbers : (w : ℕ) (p : Seat O E R) → slice_get s.seats w ≡ Some p → m.number p.own ≡ w
-    pub begun : (w : ℕ) (p : Seat O E R) → slice_get s.seats w ≡ Some p → p.begun ≤ length (orders w)
-    pub apart : (w : ℕ) (p : Seat O E R) (reply : R) (now : ℕ) (held : HeldLocks) → slice_get s.seats w ≡ Some p → p.phase ≡ phase.Leaving reply now held → AreInRisingOrder held
+    pub seats : (w : ℕ) (p : Seat O E R) → slice_get s.seats w ≡ Some p → IsKeptSeat w p
     pub agreement : LockAgreement m orders s
     pub play : LegalPlay m orders s.history s.values (courses s)
 

@@ -42,10 +42,10 @@ AreRising (lock_of t) = Unit {0}
 abbrev pub Leaves : Option WordChange → ℕ → Type 0
 Leaves change t = (c : WordChange) → change ≡ Some c → thread_of_change c ≢ t
 
--- total: the greatest number of items of these commands
-abbrev pub total : {C : Type 0} → (C → ℕ) → List C → ℕ
-total charge [] = 0
-total charge (c ∷ cs) = charge c + total charge cs
+-- total charge: the greatest number of items of these commands
+abbrev pub total_charge : {C : Type 0} → (C → ℕ) → List C → ℕ
+total_charge charge [] = 0
+total_charge charge (c ∷ cs) = charge c + total_charge charge cs
 
 module _ {H O G E R C : Type 0} (m : Means H O G E R C) where
   -- is empty: a hand has none of the threads
@@ -127,7 +127,7 @@ module _ {H O G E R C : Type 0} (m : Means H O G E R C) where
     -- an event that is performed where it may be is one item
     pub performs : (j : Journal E R C) (o : O) (x : Entry E R) (guarded : List G) → m.stands j o (has (Event x.event)) → x.worker ≡ m.number o
         → m.may x.worker x.event x.now (m.hand o) guarded → AreItsLocks x.locks guarded (m.needs x.event)
-        → x.reply ≡ (m.act x.worker x.event x.now (m.hand o) guarded).reply
+        → length guarded ≡ lock_count x.locks → x.reply ≡ (m.act x.worker x.event x.now (m.hand o) guarded).reply
         → m.stands (with_made x j) (m.with_hand o (m.act x.worker x.event x.now (m.hand o) guarded).hand) (asks (Some (x.reply, x.now)))
         × (m.left (m.with_hand o (m.act x.worker x.event x.now (m.hand o) guarded).hand) (asks (Some (x.reply, x.now))) + 1 ≤ m.left o (has (Event x.event)))
     -- between two commands the hand is empty
@@ -162,5 +162,5 @@ module _ {H O G E R C : Type 0} (m : Means H O G E R C) where
   -- are orders: lists of commands, each within its worker's budget, and valid one behind the other
   pub record AreOrders (orders : ℕ → List C) : Type 0 where
     pub few : (w : ℕ) → length (orders w) + 1 < 2 ^ 32
-    pub charged : (w : ℕ) → total (m.charge w) (orders w) ≤ m.budget w
+    pub charged : (w : ℕ) → total_charge (m.charge w) (orders w) ≤ m.budget w
     pub valid : (w : ℕ) → w < length m.owns → AreValid w [] (orders w)

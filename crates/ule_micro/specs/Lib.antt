@@ -4,6 +4,8 @@ pub mod Histories
 pub mod Courses
 pub mod Laws
 pub mod Agreement
+pub mod Shared
+pub mod SharedLaws
 pub mod States
 pub mod Turns
 pub mod Performing

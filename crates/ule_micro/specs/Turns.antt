@@ -1,6 +1,5 @@
 -- One turn of the step model, as a function of the state: each kind of step, and which one a worker makes next.
 use Rattle.std.specs.Prelude.{ℕ, ◌+◌, ◌==◌, Bool, false, List, [], ◌∷◌, drop, Option, Some, None, slice_get, slice_set, if◌then◌else◌}
-use Rattle.ule_micro.specs.declared.entry.Entry.{Entry}
 use Rattle.ule_micro.specs.declared.entry.HeldLocks.{HeldLocks}
 use Rattle.ule_micro.specs.declared.entry.HeldLocks.TheVariants.{One, Two}
 use Rattle.ule_micro.specs.declared.seat.Phase.{Phase}
@@ -19,7 +18,7 @@ use Rattle.ule_micro.specs.declared.word.WordChange.{WordChange}
 use Rattle.ule_micro.specs.declared.word.WordChange.TheVariants.{Block, Point}
 use Rattle.ule_micro.specs.Means.{Means, Needs, one, both, lock_of}
 use Rattle.ule_micro.specs.Standings.{Acted}
-use Rattle.ule_micro.specs.Histories.{effect_under}
+use Rattle.ule_micro.specs.Histories.{effect_under, entry_made}
 use Rattle.ule_micro.specs.States.{State, lock_holder, word_of}
 
 -- fetched: a worker's next item, or none at the end of its program, with its own part and the count of commands begun by then
@@ -111,10 +110,6 @@ module _ {H O G E R C : Type 0} (m : Means H O G E R C) where
   -- seated: a worker with its next item
   abbrev pub seated : Fetched O E → ℕ → ℕ → Seat O E R
   seated f items advanced = record { own = f.own; begun = f.begun; items = items; advanced = advanced; pending = None; phase = phase_with f.item }
-
-  -- entry made: the entry that an event of the worker makes
-  abbrev pub entry_made : ℕ → E → HeldLocks → ℕ → R → Entry E R
-  entry_made w e held now reply = record { worker = w; locks = held; now = now; event = e; reply = reply }
 
   -- seat leaving: a worker whose event had this effect
   abbrev pub seat_leaving : Seat O E R → E → HeldLocks → ℕ → Acted H G R → Seat O E R

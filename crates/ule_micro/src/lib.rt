@@ -4,6 +4,7 @@
 
 pub mod entry;
 mod going;
+pub mod laws;
 pub mod locks;
 pub mod micro;
 pub mod opening;

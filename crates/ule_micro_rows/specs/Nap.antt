@@ -1,5 +1,5 @@
 -- What the scheduler of one napping thread means.
-use Rattle.std.specs.Prelude.{◌≡◌, ℕ, ◌^◌, ◌<◌, ◌==◌, Bool, true, false, List, [], ◌∷◌, length, replicate, Option, Some, None, if◌then◌else◌}
+use Rattle.std.specs.Prelude.{◌≡◌, ℕ, ◌^◌, ◌<◌, ◌==◌, Bool, true, false, List, [], ◌∷◌, replicate, Option, Some, None, if◌then◌else◌}
 use Rattle.ule_micro.specs.declared.todo.Todo.{Todo}
 use Rattle.ule_micro.specs.declared.todo.Todo.TheVariants as todo
 use Rattle.ule_micro.specs.declared.word.WordChange.{WordChange}
@@ -82,11 +82,11 @@ change Land Came = Some (Point 0 0)
 abbrev pub nap_orders : ℕ → List Wish
 nap_orders w = (if w == 0 then Sleep ∷ Wait ∷ [] else Wake ∷ [])
 
--- greatest: the items of a command, at most
-abbrev pub greatest : Wish → ℕ
-greatest Sleep = 2
-greatest Wake = 2
-greatest Wait = 1
+-- greatest items: the items of a command, at most
+abbrev pub greatest_items : Wish → ℕ
+greatest_items Sleep = 2
+greatest_items Wake = 2
+greatest_items Wait = 1
 
 -- told left: the last event took the thread into the hand
 abbrev pub told_left : Option (Answer × ℕ) → Bool
@@ -123,18 +123,18 @@ full stage (has (todo.Event e)) = needs_hand e
 full stage (has (todo.Advance k)) = false
 full stage rests = false
 
--- most: the items that are still to come of the present command, at most
-abbrev pub most : Stage → Standing Act Answer → ℕ
-most Rested (asks told) = 0
-most (Begun order) (asks told) = greatest order
-most Dozed (asks told) = 1
-most Roused (asks told) = 1
-most stage (has (todo.Event Doze)) = 2
-most stage (has (todo.Event Bed)) = 1
-most stage (has (todo.Event Rouse)) = 2
-most stage (has (todo.Event Land)) = 1
-most stage (has (todo.Advance k)) = 1
-most stage rests = 0
+-- nap most: the items that are still to come of the present command, at most
+abbrev pub nap_most : Stage → Standing Act Answer → ℕ
+nap_most Rested (asks told) = 0
+nap_most (Begun order) (asks told) = greatest_items order
+nap_most Dozed (asks told) = 1
+nap_most Roused (asks told) = 1
+nap_most stage (has (todo.Event Doze)) = 2
+nap_most stage (has (todo.Event Bed)) = 1
+nap_most stage (has (todo.Event Rouse)) = 2
+nap_most stage (has (todo.Event Land)) = 1
+nap_most stage (has (todo.Advance k)) = 1
+nap_most stage rests = 0
 
 -- is stage behind: the stage is the one behind this item
 abbrev pub IsStageBehind : Stage → Standing Act Answer → Type 0
@@ -165,13 +165,13 @@ nap_means = record {
   with_hand = λ own hand. napper own.number own.stage hand;
   needs = nap_needs;
   asks = λ w mine hand e. hand ≡ needs_hand e;
-  may = λ w e now hand guarded. (hand ≡ needs_hand e) × (now < 2 ^ 36) × (length guarded ≡ 1);
+  may = λ w e now hand guarded. (hand ≡ needs_hand e) × (now < 2 ^ 36);
   act = λ w e now hand guarded. nap_act e hand guarded;
   change = change;
   valid = λ w given order. Unit {0};
-  charge = λ w order. greatest order;
+  charge = λ w order. greatest_items order;
   stands = λ j own standing. (own.hand ≡ full own.stage standing) × IsStageBehind own.stage standing;
-  left = λ own standing. most own.stage standing;
+  left = λ own standing. nap_most own.stage standing;
   begins = λ own order. Unit {0};
   begin = λ own order. napper own.number (Begun order) own.hand;
   goes_on = λ own told. Unit {0};

@@ -12,9 +12,7 @@ use Rattle.ule_micro.specs.declared.word.WordChange.{WordChange}
 use Rattle.ule_micro.specs.declared.word.WordChange.TheVariants.{Block, Point}
 use Rattle.ule_micro.specs.Standings.{asks, has, rests, standing_with}
 use Rattle.ule_micro.specs.Means.{lock_of, stands_under, thread_of_change}
-use Rattle.ule_micro.specs.Histories.{AreLocksFor}
-use Rattle.ule_micro.specs.Laws.{AreItsLocks, AreOrders, AreRising, AreValid, AsksSoundly, IsEmpty, IsLawful, KeepsHands, KeepsStanding, Moves, MovesLittle, ReadiesEvents, StartsSettled, StartsSmall, lock_count, total}
-use Rattle.ule_micro.proofs.Effects.{guarded_many}
+use Rattle.ule_micro.specs.Laws.{AreItsLocks, AreOrders, AreRising, AreValid, AsksSoundly, IsEmpty, IsLawful, KeepsHands, KeepsStanding, Moves, MovesLittle, ReadiesEvents, StartsSettled, StartsSmall, lock_count, total_charge}
 use Rattle.ule_micro_rows.specs.declared.nap.Act.{Act}
 use Rattle.ule_micro_rows.specs.declared.nap.Act.TheVariants.{Doze, Bed, Rouse, Land}
 use Rattle.ule_micro_rows.specs.declared.nap.Answer.{Answer}
@@ -26,7 +24,7 @@ use Rattle.ule_micro_rows.specs.declared.nap.Stage.{Stage}
 use Rattle.ule_micro_rows.specs.declared.nap.Stage.TheVariants.{Rested, Begun, Dozed, Roused}
 use Rattle.ule_micro_rows.specs.declared.nap.Wish.{Wish}
 use Rattle.ule_micro_rows.specs.declared.nap.Wish.TheVariants.{Sleep, Wake, Wait}
-use Rattle.ule_micro_rows.specs.Nap.{IsStageBehind, acted, carried_in, change, full, greatest, is_declared, most, nap_act, nap_item, nap_means, nap_needs, nap_orders, nap_stage_after, needs_hand, stands_in, told_left}
+use Rattle.ule_micro_rows.specs.Nap.{IsStageBehind, acted, carried_in, change, full, greatest_items, is_declared, nap_most, nap_act, nap_item, nap_means, nap_needs, nap_orders, nap_stage_after, needs_hand, stands_in, told_left}
 
 -- the one thread
 pub is_zero : (t : ℕ) → is_declared t ≡ true → t ≡ 0
@@ -148,11 +146,13 @@ moves Rouse h a Asleep hand its = leaves h a Asleep at_zero
 moves Land h a v hand its = comes h a 0 v Awake hand (lock_is a 0 its) at_zero
 
 moves_little : MovesLittle nap_means
-moves_little w e now h held [] may rise many its = absurd (let z = may.2 in omega arith)
-moves_little w e now h held (v ∷ []) may rise many its = let z = held_one e held (v ∷ []) its in
-    subst (λ k. Moves nap_means k h (v ∷ []) (change e (acted e h v).2) (acted e h v).0 ((acted e h v).1 ∷ [])) (sym z.1)
-    (moves e h z.0 v may.0 (subst (λ k. AreItsLocks nap_means k (v ∷ []) (nap_needs e)) z.1 its))
-moves_little w e now h held (v ∷ u ∷ us) may rise many its = absurd (let z = may.2 in omega arith)
+moves_little w e now h held guarded may rise many its = by guarded held (held_one e held guarded its) many its where
+  by : (vs : List Spot) (k : HeldLocks) → (a : ℕ) × (k ≡ One a) → length vs ≡ lock_count k → AreItsLocks nap_means k vs (nap_needs e)
+      → Moves nap_means k h vs (change e (nap_act e h vs).reply) (nap_act e h vs).hand (nap_act e h vs).values
+  by [] k z len lock = absurd (let y = ap lock_count z.1 in omega arith)
+  by (v ∷ []) k z len lock = subst (λ i. Moves nap_means i h (v ∷ []) (change e (acted e h v).2) (acted e h v).0 ((acted e h v).1 ∷ [])) (sym z.1)
+      (moves e h z.0 v may.0 (subst (λ i. AreItsLocks nap_means i (v ∷ []) (nap_needs e)) z.1 lock))
+  by (v ∷ u ∷ us) k z len lock = absurd (let y = ap lock_count z.1 in omega arith)
 
 keeps_hands : KeepsHands nap_means
 keeps_hands = record { put = λ o h. refl; put_own = λ o. refl; put_twice = λ o h k. refl; put_number = λ o h. refl; begin = λ o c. refl; begin_number = λ o c. refl; next = λ o told. refl; next_number = λ o told. refl }
@@ -198,17 +198,17 @@ behind_next Roused told = by (told_left told) where
   by true = refl
   by false = tt
 
-most_next : (stage : Stage) (told : Option (Answer × ℕ)) → most (nap_stage_after stage) (standing_with (nap_item stage told)) ≤ most stage (asks told)
+most_next : (stage : Stage) (told : Option (Answer × ℕ)) → nap_most (nap_stage_after stage) (standing_with (nap_item stage told)) ≤ nap_most stage (asks told)
 most_next Rested told = omega arith
 most_next (Begun Sleep) told = omega arith
 most_next (Begun Wake) told = omega arith
 most_next (Begun Wait) told = omega arith
 most_next Dozed told = by (told_left told) where
-  by : (b : Bool) → most Rested (standing_with (if b then Some (Event Bed) else None)) ≤ 1
+  by : (b : Bool) → nap_most Rested (standing_with (if b then Some (Event Bed) else None)) ≤ 1
   by true = omega arith
   by false = omega arith
 most_next Roused told = by (told_left told) where
-  by : (b : Bool) → most Rested (standing_with (if b then Some (Event Land) else None)) ≤ 1
+  by : (b : Bool) → nap_most Rested (standing_with (if b then Some (Event Land) else None)) ≤ 1
   by true = omega arith
   by false = omega arith
 
@@ -224,13 +224,13 @@ full_done Rouse stage h Awake now behind is = is ∙ ap (λ s. full s (asks (Som
 full_done Rouse stage h Asleep now behind is = ap (λ s. full s (asks (Some (Left, now)))) (sym behind)
 full_done Land stage h v now behind is = ap (λ s. full s (asks (Some (Came, now)))) (sym behind)
 
-most_done : (e : Act) (stage : Stage) (told : Option (Answer × ℕ)) → IsStageBehind stage (has (Event e)) → most stage (asks told) + 1 ≤ most stage (has (Event e))
-most_done Doze stage told behind = let d : most stage (asks told) ≡ 1 = ap (λ s. most s (asks told)) behind in omega arith
-most_done Bed stage told behind = let d : most stage (asks told) ≡ 0 = ap (λ s. most s (asks told)) behind in omega arith
-most_done Rouse stage told behind = let d : most stage (asks told) ≡ 1 = ap (λ s. most s (asks told)) behind in omega arith
-most_done Land stage told behind = let d : most stage (asks told) ≡ 0 = ap (λ s. most s (asks told)) behind in omega arith
+most_done : (e : Act) (stage : Stage) (told : Option (Answer × ℕ)) → IsStageBehind stage (has (Event e)) → nap_most stage (asks told) + 1 ≤ nap_most stage (has (Event e))
+most_done Doze stage told behind = let d : nap_most stage (asks told) ≡ 1 = ap (λ s. nap_most s (asks told)) behind in omega arith
+most_done Bed stage told behind = let d : nap_most stage (asks told) ≡ 0 = ap (λ s. nap_most s (asks told)) behind in omega arith
+most_done Rouse stage told behind = let d : nap_most stage (asks told) ≡ 1 = ap (λ s. nap_most s (asks told)) behind in omega arith
+most_done Land stage told behind = let d : nap_most stage (asks told) ≡ 0 = ap (λ s. nap_most s (asks told)) behind in omega arith
 
-opens : (w : ℕ) (o : Napper) → slice_get nap_means.owns w ≡ Some o → ((o.hand ≡ full o.stage rests) × Unit {0}) × (most o.stage rests ≡ 0)
+opens : (w : ℕ) (o : Napper) → slice_get nap_means.owns w ≡ Some o → ((o.hand ≡ full o.stage rests) × Unit {0}) × (nap_most o.stage rests ≡ 0)
 opens zero o e = ((ap (λ (x : Napper). x.hand) (sym (same_Some _ o e)), tt), refl)
 opens (suc zero) o e = ((ap (λ (x : Napper). x.hand) (sym (same_Some _ o e)), tt), refl)
 opens (suc (suc w)) o e = absurd (none-some o e)
@@ -248,35 +248,30 @@ keeps_standing = record {
   begins = λ j o c stands valid. (tt, (stands.0, tt), omega arith);
   goes_on = λ j o told stands. (tt, (stands.0 ∙ sym (full_next o.stage told), behind_next o.stage told), most_next o.stage told);
   advances = λ j o k stands. let five = stands.1.1 in let stage = stands.1.0 in
-      (omega arith, omega arith, (stands.0 ∙ ap (λ s. full s (asks None)) (sym stage), tt), let d : most o.stage (asks None) ≡ 0 = ap (λ s. most s (asks None)) stage in omega arith);
+      (omega arith, omega arith, (stands.0 ∙ ap (λ s. full s (asks None)) (sym stage), tt), let d : nap_most o.stage (asks None) ≡ 0 = ap (λ s. nap_most s (asks None)) stage in omega arith);
   asks_for = λ j o e stands. stands.0;
-  performs = λ j o x guarded stands who may its reply. ((performed o.stage o.hand x.event x.reply x.now guarded stands.0 stands.1 may.2 reply, tt), most_done x.event o.stage (Some (x.reply, x.now)) stands.1);
+  performs = λ j o x guarded stands who may its many reply. ((performed o.stage o.hand x.event x.reply x.now guarded stands.0 stands.1 (many ∙ ap lock_count (held_one x.event x.locks guarded its).1) reply, tt), most_done x.event o.stage (Some (x.reply, x.now)) stands.1);
   ends = λ j o stands. empty_hand o.hand stands.0;
 }
 
 readies : ReadiesEvents nap_means
-readies h y w e now hand held guarded leads at asked locks under early small = (asked, small, one_value e held locks (guarded_many held y.values guarded under)) where
-  one_value : (f : Act) (k : HeldLocks) → AreLocksFor nap_means y.values k (nap_needs f) → length guarded ≡ lock_count k → length guarded ≡ 1
-  one_value Doze k is many = many ∙ ap lock_count is
-  one_value Bed k is many = many ∙ ap lock_count is
-  one_value Rouse k is many = many ∙ ap lock_count is.1
-  one_value Land k is many = many ∙ ap lock_count is
+readies h y w e now hand held guarded leads at asked locks under early small = (asked, small)
 
 -- the laws of the napping thread
-pub lawful : IsLawful nap_means
-lawful = record { small = starts_small; settled = starts_settled; moves = moves_little; hands = keeps_hands; sound = asks_soundly; standing = keeps_standing; ready = readies }
+pub nap_lawful : IsLawful nap_means
+nap_lawful = record { small = starts_small; settled = starts_settled; moves = moves_little; hands = keeps_hands; sound = asks_soundly; standing = keeps_standing; ready = readies }
 
 all_valid : (w : ℕ) (given cs : List Wish) → AreValid nap_means w given cs
 all_valid w given [] = tt
 all_valid w given (c ∷ cs) = (tt, all_valid w (c ∷ given) cs)
 
-pub are_orders : AreOrders nap_means nap_orders
-are_orders = record { few = λ w. few (w == 0); charged = λ w. charged (w == 0); valid = λ w low. all_valid w [] (nap_orders w) }
+pub nap_orders_fit : AreOrders nap_means nap_orders
+nap_orders_fit = record { few = λ w. few (w == 0); charged = λ w. charged (w == 0); valid = λ w low. all_valid w [] (nap_orders w) }
   where
     few : (b : Bool) → length (if b then Sleep ∷ Wait ∷ [] else Wake ∷ []) + 1 < 2 ^ 32
     few true = omega arith
     few false = omega arith
 
-    charged : (b : Bool) → total greatest (if b then Sleep ∷ Wait ∷ [] else Wake ∷ []) ≤ (if b then 3 else 2)
+    charged : (b : Bool) → total_charge greatest_items (if b then Sleep ∷ Wait ∷ [] else Wake ∷ []) ≤ (if b then 3 else 2)
     charged true = omega arith
     charged false = omega arith

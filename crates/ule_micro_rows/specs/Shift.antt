@@ -74,12 +74,12 @@ IsPointBehind point (has (todo.Event e)) = (point ≡ Over) × AreRising (shift_
 IsPointBehind point (has (todo.Advance k)) = ⊥
 IsPointBehind point rests = Unit {0}
 
--- most: the items that are still to come of the present command, at most
-abbrev pub most : Point → Standing Move Place → ℕ
-most Over (asks told) = 0
-most (Ready e) (asks told) = 1
-most point (has x) = 1
-most point rests = 0
+-- shift most: the items that are still to come of the present command, at most
+abbrev pub shift_most : Point → Standing Move Place → ℕ
+shift_most Over (asks told) = 0
+shift_most (Ready e) (asks told) = 1
+shift_most point (has x) = 1
+shift_most point rests = 0
 
 -- shift means: one thread that is shifted, by events some of which name queues that there are not
 abbrev pub shift_means : Means Bool Mover Bool Move Place Move
@@ -102,7 +102,7 @@ shift_means = record {
   valid = λ w given order. AreRising (shift_needs order);
   charge = λ w order. 1;
   stands = λ j own standing. (own.hand ≡ false) × IsPointBehind own.point standing;
-  left = λ own standing. most own.point standing;
+  left = λ own standing. shift_most own.point standing;
   begins = λ own order. Unit {0};
   begin = λ own order. mover own.number (Ready order) own.hand;
   goes_on = λ own told. Unit {0};

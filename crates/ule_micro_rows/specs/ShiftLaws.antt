@@ -14,7 +14,7 @@ use Rattle.ule_micro.specs.declared.word.WordChange.TheVariants as change
 use Rattle.ule_micro.specs.Standings.{asks, rests, standing_with}
 use Rattle.ule_micro.specs.Means.{lock_of, stands_under, thread_of_change}
 use Rattle.ule_micro.specs.Histories.{is_lock_among}
-use Rattle.ule_micro.specs.Laws.{AreOrders, AreRising, AreValid, AsksSoundly, IsLawful, KeepsHands, KeepsStanding, Moves, MovesLittle, ReadiesEvents, StartsSettled, StartsSmall, lock_count, total}
+use Rattle.ule_micro.specs.Laws.{AreOrders, AreRising, AreValid, AsksSoundly, IsLawful, KeepsHands, KeepsStanding, Moves, MovesLittle, ReadiesEvents, StartsSettled, StartsSmall, lock_count, total_charge}
 use Rattle.ule_micro.proofs.Among.{among_first, among_second}
 use Rattle.ule_micro_rows.specs.declared.shift.Move.{Move}
 use Rattle.ule_micro_rows.specs.declared.shift.Move.TheVariants.{Shift, Look}
@@ -23,7 +23,7 @@ use Rattle.ule_micro_rows.specs.declared.shift.Place.TheVariants.{Same}
 use Rattle.ule_micro_rows.specs.declared.shift.Point.{Point}
 use Rattle.ule_micro_rows.specs.declared.shift.Point.TheVariants.{Over, Ready}
 use Rattle.ule_micro_rows.specs.declared.shift.Mover.{Mover}
-use Rattle.ule_micro_rows.specs.Shift.{IsPointBehind, again, is_here, most, shift_act, shift_item, shift_means, shift_needs, shift_orders, shifted, word_change}
+use Rattle.ule_micro_rows.specs.Shift.{IsPointBehind, again, is_here, shift_most, shift_act, shift_item, shift_means, shift_needs, shift_orders, shifted, word_change}
 
 -- the one thread
 is_zero : (t : ℕ) → shift_means.declared t ≡ true → t ≡ 0
@@ -159,7 +159,7 @@ hand_stays h (true ∷ u ∷ us) = refl
 hand_stays h (false ∷ true ∷ us) = refl
 hand_stays h (false ∷ false ∷ us) = refl
 
-opens : (w : ℕ) (o : Mover) → slice_get shift_means.owns w ≡ Some o → ((o.hand ≡ false) × Unit {0}) × (most o.point rests ≡ 0)
+opens : (w : ℕ) (o : Mover) → slice_get shift_means.owns w ≡ Some o → ((o.hand ≡ false) × Unit {0}) × (shift_most o.point rests ≡ 0)
 opens zero o e = ((ap (λ (x : Mover). x.hand) (sym (same_Some _ o e)), tt), refl)
 opens (suc zero) o e = ((ap (λ (x : Mover). x.hand) (sym (same_Some _ o e)), tt), refl)
 opens (suc (suc w)) o e = absurd (none-some o e)
@@ -168,7 +168,7 @@ behind_next : (point : Point) (told : Option (Place × ℕ)) → IsPointBehind p
 behind_next Over told behind = tt
 behind_next (Ready e) told behind = (refl, behind)
 
-most_next : (point : Point) (told : Option (Place × ℕ)) → most Over (standing_with (shift_item point)) ≤ most point (asks told)
+most_next : (point : Point) (told : Option (Place × ℕ)) → shift_most Over (standing_with (shift_item point)) ≤ shift_most point (asks told)
 most_next Over told = omega arith
 most_next (Ready e) told = omega arith
 
@@ -182,8 +182,8 @@ keeps_standing = record {
   goes_on = λ j o told stands. (tt, (stands.0, behind_next o.point told stands.1), most_next o.point told);
   advances = λ j o k stands. absurd stands.1;
   asks_for = λ j o e stands. (stands.0, stands.1.1);
-  performs = λ j o x guarded stands who may its reply. let told = Some (x.reply, x.now) in
-      ((hand_stays o.hand guarded ∙ stands.0, behind_event o.point told stands.1.0), let z : most o.point (asks told) ≡ 0 = ap (λ p. most p (asks told)) stands.1.0 in omega arith);
+  performs = λ j o x guarded stands who may its many reply. let told = Some (x.reply, x.now) in
+      ((hand_stays o.hand guarded ∙ stands.0, behind_event o.point told stands.1.0), let z : shift_most o.point (asks told) ≡ 0 = ap (λ p. shift_most p (asks told)) stands.1.0 in omega arith);
   ends = λ j o stands t d. no_lock t o.hand stands.0;
 }
 
@@ -191,10 +191,10 @@ readies : ReadiesEvents shift_means
 readies h y w e now hand held guarded leads at asked locks under early small = (asked.0, small, asked.1)
 
 -- the laws of the shifting thread
-pub lawful : IsLawful shift_means
-lawful = record { small = starts_small; settled = starts_settled; moves = moves_little; hands = keeps_hands; sound = asks_soundly; standing = keeps_standing; ready = readies }
+pub shift_lawful : IsLawful shift_means
+shift_lawful = record { small = starts_small; settled = starts_settled; moves = moves_little; hands = keeps_hands; sound = asks_soundly; standing = keeps_standing; ready = readies }
 
-total_one : (cs : List Move) → total (λ c. 1) cs ≡ length cs
+total_one : (cs : List Move) → total_charge (λ c. 1) cs ≡ length cs
 total_one [] = refl
 total_one (c ∷ cs) = let a = total_one cs in omega arith
 
@@ -205,14 +205,14 @@ again_valid w given e rise = by 512 given where
   by zero before = tt
   by (suc n) before = (rise, by n (e ∷ before))
 
-pub are_orders : AreOrders shift_means shift_orders
-are_orders = record { few = λ w. few (w == 0); charged = λ w. charged (w == 0); valid = λ w low. valid w (w == 0) }
+pub shift_orders_fit : AreOrders shift_means shift_orders
+shift_orders_fit = record { few = λ w. few (w == 0); charged = λ w. charged (w == 0); valid = λ w low. valid w (w == 0) }
   where
     few : (b : Bool) → length (if b then again (Shift 0 1) else Look ∷ Shift 0 1 ∷ again Look) + 1 < 2 ^ 32
     few true = let l = again_length (Shift 0 1) in omega arith
     few false = let l = again_length Look in omega arith
 
-    charged : (b : Bool) → total (λ c. 1) (if b then again (Shift 0 1) else Look ∷ Shift 0 1 ∷ again Look) ≤ (if b then 512 else 514)
+    charged : (b : Bool) → total_charge (λ c. 1) (if b then again (Shift 0 1) else Look ∷ Shift 0 1 ∷ again Look) ≤ (if b then 512 else 514)
     charged true = let l = again_length (Shift 0 1) in let t = total_one (again (Shift 0 1)) in omega arith
     charged false = let l = again_length Look in let t = total_one (again Look) in omega arith
 

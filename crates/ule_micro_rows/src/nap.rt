@@ -119,7 +119,7 @@ impl Parts for Nap {
     type Own = Napper;
 
     ghost use Rattle.ule_micro_rows.specs.Nap.{nap_means, nap_orders};
-    ghost use Rattle.ule_micro_rows.specs.NapLaws.{are_orders, lawful, same_hand};
+    ghost use Rattle.ule_micro_rows.specs.NapLaws.{nap_lawful, nap_orders_fit, same_hand};
 
     ghost means = { λ _. nap_means };
 
@@ -220,9 +220,9 @@ impl Parts for Nap {
 
     ghost same_hand = { λ _. same_hand };
 
-    ghost lawful = { λ _. lawful };
+    ghost lawful = { λ _. nap_lawful };
 
-    ghost are_orders = { λ _. are_orders };
+    ghost are_orders = { λ _. nap_orders_fit };
 }
 
 /// The hand, what stands under the lock, and the answer, after an event.

@@ -89,7 +89,7 @@ impl Parts for Shifts {
     type Own = Mover;
 
     ghost use Rattle.ule_micro_rows.specs.Shift.{shift_means, shift_orders};
-    ghost use Rattle.ule_micro_rows.specs.ShiftLaws.{are_orders, lawful, same_hand};
+    ghost use Rattle.ule_micro_rows.specs.ShiftLaws.{shift_lawful, shift_orders_fit, same_hand};
 
     ghost means = { λ _. shift_means };
 
@@ -195,9 +195,9 @@ impl Parts for Shifts {
 
     ghost same_hand = { λ _. same_hand };
 
-    ghost lawful = { λ _. lawful };
+    ghost lawful = { λ _. shift_lawful };
 
-    ghost are_orders = { λ _. are_orders };
+    ghost are_orders = { λ _. shift_orders_fit };
 }
 
 /// The k-th command of a list, from 1, in which a move stands again and again.

@@ -1,14 +1,7 @@
 use Rattle.std.proofs.Common.{◌<◌, sym, subst, arith}
-use Rattle.ule_micro.proofs.Refines.{keeps_by, turned_by, stands_inside, raised_turned, in_range, begun_low, raise_goes, raise_calm, raise_small, now_small}
+use Rattle.ule_micro.proofs.Refines.{keeps_turned, turned_by, stands_inside, raised_turned, in_range, begun_low, raise_goes, raise_calm, raise_small, now_small}
 use Rattle.ule_micro.proofs.Lists.{there}
 use Rattle.ule_micro.proofs.micro.Micro.raise.Goals as goal
-
-pub invariant_of-self : goal.invariant_of-self
-invariant_of-self g c = let laws = g.met.P.Parts in (
-  keeps_by g.P.Parts.means g.P.Parts.orders c.self.inside.parts _ laws.lawful laws.are_orders c.args.worker _ c.self.invariant.0
-      (raised_turned g.P.Parts.means g.P.Parts.orders c.self.inside.parts _ c.args.worker c.index_mut-seat.result.now c.index_mut-seat.ensures.value c.args.k c.go_on.new.seat (stands_inside g.P.Parts.means g.P.Parts.orders c.self.inside.parts _ c.args.self.now c.self.view_is c.args.worker _ c.requires.at) c.go_on.ensures),
-  c.self.invariant.1,
-)
 
 pub returns : goal.returns
 returns g c = turned_by g.P.Parts.means g.P.Parts.orders c.self.inside.parts _ c.args.self.now c.self.view_is c.args.worker _
@@ -38,3 +31,9 @@ go_on-requires-clause-goes_on g c = let laws = g.met.P.Parts in raise_goes g.P.P
 
 pub go_on-requires-clause-calm : goal.go_on-requires-clause-calm
 go_on-requires-clause-calm g c = let laws = g.met.P.Parts in raise_calm g.P.Parts.means g.P.Parts.orders c.self.inside.parts _ laws.lawful laws.are_orders c.self.invariant.0 c.args.worker c.index_mut-seat.result.now c.index_mut-seat.ensures.value c.args.k (stands_inside g.P.Parts.means g.P.Parts.orders c.self.inside.parts _ c.args.self.now c.self.view_is c.args.worker _ c.requires.at)
+
+pub invariant_of-self : goal.invariant_of-self
+invariant_of-self g c = let laws = g.met.P.Parts in (
+  keeps_turned g.P.Parts.means g.P.Parts.orders c.self.inside.parts _ c.args.self.now c.self.view_is laws.lawful laws.are_orders c.args.worker _ _ c.self.invariant.0 (returns g c),
+  c.self.invariant.1,
+)
