@@ -11,13 +11,13 @@ use Rattle.ule_model.specs.WorldValue.{if_thread}
 use Rattle.ule_micro.specs.Means.{lock_of}
 use Rattle.ule_micro.specs.Laws.{AreRising, AsksSoundly, KeepsHands}
 use Rattle.ule_parts.specs.Acts.{needs_of}
-use Rattle.ule_parts.specs.Workers.{HandFits, Worker, ids}
+use Rattle.ule_parts.specs.Workers.{HandFits, Worker, declared_ids_of}
 use Rattle.ule_parts.specs.Scheduler.{sched_means}
 use Rattle.ule_parts.proofs.Locks.{seeker_empty}
 
 module _ (s : Setup) (few : s.cpus ≤ 16) where
   -- the locks rise, those of two CPUs too
-  pub rises : (k : Locking) → IsTrue (are_cpus s.cpus k) → AreRising (needs_of k)
+  rises : (k : Locking) → IsTrue (are_cpus s.cpus k) → AreRising (needs_of k)
   rises (queue c) names = let z = ltb-true c s.cpus names in omega arith
   rises (queues a b) names =
       let first = and_parts (nat_lt a s.cpus) (nat_lt b s.cpus && not (a == b)) names in
@@ -40,7 +40,7 @@ module _ (s : Setup) (few : s.cpus ≤ 16) where
   asks_soundly = record {
     rising = λ w mine h e asked. rises (locking e) asked.names.0;
     seeks = λ w mine h e t asked needs. let k = seeks_in (locking e) t needs in (
-      subst (λ i. IfSome (sought_in i) (λ u. is_among (ids s) u ≡ true)) k asked.names.1,
+      subst (λ i. IfSome (sought_in i) (λ u. is_among (declared_ids_of s) u ≡ true)) k asked.names.1,
       λ u dec. ap (λ (o : Option ThreadRecord). is_some (if_thread u o)) (subst (HandFits s w mine h) (seeker_empty e t k) asked.fits),
     );
   }

@@ -17,7 +17,7 @@ use Rattle.ule_micro.specs.Courses.{LegalPlay, WorkerCourse, all_advanced}
 use Rattle.ule_micro.specs.Laws.{AreOrders}
 use Rattle.ule_micro.proofs.Lists.{drop_none, something}
 use Rattle.ule_micro.proofs.Numbers.{play_counted}
-use Rattle.ule_parts.specs.Histories.{HistoriesAreOfWorlds, IsHistoryOfWorlds, in_order}
+use Rattle.ule_parts.specs.Histories.{HistoriesAreOfWorlds, IsHistoryOfWorlds, entries_in_order}
 use Rattle.ule_parts.specs.Plays.{AreAtTheirEnds, IsPlayedLegally, PlaysAreLegal, list_of, values_and_hands_of}
 use Rattle.ule_parts.specs.Scheduler.{sched_means}
 use Rattle.ule_parts.specs.Workers.{Worker}
@@ -45,7 +45,7 @@ module _ (s : Setup) (form : IsOfForm s) (lists : List (List Command)) (orders :
   timed : IsTimed s lists h cs
   timed = play_timed s lists legal
 
-  worlds : IsHistoryOfWorlds s (in_order h) (values_and_hands_of vs cs)
+  worlds : IsHistoryOfWorlds s (entries_in_order h) (values_and_hands_of vs cs)
   worlds = histories_are_of_worlds s h (values_and_hands_of vs cs) form (play_leads (sched_means s) (list_of lists) (is_lawful s form) orders legal)
 
   -- each worker of the setup has a course
@@ -59,7 +59,7 @@ module _ (s : Setup) (form : IsOfForm s) (lists : List (List Command)) (orders :
   advanced_within : (w : ℕ) (c : WorkerCourse Worker Event Reply) → slice_get cs w ≡ Some c → c.advanced ≤ amount_in (list_of lists w)
   advanced_within w c at = let z = performs_time (timed.courses w c at).performs in let start : time_of (opening_of s lists w) ≡ amount_in (list_of lists w) = omega arith in omega arith
 
-  is_legal : IsLegal s lists (in_order h)
+  is_legal : IsLegal s lists (entries_in_order h)
   is_legal = record {
     timed = timed.timed;
     entries = timed.entries;
@@ -78,7 +78,7 @@ module _ (s : Setup) (form : IsOfForm s) (lists : List (List Command)) (orders :
   finished : AreAtTheirEnds lists cs → (w : ℕ) (c : WorkerCourse Worker Event Reply) → slice_get cs w ≡ Some c → (k : IsCourseOf s lists timed.timed w c) → next_step k.course ≡ None
   finished ends w c at k = let end = ends w c at in k.next ∙ (ap (next_at (drop c.begun (list_of lists w)) c.own.program) end.0 ∙ ap (λ script. next_of_rest script c.own.program) (drop_none (list_of lists w) c.begun end.1))
 
-  pub played_legally : IsPlayedLegally s lists h vs cs
+  played_legally : IsPlayedLegally s lists h vs cs
   unfolding begins
   played_legally = record {
     legal = is_legal;

@@ -118,7 +118,7 @@ module _ (v : WorldValue) (x : World) (worker : ℕ) (hand : Option ThreadRecord
   hand_some t = ap (λ (o : Option ThreadRecord). is_some o) (here t) ∙ mapped (thread_in_hand worker t x.members)
 
   -- an empty hand is empty in the world
-  pub empty_in_world : hand ≡ None → HasEmptyHand x worker
+  empty_in_world : hand ≡ None → HasEmptyHand x worker
   empty_in_world none t held = true≢false (sym (held_in_hand worker t x.members held) ∙ (sym (hand_some t) ∙ ap (λ (h : Option ThreadRecord). is_some (if_thread t h)) none))
 
   -- the hand that an event needs is as it needs it in the world

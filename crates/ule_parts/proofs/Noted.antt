@@ -38,7 +38,7 @@ pub record IsBehind (h : List (Entry Event Reply)) (p : Place) (now : ℕ) : Typ
 abbrev pub IsNoted : List (Entry Event Reply) → Member → Type 0
 IsNoted h m = (now : ℕ) → IsBehind h m.place now → IsBy now m.thread
 
-pub by_later : (now later : ℕ) (r : Rattle.ule_score.specs.declared.record.ThreadRecord.ThreadRecord) → now ≤ later → IsBy now r → IsBy later r
+by_later : (now later : ℕ) (r : Rattle.ule_score.specs.declared.record.ThreadRecord.ThreadRecord) → now ≤ later → IsBy now r → IsBy later r
 by_later now later r past is = record { ltick = omega (arith, is.ltick); slept_at = omega (arith, is.slept_at); last_run = omega (arith, is.last_run) }
 
 -- at the start
@@ -53,7 +53,7 @@ reached_place w worker e l p locks here = ⊎_elim
     (or_cases (list_any (λ k. is_under k p) (l ∷ [])) (is_hand_of worker p) (ap (λ (ls : List ℕ). list_any (λ k. is_under k p) ls || is_hand_of worker p) (sym locks) ∙ here))
 
 -- a time that the rules of time allow for the event is behind the entries over each place that the event reaches
-pub behind_shared : (h : List (Entry Event Reply)) (w : World) (worker : ℕ) (e : Event) (l now : ℕ) (p : Place) → locks_of w e ≡ l ∷ [] → is_reached w worker e p ≡ true
+behind_shared : (h : List (Entry Event Reply)) (w : World) (worker : ℕ) (e : Event) (l now : ℕ) (p : Place) → locks_of w e ≡ l ∷ [] → is_reached w worker e p ≡ true
     → IsNoEarlierThanShared h worker (One l) now → IsBehind h p now
 behind_shared h w worker e l now p locks here rules = record { begun = rules.begun; after = λ i x at over. rules.after i x at (shares x over (reached_place w worker e l p locks here)) }
   where
@@ -64,7 +64,7 @@ behind_shared h w worker e l now p locks here rules = record { begun = rules.beg
     shares x (inr own) (inr held) = inl (same_Some x.worker worker (sym own ∙ held))
 
 -- what follows for each thread that is left, or reached before and after, follows for each of the list
-pub touched_both : (w : World) (worker : ℕ) (e : Event) (now : ℕ) (P Q : Member → Type 0) → ((m : Member) → P m → Q m)
+touched_both : (w : World) (worker : ℕ) (e : Event) (now : ℕ) (P Q : Member → Type 0) → ((m : Member) → P m → Q m)
     → ((m n : Member) → is_reached w worker e m.place ≡ true → is_reached w worker e n.place ≡ true → ComesTo w now m.thread n.thread → P m → Q n)
     → (ms ns : List Member) → AreTouched w worker e now ms ns → AllByRecursion P ms → AllByRecursion Q ns
 touched_both w worker e now P Q stay pass [] [] touched all = tt

@@ -13,9 +13,9 @@ use Rattle.ule_types.proofs.Repeats.{among_back, among_front, distinct_apart, di
 use Rattle.ule_members.proofs.Setups.{HasScripts, setup_scripts}
 use Rattle.ule_members.proofs.Unborn.{setup_forks}
 use Rattle.ule_micro.specs.Means.{budgets}
-use Rattle.ule_micro.specs.Laws.{AreOrders, AreValid, total}
+use Rattle.ule_micro.specs.Laws.{AreOrders, AreValid, total_charge}
 use Rattle.ule_parts.specs.Laws.{AreCommandLists, ScriptsAreOrders}
-use Rattle.ule_parts.specs.Workers.{forked_in, forks_of, ids, owns_from}
+use Rattle.ule_parts.specs.Workers.{threads_forked, forks_of, declared_ids_of, owns_from}
 use Rattle.ule_parts.specs.Scheduler.{budget_of, orders_of, sched_means}
 use Rattle.ule_parts.proofs.Standing.{among_cases}
 
@@ -36,11 +36,11 @@ one_charged worker cpus Idle some = omega arith
 one_charged worker cpus Balance some = omega arith
 one_charged worker cpus (Look c) some = omega arith
 
-as_many_charged : (worker cpus : ℕ) (cs : List Command) → 1 ≤ cpus → length cs ≤ total (λ c. greatest_of c worker cpus) cs
+as_many_charged : (worker cpus : ℕ) (cs : List Command) → 1 ≤ cpus → length cs ≤ total_charge (λ c. greatest_of c worker cpus) cs
 as_many_charged worker cpus [] some = omega arith
 as_many_charged worker cpus (c ∷ cs) some = let a = one_charged worker cpus c some in let b = as_many_charged worker cpus cs some in omega arith
 
-total_is : (worker cpus : ℕ) (cs : List Command) → total (λ c. greatest_of c worker cpus) cs ≡ sum (map (λ c. greatest_of c worker cpus) cs)
+total_is : (worker cpus : ℕ) (cs : List Command) → total_charge (λ c. greatest_of c worker cpus) cs ≡ sum (map (λ c. greatest_of c worker cpus) cs)
 total_is worker cpus [] = refl
 total_is worker cpus (c ∷ cs) = let a = total_is worker cpus cs in let b : sum (map (λ c. greatest_of c worker cpus) (c ∷ cs)) ≡ greatest_of c worker cpus + sum (map (λ c. greatest_of c worker cpus) cs) =
     sum-map (λ c. greatest_of c worker cpus) (c ∷ cs) ∙ (sum_by-cons (λ c. greatest_of c worker cpus) c cs ∙ ap (λ i. greatest_of c worker cpus + i) (sym (sum-map (λ c. greatest_of c worker cpus) cs))) in omega arith
@@ -51,41 +51,41 @@ budgets_front b zero = omega arith
 budgets_front b (suc n) = let z = budgets_front b n in omega arith
 
 -- the budgets of the workers are within that of the scripts
-within_budget : (cpus k m : ℕ) (scripts : List (List Command)) → budgets (λ i. total (λ c. greatest_of c (k + i) cpus) (slice_index_or scripts i [])) m ≤ budget_from k cpus scripts
+within_budget : (cpus k m : ℕ) (scripts : List (List Command)) → budgets (λ i. total_charge (λ c. greatest_of c (k + i) cpus) (slice_index_or scripts i [])) m ≤ budget_from k cpus scripts
 within_budget cpus k zero scripts = omega arith
 within_budget cpus k (suc m) [] = none (suc m)
   where
-    none : (j : ℕ) → budgets (λ i. total (λ c. greatest_of c (k + i) cpus) (slice_index_or [] i [])) j ≤ 0
+    none : (j : ℕ) → budgets (λ i. total_charge (λ c. greatest_of c (k + i) cpus) (slice_index_or [] i [])) j ≤ 0
     none zero = omega arith
     none (suc j) = let a = none j in omega arith
-within_budget cpus k (suc m) (script ∷ scripts) = let first = budgets_front (λ i. total (λ c. greatest_of c (k + i) cpus) (slice_index_or (script ∷ scripts) i [])) m in
+within_budget cpus k (suc m) (script ∷ scripts) = let first = budgets_front (λ i. total_charge (λ c. greatest_of c (k + i) cpus) (slice_index_or (script ∷ scripts) i [])) m in
     let z : k + 0 ≡ k = omega arith in
-    let one : total (λ c. greatest_of c (k + 0) cpus) script ≡ sum (map (λ c. greatest_of c k cpus) script) = ap (λ j. total (λ c. greatest_of c j cpus) script) z ∙ total_is k cpus script in
+    let one : total_charge (λ c. greatest_of c (k + 0) cpus) script ≡ sum (map (λ c. greatest_of c k cpus) script) = ap (λ j. total_charge (λ c. greatest_of c j cpus) script) z ∙ total_is k cpus script in
     let rest = within_budget cpus (k + 1) m scripts in
-    let same : budgets (λ i. total (λ c. greatest_of c (k + suc i) cpus) (slice_index_or scripts i [])) m ≡ budgets (λ i. total (λ c. greatest_of c (k + 1 + i) cpus) (slice_index_or scripts i [])) m =
-    (λ j. budgets (λ i. total (λ c. greatest_of c (shift k i j) cpus) (slice_index_or scripts i [])) m) in omega arith
+    let same : budgets (λ i. total_charge (λ c. greatest_of c (k + suc i) cpus) (slice_index_or scripts i [])) m ≡ budgets (λ i. total_charge (λ c. greatest_of c (k + 1 + i) cpus) (slice_index_or scripts i [])) m =
+    (λ j. budgets (λ i. total_charge (λ c. greatest_of c (shift k i j) cpus) (slice_index_or scripts i [])) m) in omega arith
   where
     shift : (k i : ℕ) → k + suc i ≡ k + 1 + i
     shift k i = omega arith
 
 -- valid commands that fork no thread twice are valid one behind the other
-valid_from : (s : Setup) (w : ℕ) (given cs : List Command) → list_all (is_command (ids s) s.cpus) cs ≡ true → ((t : ℕ) → is_among (forked_in cs) t ≡ true → is_among (forks_of s w) t ≡ true)
-    → is_distinct (forked_in cs) ≡ true → ((t : ℕ) → is_among (forked_in given) t ≡ true → is_among (forked_in cs) t ≡ false)
+valid_from : (s : Setup) (w : ℕ) (given cs : List Command) → list_all (is_command (declared_ids_of s) s.cpus) cs ≡ true → ((t : ℕ) → is_among (threads_forked cs) t ≡ true → is_among (forks_of s w) t ≡ true)
+    → is_distinct (threads_forked cs) ≡ true → ((t : ℕ) → is_among (threads_forked given) t ≡ true → is_among (threads_forked cs) t ≡ false)
     → AreValid (sched_means s) w given cs
 valid_from s w given [] valid forks distinct apart = tt
 valid_from s w given (c ∷ cs) valid forks distinct apart =
-    let both = and_parts (is_command (ids s) s.cpus c) (list_all (is_command (ids s) s.cpus) cs) valid in (
+    let both = and_parts (is_command (declared_ids_of s) s.cpus c) (list_all (is_command (declared_ids_of s) s.cpus) cs) valid in (
       record {
         command = both.0;
         forks = λ t among. (
-          forks t (among_front (forked_by c) (forked_in cs) t among),
-          false_from_ne_true (is_among (forked_in given) t) (λ before. both_ways (is_among (forked_in (c ∷ cs)) t) (apart t before) (among_front (forked_by c) (forked_in cs) t among)),
+          forks t (among_front (forked_by c) (threads_forked cs) t among),
+          false_from_ne_true (is_among (threads_forked given) t) (λ before. both_ways (is_among (threads_forked (c ∷ cs)) t) (apart t before) (among_front (forked_by c) (threads_forked cs) t among)),
         );
       },
-      valid_from s w (c ∷ given) cs both.1 (λ t among. forks t (among_back (forked_by c) (forked_in cs) t among)) (distinct_back (forked_by c) (forked_in cs) distinct)
-          (λ t among. false_from_ne_true (is_among (forked_in cs) t) (λ later. ⊎_elim (λ (here : is_among (forked_by c) t ≡ true). distinct_apart (forked_by c) (forked_in cs) t distinct here later)
-          (λ (before : is_among (forked_in given) t ≡ true). both_ways (is_among (forked_in (c ∷ cs)) t) (apart t before) (among_back (forked_by c) (forked_in cs) t later))
-          (among_cases (forked_by c) (forked_in given) t among))),
+      valid_from s w (c ∷ given) cs both.1 (λ t among. forks t (among_back (forked_by c) (threads_forked cs) t among)) (distinct_back (forked_by c) (threads_forked cs) distinct)
+          (λ t among. false_from_ne_true (is_among (threads_forked cs) t) (λ later. ⊎_elim (λ (here : is_among (forked_by c) t ≡ true). distinct_apart (forked_by c) (threads_forked cs) t distinct here later)
+          (λ (before : is_among (threads_forked given) t ≡ true). both_ways (is_among (threads_forked (c ∷ cs)) t) (apart t before) (among_back (forked_by c) (threads_forked cs) t later))
+          (among_cases (forked_by c) (threads_forked given) t among))),
     )
 
 -- each script of valid scripts is valid
@@ -101,12 +101,12 @@ many_owns s w (suc n) = let a = many_owns s (suc w) n in omega arith
 
 module _ (s : Setup) where
   -- one script's budget is within that of all
-  one_small : (scripts : List (List Command)) (k i : ℕ) → total (λ c. greatest_of c (k + i) s.cpus) (slice_index_or scripts i []) ≤ budget_from k s.cpus scripts
+  one_small : (scripts : List (List Command)) (k i : ℕ) → total_charge (λ c. greatest_of c (k + i) s.cpus) (slice_index_or scripts i []) ≤ budget_from k s.cpus scripts
   one_small [] k i = omega arith
   one_small (script ∷ scripts) k zero = let z : k + 0 ≡ k = omega arith in
-      let one : total (λ c. greatest_of c (k + 0) s.cpus) script ≡ sum (map (λ c. greatest_of c k s.cpus) script) = ap (λ j. total (λ c. greatest_of c j s.cpus) script) z ∙ total_is k s.cpus script in omega arith
+      let one : total_charge (λ c. greatest_of c (k + 0) s.cpus) script ≡ sum (map (λ c. greatest_of c k s.cpus) script) = ap (λ j. total_charge (λ c. greatest_of c j s.cpus) script) z ∙ total_is k s.cpus script in omega arith
   one_small (script ∷ scripts) k (suc i) = let z : k + suc i ≡ k + 1 + i = omega arith in let r = one_small scripts (k + 1) i in
-      let same : total (λ c. greatest_of c (k + suc i) s.cpus) (slice_index_or scripts i []) ≡ total (λ c. greatest_of c (k + 1 + i) s.cpus) (slice_index_or scripts i []) = ap (λ j. total (λ c. greatest_of c j s.cpus) (slice_index_or scripts i [])) z in omega arith
+      let same : total_charge (λ c. greatest_of c (k + suc i) s.cpus) (slice_index_or scripts i []) ≡ total_charge (λ c. greatest_of c (k + 1 + i) s.cpus) (slice_index_or scripts i []) = ap (λ j. total_charge (λ c. greatest_of c j s.cpus) (slice_index_or scripts i [])) z in omega arith
 
   module _ (form : IsOfForm s) where
     kept : HasScripts s
@@ -116,8 +116,8 @@ module _ (s : Setup) where
     pub small : budgets (budget_of s) (length (owns_from s 0 s.cpus)) ≤ 65536
     small = let a = within_budget s.cpus 0 s.cpus s.scripts in let b = kept.budget in
         let c : budgets (budget_of s) (length (owns_from s 0 s.cpus)) ≡ budgets (budget_of s) s.cpus = ap (budgets (budget_of s)) (many_owns s 0 s.cpus) in
-        let d : budgets (λ i. total (λ c. greatest_of c (0 + i) s.cpus) (slice_index_or s.scripts i [])) s.cpus ≡ budgets (budget_of s) s.cpus =
-        (λ j. budgets (λ i. total (λ c. greatest_of c (none i j) s.cpus) (slice_index_or s.scripts i [])) s.cpus) in omega arith
+        let d : budgets (λ i. total_charge (λ c. greatest_of c (0 + i) s.cpus) (slice_index_or s.scripts i [])) s.cpus ≡ budgets (budget_of s) s.cpus =
+        (λ j. budgets (λ i. total_charge (λ c. greatest_of c (none i j) s.cpus) (slice_index_or s.scripts i [])) s.cpus) in omega arith
       where
         none : (i : ℕ) → 0 + i ≡ i
         none i = omega arith
@@ -125,7 +125,7 @@ module _ (s : Setup) where
     -- a worker's budget
     budget_small : (w : ℕ) → budget_of s w ≤ 65536
     budget_small w = let b = one_small s.scripts 0 w in let c = kept.budget in
-        let d : total (λ c. greatest_of c (0 + w) s.cpus) (slice_index_or s.scripts w []) ≡ budget_of s w = ap (λ j. total (λ c. greatest_of c j s.cpus) (slice_index_or s.scripts w [])) (none w) in omega arith
+        let d : total_charge (λ c. greatest_of c (0 + w) s.cpus) (slice_index_or s.scripts w []) ≡ budget_of s w = ap (λ j. total_charge (λ c. greatest_of c j s.cpus) (slice_index_or s.scripts w [])) (none w) in omega arith
       where
         none : (i : ℕ) → 0 + i ≡ i
         none i = omega arith
@@ -141,9 +141,9 @@ module _ (s : Setup) where
     -- the scripts of a setup are such lists
     pub are_scripts : AreCommandLists s (orders_of s)
     are_scripts = record {
-      commands = λ w. script_valid (is_command (ids s) s.cpus) s.scripts w kept.valid;
+      commands = λ w. script_valid (is_command (declared_ids_of s) s.cpus) s.scripts w kept.valid;
       forks = λ w t among. among;
-      once = λ w. distinct_of_one forked_in [] refl s.scripts w (setup_forks s).distinct;
+      once = λ w. distinct_of_one threads_forked [] refl s.scripts w (setup_forks s).distinct;
       charged = λ w. omega arith;
     }
 

@@ -24,7 +24,7 @@ use Rattle.ule_micro.specs.Standings as standing
 use Rattle.ule_micro.proofs.Lists.{drop_get, get_set, map_get}
 use Rattle.ule_micro.proofs.Numbers.{advanced_set}
 use Rattle.ule_parts.specs.Acts.{todo_of}
-use Rattle.ule_parts.specs.Histories.{in_order, world_entry}
+use Rattle.ule_parts.specs.Histories.{entries_in_order, world_entry}
 use Rattle.ule_parts.specs.Plays.{list_of}
 use Rattle.ule_parts.specs.Scheduler.{sched_means}
 use Rattle.ule_parts.specs.Workers.{Worker, owns_from}
@@ -71,7 +71,7 @@ module _ (s : Setup) (lists : List (List Command)) where
   -- is timed: what a legal play keeps of the programs and the times of its entries
   pub record IsTimed (h : List (Entry Event Reply)) (cs : List (WorkerCourse Worker Event Reply)) : Type 0 where
     pub timed : List Timed
-    pub entries : map (λ x. x.entry) timed ≡ in_order h
+    pub entries : map (λ x. x.entry) timed ≡ entries_in_order h
     pub courses : (w : ℕ) (c : WorkerCourse Worker Event Reply) → slice_get cs w ≡ Some c → IsCourseOf timed w c
     pub after_own : AllByRecursion (λ x. starting_time + x.amount ≤ x.entry.now) timed
     pub by_now : AllByRecursion (λ x. x.entry.now ≤ starting_time + all_advanced cs) timed

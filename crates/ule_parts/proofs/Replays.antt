@@ -28,10 +28,10 @@ use Rattle.ule_micro.specs.declared.entry.HeldLocks.{HeldLocks}
 use Rattle.ule_micro.specs.declared.entry.HeldLocks.TheVariants.{One}
 use Rattle.ule_micro.specs.Histories.{IsNoEarlierThanShared, Shares, is_lock_among}
 use Rattle.ule_micro.proofs.Among.{among_this}
-use Rattle.ule_parts.specs.Histories.{in_order, world_entry}
+use Rattle.ule_parts.specs.Histories.{entries_in_order, world_entry}
 
 -- one entry more is the last in order
-pub in_order_more : (x : Entry Event Reply) (h : List (Entry Event Reply)) → in_order (x ∷ h) ≡ in_order h ++ world_entry x ∷ []
+pub in_order_more : (x : Entry Event Reply) (h : List (Entry Event Reply)) → entries_in_order (x ∷ h) ≡ entries_in_order h ++ world_entry x ∷ []
 in_order_more x h = ap (map world_entry) (reverse-append (x ∷ []) h) ∙ map-append world_entry (reverse h) (x ∷ [])
 
 -- is locked in: an entry with its lock is one of the history, under that lock
@@ -95,14 +95,14 @@ tick_there count (Inherit t run) c names is = absurd (false≢true is)
 module _ (s : Setup) where
   -- is replay: a history replayed on the world at the start leads to this world
   pub record IsReplay (h : List (Entry Event Reply)) (w : World) : Type 0 where
-    pub world : replayed (world_at_start s) (in_order h) ≡ w
-    pub workers : AllByRecursion (λ e. e.worker < s.cpus) (in_order h)
-    pub ticks : AllByRecursion (IsTickOfSome s.cpus) (in_order h)
-    pub replies : IsReplayed (world_at_start s) (in_order h)
-    pub in_time : IsInTime (with_locks (world_at_start s) (in_order h))
-    pub locked : AllByRecursion (IsLockedIn h) (with_locks (world_at_start s) (in_order h))
-    pub made : HoldsThroughout IsWellMadeWorld (world_at_start s) (in_order h)
-    pub bounds : HoldsThroughout KeepsRecords (world_at_start s) (in_order h)
+    pub world : replayed (world_at_start s) (entries_in_order h) ≡ w
+    pub workers : AllByRecursion (λ e. e.worker < s.cpus) (entries_in_order h)
+    pub ticks : AllByRecursion (IsTickOfSome s.cpus) (entries_in_order h)
+    pub replies : IsReplayed (world_at_start s) (entries_in_order h)
+    pub in_time : IsInTime (with_locks (world_at_start s) (entries_in_order h))
+    pub locked : AllByRecursion (IsLockedIn h) (with_locks (world_at_start s) (entries_in_order h))
+    pub made : HoldsThroughout IsWellMadeWorld (world_at_start s) (entries_in_order h)
+    pub bounds : HoldsThroughout KeepsRecords (world_at_start s) (entries_in_order h)
 
   -- at the start nothing is replayed
   pub replay_starts : IsWellMadeWorld (world_at_start s) → KeepsRecords (world_at_start s) → IsReplay [] (world_at_start s)
@@ -127,7 +127,7 @@ module _ (s : Setup) where
     last = world_entry x
 
     abbrev es : List types.Entry
-    es = in_order h
+    es = entries_in_order h
 
     -- the entry with its lock
     abbrev locked_last : Locked
@@ -169,5 +169,5 @@ module _ (s : Setup) where
       bounds = by (HoldsThroughout KeepsRecords start) (after_last KeepsRecords r.bounds bounds);
     }
       where
-        by : (P : List types.Entry → Type 0) → P (es ++ last ∷ []) → P (in_order (x ∷ h))
+        by : (P : List types.Entry → Type 0) → P (es ++ last ∷ []) → P (entries_in_order (x ∷ h))
         by P all = subst P (sym (in_order_more x h)) all

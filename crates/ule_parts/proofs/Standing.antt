@@ -33,17 +33,17 @@ use Rattle.ule_micro.specs.Laws.{KeepsStanding}
 use Rattle.ule_micro.specs.Standings.{Journal, Standing, asks, rests, blank, standing_with, with_given, with_made}
 use Rattle.ule_micro.specs.Standings as standing
 use Rattle.ule_parts.specs.Acts.{AreAt, IsUnderOne, act_on, todo_of}
-use Rattle.ule_parts.specs.Workers.{AsksFor, HandFits, IsValid, Stands, StandsAt, Worker, forked_in, forks_of, hatched_in, ids, left_at, owns_from}
+use Rattle.ule_parts.specs.Workers.{AsksFor, HandFits, IsValid, Stands, StandsAt, Worker, threads_forked, forks_of, threads_hatched, declared_ids_of, left_at, owns_from}
 use Rattle.ule_parts.specs.Scheduler.{MayAct, sched_means}
 use Rattle.ule_parts.proofs.Locks.{HasLock, IsActed, acted_shows, hand_some, lock_of_possible}
 
 -- an empty hand, where no thread is found in it
-pub hand_none : (hand : Option ThreadRecord) → ((t : ℕ) → is_some (if_thread t hand) ≡ false) → hand ≡ None
+hand_none : (hand : Option ThreadRecord) → ((t : ℕ) → is_some (if_thread t hand) ≡ false) → hand ≡ None
 hand_none None without = refl
 hand_none (Some r) without = absurd (true≢false (sym (ap (λ b. is_some (Rattle.std.specs.Prelude.if◌then◌else◌ b (Some r) None)) (eq-eqb r.id r.id refl)) ∙ without r.id))
 
 -- what holds of an item of each kind, of what it is
-pub by_item : (P : Option Item → Type 0) (o : Option Item) → (o ≡ None → P None) → ((e : Event) → o ≡ Some (item.Event e) → P (Some (item.Event e)))
+by_item : (P : Option Item → Type 0) (o : Option Item) → (o ≡ None → P None) → ((e : Event) → o ≡ Some (item.Event e) → P (Some (item.Event e)))
     → ((k : ℕ) → o ≡ Some (item.Advance k) → P (Some (item.Advance k))) → P o
 by_item P None none event advance = none refl
 by_item P (Some (item.Event e)) none event advance = event e refl
@@ -119,18 +119,18 @@ module _ (s : Setup) (some_cpus : 0 < s.cpus) where
 
   -- the hand that an event needs, from the one that its stage says
   hand_fits : (w : ℕ) (mine : List (Entry Event Reply)) (hand : Option ThreadRecord) (held : Option ℕ) (k : Handling) → ((t : ℕ) → is_some (if_thread t hand) ≡ is_number t held) → FitsHand held k
-      → ((t : ℕ) → k ≡ unborn t → (is_among (forks_of s w) t ≡ true) × (is_among (hatched_in mine) t ≡ false)) → HandFits s w mine hand k
+      → ((t : ℕ) → k ≡ unborn t → (is_among (forks_of s w) t ≡ true) × (is_among (threads_hatched mine) t ≡ false)) → HandFits s w mine hand k
   hand_fits w mine hand held any agree fits still = tt
   hand_fits w mine hand held empty agree fits still = hand_none hand (λ t. agree t ∙ ap (is_number t) fits)
   hand_fits w mine hand held (unborn t) agree fits still = let z = still t refl in (hand_none hand (λ u. agree u ∙ ap (is_number u) fits), z.0, z.1)
   hand_fits w mine hand held (has t) agree fits still = agree t ∙ (ap (is_number t) fits ∙ eq-eqb t t refl)
 
   -- a worker that stands at an event asks for it
-  pub asks_for : (j : Journal Event Reply Command) (o : Worker) (e : Event) → Stands s j o (standing.has (todo.Event e)) → AsksFor s o.program.worker j.mine o.hand e
+  asks_for : (j : Journal Event Reply Command) (o : Worker) (e : Event) → Stands s j o (standing.has (todo.Event e)) → AsksFor s o.program.worker j.mine o.hand e
   asks_for j o e (at, is) = record {
     below = at.below;
     alone = at_event (λ x. IsUnderOne (locking x)) (λ k. Unit {0}) o.program.worker o.program.stage e (stage_alone o.program.worker o.program.stage) is;
-    names = at_event (NamesWhatIs (ids s) s.cpus) (λ k. is_within 1 1000000 k ≡ true) o.program.worker o.program.stage e (item_names (ids s) s.cpus o.program.worker o.program.stage at.below at.sound) is;
+    names = at_event (NamesWhatIs (declared_ids_of s) s.cpus) (λ k. is_within 1 1000000 k ≡ true) o.program.worker o.program.stage e (item_names (declared_ids_of s) s.cpus o.program.worker o.program.stage at.below at.sound) is;
     fits = hand_fits o.program.worker j.mine o.hand (in_hand o.program.stage) (handling e) at.hand
         (at_event (λ x. FitsHand (in_hand o.program.stage) (handling x) × IfSome (in_hand o.program.stage) (λ t. Rattle.ule_model.specs.Events.sought_by x ≡ None)) (λ k. in_hand o.program.stage ≡ None) o.program.worker o.program.stage e (item_fits o.program.worker o.program.stage) is).0
         (λ t un. let z = at.forks t (at_event (λ x. (u : ℕ) → handling x ≡ unborn u → is_among (hatching o.program.stage) u ≡ true) (λ k. Unit {0}) o.program.worker o.program.stage e (stage_hatches o.program.worker o.program.stage) is t un) in (z.0, z.2));
@@ -148,13 +148,13 @@ module _ (s : Setup) (some_cpus : 0 < s.cpus) where
     record {
       below = at.below;
       hand = λ t. at.hand t ∙ (ap (λ st. is_number t (in_hand st)) ended ∙ ap (is_number t) (sym (first_hand c)));
-      sound = first_sound (ids s) s.cpus c valid.command;
+      sound = first_sound (declared_ids_of s) s.cpus c valid.command;
       forks = λ t among. let by_c : is_among (forked_by c) t ≡ true = ap (λ us. is_among us t) (sym (first_hatching c)) ∙ among in let z = valid.forks t by_c in (
         z.0,
-        among_front (forked_by c) (forked_in j.given) t by_c,
-        false_from_ne_true (is_among (hatched_in j.mine) t) (λ h. true≢false (sym (at.given t h) ∙ z.1)),
+        among_front (forked_by c) (threads_forked j.given) t by_c,
+        false_from_ne_true (is_among (threads_hatched j.mine) t) (λ h. true≢false (sym (at.given t h) ∙ z.1)),
       );
-      given = λ t among. among_back (forked_by c) (forked_in j.given) t (at.given t among);
+      given = λ t among. among_back (forked_by c) (threads_forked j.given) t (at.given t among);
     },
     tt,
   )
@@ -173,7 +173,7 @@ module _ (s : Setup) (some_cpus : 0 < s.cpus) where
       (λ k there is. let after : after_giving own.stage ≡ stage.Ended = at_advance (λ x. after_giving own.stage ≡ own.stage) (λ k. after_giving own.stage ≡ stage.Ended) own.worker own.stage k (given_stage own.worker own.stage) is in
       let less : most_from (after_giving own.stage) + 1 ≤ most_from own.stage = at_advance (λ e. Unit {0}) (λ k. most_from (after_giving own.stage) + 1 ≤ most_from own.stage) own.worker own.stage k (advance_lowers own.worker own.stage) is in
       let bare : in_hand own.stage ≡ None = at_advance (λ x. FitsHand (in_hand own.stage) (handling x) × IfSome (in_hand own.stage) (λ t. Rattle.ule_model.specs.Events.sought_by x ≡ None)) (λ k. in_hand own.stage ≡ None) own.worker own.stage k (item_fits own.worker own.stage) is in
-      let valid : is_within 1 1000000 k ≡ true = at_advance (NamesWhatIs (ids s) s.cpus) (λ j. is_within 1 1000000 j ≡ true) own.worker own.stage k (item_names (ids s) s.cpus own.worker own.stage (subst (λ u. u < s.cpus) (sym worker) at.below) at.sound) is in
+      let valid : is_within 1 1000000 k ≡ true = at_advance (NamesWhatIs (declared_ids_of s) s.cpus) (λ j. is_within 1 1000000 j ≡ true) own.worker own.stage k (item_names (declared_ids_of s) s.cpus own.worker own.stage (subst (λ u. u < s.cpus) (sym worker) at.below) at.sound) is in
       ((ended (after_giving own.stage) after bare, (after, valid)), omega arith))
       refl
     where
@@ -182,7 +182,7 @@ module _ (s : Setup) (some_cpus : 0 < s.cpus) where
       moved st same = record {
         below = subst (λ u. u < s.cpus) (sym worker) at.below;
         hand = λ t. at.hand t ∙ ap (λ i. is_number t (in_hand i)) (sym same);
-        sound = subst (IsSoundStage (ids s) s.cpus) (sym same) at.sound;
+        sound = subst (IsSoundStage (declared_ids_of s) s.cpus) (sym same) at.sound;
         forks = λ t among. let z = at.forks t (ap (λ i. is_among (hatching i) t) (sym same) ∙ among) in (ap (λ u. is_among (forks_of s u) t) worker ∙ z.0, z.1, z.2);
         given = at.given;
       }
@@ -192,7 +192,7 @@ module _ (s : Setup) (some_cpus : 0 < s.cpus) where
       ended st is bare = record {
         below = subst (λ u. u < s.cpus) (sym worker) at.below;
         hand = λ t. at.hand t ∙ (ap (is_number t) bare ∙ ap (λ i. is_number t (in_hand i)) (sym is));
-        sound = subst (IsSoundStage (ids s) s.cpus) (sym is) tt;
+        sound = subst (IsSoundStage (declared_ids_of s) s.cpus) (sym is) tt;
         forks = λ t among. absurd (false≢true (ap (λ i. is_among (hatching i) t) (sym is) ∙ among));
         given = at.given;
       }
@@ -251,17 +251,17 @@ module _ (s : Setup) (some_cpus : 0 < s.cpus) where
         may.possible.hand t (thread_in_hand x.worker t may.world.members) (hand_was t)
         ∙ ap (λ r. is_number t (in_hand (stage_after r st))) (sym reply_is)))))
 
-    sound : IsSoundReply (ids s) s.cpus st x.reply
-    sound = subst (IsSoundReply (ids s) s.cpus st) (sym reply_is)
-        (at_event (λ e. IsSoundReply (ids s) s.cpus st (step may.world x.worker e x.now).1) (λ k. Unit {0}) x.worker st x.event
-        (step_replies (ids s) s.cpus may.world x.worker x.now st some_cpus may.is_world.bound may.is_world.parents may.is_world.bounds) item_is)
+    sound : IsSoundReply (declared_ids_of s) s.cpus st x.reply
+    sound = subst (IsSoundReply (declared_ids_of s) s.cpus st) (sym reply_is)
+        (at_event (λ e. IsSoundReply (declared_ids_of s) s.cpus st (step may.world x.worker e x.now).1) (λ k. Unit {0}) x.worker st x.event
+        (step_replies (declared_ids_of s) s.cpus may.world x.worker x.now st some_cpus may.is_world.bound may.is_world.parents may.is_world.bounds) item_is)
 
     -- the threads hatched so far are forked
-    given_after : (t : ℕ) → is_among (hatched_in (x ∷ j.mine)) t ≡ true → is_among (forked_in j.given) t ≡ true
+    given_after : (t : ℕ) → is_among (threads_hatched (x ∷ j.mine)) t ≡ true → is_among (threads_forked j.given) t ≡ true
     given_after t among = ⊎_elim
         (λ (now : is_among (hatched_by x.event) t ≡ true). (stands.0.forks t (ap (λ us. is_among us t) (at_event (λ e. hatching st ≡ hatched_by e) (λ k. hatching st ≡ []) x.worker st x.event (item_hatching x.worker st) item_is) ∙ now)).1)
-        (λ (before : is_among (hatched_in j.mine) t ≡ true). stands.0.given t before)
-        (among_cases (hatched_by x.event) (hatched_in j.mine) t among)
+        (λ (before : is_among (threads_hatched j.mine) t ≡ true). stands.0.given t before)
+        (among_cases (hatched_by x.event) (threads_hatched j.mine) t among)
 
     -- an event that may be performed leaves what the stage after its reply keeps
     pub performs : Stands s (with_made x j) (record { program = o.program; hand = (act_on s.settings x.worker x.event x.now o.hand guarded).hand }) (asks (Some (x.reply, x.now)))
@@ -271,7 +271,7 @@ module _ (s : Setup) (some_cpus : 0 < s.cpus) where
         record {
           below = stands.0.below;
           hand = hand_after;
-          sound = reply_sound (ids s) s.cpus x.reply st stands.0.sound sound;
+          sound = reply_sound (declared_ids_of s) s.cpus x.reply st stands.0.sound sound;
           forks = λ t among. absurd (false≢true (ap (λ us. is_among us t) (sym (reply_hatching x.reply st)) ∙ among));
           given = given_after;
         },
@@ -296,6 +296,6 @@ module _ (s : Setup) (some_cpus : 0 < s.cpus) where
     goes_on = λ j o told stands. let z = goes_on j o told stands in (tt, z.0, z.1);
     advances = advances;
     asks_for = asks_for;
-    performs = λ j o x guarded stands who may locks reply. performs j o x guarded stands who may reply;
+    performs = λ j o x guarded stands who may many locks reply. performs j o x guarded stands who may reply;
     ends = λ j o stands t dec. stands.0.hand t ∙ ap (λ st. is_number t (in_hand st)) stands.1;
   }

@@ -22,15 +22,14 @@ use Rattle.ule_members.proofs.Starts.{IsLaid, IsPlaceAtStart, start_free, start_
 use Rattle.ule_members.proofs.Within.{within_thread}
 use Rattle.ule_laws.proofs.SeekLaws.{has_stands, lock_found}
 use Rattle.ule_laws.proofs.WorldLaws.{HasValue, at_some, value_at}
-use Rattle.ule_rounds.proofs.Keeping.{found_among}
 use Rattle.ule_micro.specs.Means.{stands_under}
 use Rattle.ule_micro.specs.Laws.{StartsSettled, StartsSmall, values_and_hands_at_start}
 use Rattle.ule_micro.proofs.Effects.{stands_value}
 use Rattle.ule_parts.specs.Histories.{scheduler_with}
-use Rattle.ule_parts.specs.Workers.{Worker, ids}
+use Rattle.ule_parts.specs.Workers.{Worker, declared_ids_of}
 use Rattle.ule_parts.specs.Scheduler.{lock_or_limbo, opening_word, sched_means}
 use Rattle.ule_parts.proofs.Locks.{some_of}
-use Rattle.ule_parts.proofs.Numbers.{none_numbered}
+use Rattle.ule_parts.proofs.Numbers.{found_numbered, none_numbered}
 use Rattle.ule_parts.proofs.Standing.{first_own}
 use Rattle.ule_parts.proofs.Orders.{many_owns, small}
 
@@ -55,10 +54,10 @@ module _ (s : Setup) (form : IsOfForm s) (shows : Shows (scheduler_with s (value
     at : lock_of member.place ≡ Some lock
     word_is : opening_word s t ≡ lock
 
-  placed : (t : ℕ) → is_among (ids s) t ≡ true → IsPlaced t
+  placed : (t : ℕ) → is_among (declared_ids_of s) t ≡ true → IsPlaced t
   placed t dec =
-      let start : IsLaid (IsPlaceAtStart s.cpus) s.cpus s.settings (ids s) (world_at_start s) = start_laid s form in
-      let there = some_of (thread_of t x.members) (found_among t x.members (subst (λ us. is_among us t ≡ true) (sym start.ids_are) dec)) in
+      let start : IsLaid (IsPlaceAtStart s.cpus) s.cpus s.settings (declared_ids_of s) (world_at_start s) = start_laid s form in
+      let there = some_of (thread_of t x.members) (found_numbered t (declared_ids_of s) x.members start.ids_are dec) in
       let free : hand_of there.0.place ≡ None = all_has (λ (y : Member). hand_of y.place ≡ None) there.0 x.members (start_free s form) (has_thread_of t there.0 x.members there.1).0 in
       let l = has_lock there.0.place free in record {
         member = there.0;
@@ -75,7 +74,7 @@ module _ (s : Setup) (form : IsOfForm s) (shows : Shows (scheduler_with s (value
     by None at = subst (λ o. lock_or_limbo o < 25) (sym at) (omega arith)
     by (Some l) at = subst (λ o. lock_or_limbo o < 25) (sym at) (lock_found _ x t l y shows is at).0
 
-  stands : (t : ℕ) (dec : is_among (ids s) t ≡ true) → stands_under (sched_means s) (sched_means s).values (placed t dec).lock t ≡ true
+  stands : (t : ℕ) (dec : is_among (declared_ids_of s) t ≡ true) → stands_under (sched_means s) (sched_means s).values (placed t dec).lock t ≡ true
   stands t dec =
       let p = placed t dec in
       let low = (lock_found _ x t p.lock p.member shows p.found p.at).0 in
@@ -84,7 +83,7 @@ module _ (s : Setup) (form : IsOfForm s) (shows : Shows (scheduler_with s (value
       ∙ ap (λ b. is_some (if◌then◌else◌ b (Some p.member) None)) (is_number_itself p.lock (lock_of p.member.place) p.at) in
       ap (λ o. elim o as (λ _. Bool) [ None ↦ false | Some v ↦ has_under v t ]) v.found ∙ (has_stands x p.lock t v.value shows.made shows.cpus v.stands ∙ under)
 
-  once : (t l : ℕ) (dec : is_among (ids s) t ≡ true) → stands_under (sched_means s) (sched_means s).values l t ≡ true → l ≡ opening_word s t
+  once : (t l : ℕ) (dec : is_among (declared_ids_of s) t ≡ true) → stands_under (sched_means s) (sched_means s).values l t ≡ true → l ≡ opening_word s t
   once t l dec st =
       let p = placed t dec in
       let v = stands_value (sched_means s) (sched_means s).values l t st in
@@ -95,7 +94,7 @@ module _ (s : Setup) (form : IsOfForm s) (shows : Shows (scheduler_with s (value
 
   pub starts_settled : StartsSettled (sched_means s)
   starts_settled = record {
-    few = λ t dec. ltb-true t 256 (among_passes (λ u. nat_lt u 256) (ids s) t (setup_specs s).numbers dec);
+    few = λ t dec. ltb-true t 256 (among_passes (λ u. nat_lt u 256) (declared_ids_of s) t (setup_specs s).numbers dec);
     low = λ t. word_low t (thread_of t x.members) refl;
     limbo = λ t not_declared. ap (λ (o : Option Member). lock_or_limbo (option_and_then (λ (y : Member). lock_of y.place) o))
         (none_numbered t x.members (ap (λ us. is_among us t) (start_laid s form).ids_are ∙ not_declared));

@@ -31,7 +31,6 @@ use Rattle.ule_members.proofs.Steps.{step_is_made, step_leaves_rest}
 use Rattle.ule_members.proofs.Unborn.{IsStillUnborn, hatched_by, setup_forks, start_unborn, unborn_stays}
 use Rattle.ule_members.proofs.Within.{all_along}
 use Rattle.ule_rounds.proofs.Bindings.{step_binds}
-use Rattle.ule_rounds.proofs.Keeping.{found_among}
 use Rattle.ule_rounds.proofs.Parents.{numbered_among, start_parents}
 use Rattle.ule_micro.specs.declared.entry.Entry.{Entry}
 use Rattle.ule_micro.specs.declared.entry.HeldLocks.{HeldLocks}
@@ -43,11 +42,12 @@ use Rattle.ule_micro.proofs.Courses.{own_else, own_more}
 use Rattle.ule_micro.proofs.Effects.{effect_so, under_one}
 use Rattle.ule_micro.proofs.Lists.{index_get}
 use Rattle.ule_parts.specs.Acts.{AreAt, act_on, needs_of}
-use Rattle.ule_parts.specs.Histories.{IsHistoryOfWorlds, in_order, scheduler_with}
-use Rattle.ule_parts.specs.Workers.{AsksFor, HandFits, forked_in, forks_of, hatched_in, ids}
+use Rattle.ule_parts.specs.Histories.{IsHistoryOfWorlds, entries_in_order, scheduler_with}
+use Rattle.ule_parts.specs.Workers.{AsksFor, HandFits, threads_forked, forks_of, threads_hatched, declared_ids_of}
 use Rattle.ule_parts.specs.Scheduler.{IsWorldOf, MayAct, sched_means}
 use Rattle.ule_parts.proofs.Locks.{HasLock, acted_shows, handled, lock_is}
 use Rattle.ule_parts.proofs.Replays.{IsReplay, replay_more, replay_starts}
+use Rattle.ule_parts.proofs.Numbers.{found_numbered}
 use Rattle.ule_parts.proofs.Noted.{IsNoted, noted_after, noted_at_start, noted_in_time}
 
 -- an event that hatches a thread needs it unborn
@@ -73,7 +73,7 @@ hatch_needs (Inherit u run) t among = absurd (false≢true among)
 module _ (s : Setup) (form : IsOfForm s) where
   -- two workers that fork one thread are one
   one_forker : (i j t : ℕ) → is_among (forks_of s i) t ≡ true → is_among (forks_of s j) t ≡ true → i ≡ j
-  one_forker i j t first second = distinct_of_two forked_in [] refl s.scripts i j t (setup_forks s).distinct first second
+  one_forker i j t first second = distinct_of_two threads_forked [] refl s.scripts i j t (setup_forks s).distinct first second
 
   -- is reached: a history leads to a world, which the values and hands show, in which each thread is noted by the latest entry over its place,
   -- and in which each thread is unborn that a worker is to hatch and did not hatch yet
@@ -83,29 +83,29 @@ module _ (s : Setup) (form : IsOfForm s) where
     pub shows : Shows (scheduler_with s y) world
     pub replays : IsReplay s h world
     pub noted : AllByRecursion (IsNoted h) world.members
-    pub unborn : (w t : ℕ) → is_among (forks_of s w) t ≡ true → is_among (hatched_in (own_entries w h)) t ≡ false → IsStillUnborn t world.members
+    pub unborn : (w t : ℕ) → is_among (forks_of s w) t ≡ true → is_among (threads_hatched (own_entries w h)) t ≡ false → IsStillUnborn t world.members
 
   -- an event that is asked for is possible
   module _ (h : List (Entry Event Reply)) (y : ValuesAndHands (Option ThreadRecord) LockValue) (r : IsReached h y) (w : ℕ) (e : Event) (now : ℕ) (hand : Option ThreadRecord) (held : HeldLocks)
       (at : slice_get y.hands w ≡ Some hand) (asked : AsksFor s w (own_entries w h) hand e) (locks : AreLocksFor (sched_means s) y.values held (needs_of (locking e)))
       (rules : IsNoEarlierThanShared h w held now) (small : now < 2 ^ 36) where
-    pub hand_is : held_by (scheduler_with s y) w ≡ hand
+    hand_is : held_by (scheduler_with s y) w ≡ hand
     hand_is = index_get y.hands w None hand at
 
-    pub lock : (l : ℕ) × (held ≡ One l) × HasLock (scheduler_with s y) r.world (locking e) l
+    lock : (l : ℕ) × (held ≡ One l) × HasLock (scheduler_with s y) r.world (locking e) l
     lock = lock_is s (scheduler_with s y) r.world (locking e) held r.shows asked.alone (subst (λ c. IsTrue (names_cpus c e)) (sym r.is_world.lines) asked.names.0) locks
 
-    pub rules_one : IsNoEarlierThanShared h w (One lock.0) now
+    rules_one : IsNoEarlierThanShared h w (One lock.0) now
     rules_one = subst (λ (k : HeldLocks). IsNoEarlierThanShared h w k now) lock.1 rules
 
     still : (t : ℕ) (k : Handling) → HandFits s w (own_entries w h) hand k → k ≡ unborn t → IsStillUnborn t r.world.members
     still t k fits is = let z = subst (HandFits s w (own_entries w h) hand) is fits in r.unborn w t z.1 z.2
 
-    pub possible : IsPossible r.world w e now
+    possible : IsPossible r.world w e now
     possible = record {
       worker_is = subst (λ c. w < c) (sym r.is_world.lines) asked.below;
       cpus = subst (λ c. IsTrue (names_cpus c e)) (sym r.is_world.lines) asked.names.0;
-      declared = IfSome_then (sought_by e) asked.names.1 (λ t among. found_among t r.world.members (subst (λ us. is_among us t ≡ true) (sym r.is_world.numbers) among));
+      declared = IfSome_then (sought_by e) asked.names.1 (λ t among. found_numbered t (declared_ids_of s) r.world.members r.is_world.numbers among);
       ready = lock.2.ready w;
       hand = handled (scheduler_with s y) r.world w hand r.shows (subst (λ o. Rattle.ule_model.specs.WorldValue.IsHandOf r.world w o) hand_is (r.shows.hands w)) s (own_entries w h) (handling e) asked.fits (λ t is. still t (handling e) asked.fits is);
       numbers = asked.names.2;
@@ -115,7 +115,7 @@ module _ (s : Setup) (form : IsOfForm s) where
     }
 
     -- so it may be performed
-    pub may : (guarded : List LockValue) → values_under held y.values ≡ Some guarded → MayAct s w e now hand guarded
+    may : (guarded : List LockValue) → values_under held y.values ≡ Some guarded → MayAct s w e now hand guarded
     may guarded under = let u = under_one lock.0 y.values guarded (ap (λ k. values_under k y.values) (sym lock.1) ∙ under) in record {
       value = scheduler_with s y;
       world = r.world;
@@ -136,7 +136,7 @@ module _ (s : Setup) (form : IsOfForm s) where
     made = step_is_made x w e now is.made can;
     bounds = step_bounds x w e now is.made can (subst HasSlice (sym is.settings) (setup_slice s)) is.bounds;
     bound = step_binds (λ c. c < s.cpus) x w e now is.made can is.bound;
-    parents = step_parents (λ u. is_among (ids s) u ≡ true) x w e now is.made can (numbered_among (ids s) x.members is.numbers) is.parents;
+    parents = step_parents (λ u. is_among (declared_ids_of s) u ≡ true) x w e now is.made can (numbered_among (declared_ids_of s) x.members is.numbers) is.parents;
   }
 
   -- one more entry
@@ -172,22 +172,22 @@ module _ (s : Setup) (form : IsOfForm s) where
       apart_from w t forks far = false_from_ne_true (is_among (hatched_by x.event) t)
           (λ among. let fits = subst (HandFits s x.worker (own_entries x.worker h) hand) (hatch_needs x.event t among) asked.fits in far (one_forker x.worker w t fits.1 forks))
 
-      goes : (w t : ℕ) → is_among (forks_of s w) t ≡ true → is_among (hatched_by x.event) t ≡ false → is_among (hatched_in (own_entries w h)) t ≡ false → IsPossible r.world x.worker x.event x.now
+      goes : (w t : ℕ) → is_among (forks_of s w) t ≡ true → is_among (hatched_by x.event) t ≡ false → is_among (threads_hatched (own_entries w h)) t ≡ false → IsPossible r.world x.worker x.event x.now
           → IsStillUnborn t (step r.world x.worker x.event x.now).0.members
       goes w t forks other before can = unborn_stays r.world x.worker x.event x.now t r.is_world.made can few other (r.unborn w t forks before)
 
-      unborn_after : (w t : ℕ) → is_among (forks_of s w) t ≡ true → is_among (hatched_in (own_entries w (x ∷ h))) t ≡ false → (x.worker ≡ w) ⊎ (x.worker ≡ w → ⊥) → IsPossible r.world x.worker x.event x.now
+      unborn_after : (w t : ℕ) → is_among (forks_of s w) t ≡ true → is_among (threads_hatched (own_entries w (x ∷ h))) t ≡ false → (x.worker ≡ w) ⊎ (x.worker ≡ w → ⊥) → IsPossible r.world x.worker x.event x.now
           → IsStillUnborn t (step r.world x.worker x.event x.now).0.members
       unborn_after w t forks hatched (inl same) can =
-          let now_and_before : is_among (hatched_by x.event ++ hatched_in (own_entries w h)) t ≡ false = ap (λ (l : List (Entry Event Reply)). is_among (hatched_in l) t) (sym (own_more w x h same)) ∙ hatched in
+          let now_and_before : is_among (hatched_by x.event ++ threads_hatched (own_entries w h)) t ≡ false = ap (λ (l : List (Entry Event Reply)). is_among (threads_hatched l) t) (sym (own_more w x h same)) ∙ hatched in
           goes w t forks
-          (false_from_ne_true (is_among (hatched_by x.event) t) (λ a. both_ways (is_among (hatched_by x.event ++ hatched_in (own_entries w h)) t) now_and_before (among_front (hatched_by x.event) (hatched_in (own_entries w h)) t a)))
-          (false_from_ne_true (is_among (hatched_in (own_entries w h)) t) (λ a. both_ways (is_among (hatched_by x.event ++ hatched_in (own_entries w h)) t) now_and_before (among_back (hatched_by x.event) (hatched_in (own_entries w h)) t a))) can
+          (false_from_ne_true (is_among (hatched_by x.event) t) (λ a. both_ways (is_among (hatched_by x.event ++ threads_hatched (own_entries w h)) t) now_and_before (among_front (hatched_by x.event) (threads_hatched (own_entries w h)) t a)))
+          (false_from_ne_true (is_among (threads_hatched (own_entries w h)) t) (λ a. both_ways (is_among (hatched_by x.event ++ threads_hatched (own_entries w h)) t) now_and_before (among_back (hatched_by x.event) (threads_hatched (own_entries w h)) t a))) can
       unborn_after w t forks hatched (inr far) can =
-          goes w t forks (apart_from w t forks far) (ap (λ (l : List (Entry Event Reply)). is_among (hatched_in l) t) (sym (own_else w x h far)) ∙ hatched) can
+          goes w t forks (apart_from w t forks far) (ap (λ (l : List (Entry Event Reply)). is_among (threads_hatched l) t) (sym (own_else w x h far)) ∙ hatched) can
 
   -- the world at the start
-  start : IsLaid (IsPlaceAtStart s.cpus) s.cpus s.settings (ids s) (world_at_start s)
+  start : IsLaid (IsPlaceAtStart s.cpus) s.cpus s.settings (declared_ids_of s) (world_at_start s)
   start = start_laid s form
 
   -- what a fresh record keeps, each record keeps at the start
@@ -202,7 +202,7 @@ module _ (s : Setup) (form : IsOfForm s) where
     made = start.made;
     bounds = of_each KeepsBounds (λ r fresh. fresh.bounds);
     bound = of_each (λ r. IfSome r.bound (λ c. c < s.cpus)) (λ r fresh. fresh.bound);
-    parents = start_parents s (ids s);
+    parents = start_parents s (declared_ids_of s);
   }
 
   at_start : Shows (scheduler_with s (values_and_hands_at_start (sched_means s))) (world_at_start s) → IsReached [] (values_and_hands_at_start (sched_means s))
@@ -212,11 +212,11 @@ module _ (s : Setup) (form : IsOfForm s) where
     shows = shows;
     replays = replay_starts s start_is_world.made start_is_world.bounds;
     noted = noted_at_start (world_at_start s).members (of_each (λ r. IsBy starting_time r) (λ r fresh. fresh.by_now));
-    unborn = λ w t forks hatched. start_unborn s t form (among_passes (is_among s.unborn) (flat_map (λ script. flat_map forked_by script) s.scripts) t (setup_forks s).unborn (among_of_one forked_in [] refl s.scripts w t forks));
+    unborn = λ w t forks hatched. start_unborn s t form (among_passes (is_among s.unborn) (flat_map (λ script. flat_map forked_by script) s.scripts) t (setup_forks s).unborn (among_of_one threads_forked [] refl s.scripts w t forks));
   }
 
   -- every history in order whose entries were asked for leads to such a world
-  pub reached_by : Shows (scheduler_with s (values_and_hands_at_start (sched_means s))) (world_at_start s) → (h : List (Entry Event Reply)) (y : ValuesAndHands (Option ThreadRecord) LockValue)
+  reached_by : Shows (scheduler_with s (values_and_hands_at_start (sched_means s))) (world_at_start s) → (h : List (Entry Event Reply)) (y : ValuesAndHands (Option ThreadRecord) LockValue)
       → Leads (sched_means s) (values_and_hands_at_start (sched_means s)) h y → IsReached h y
   reached_by shows [] y leads = subst (IsReached []) (sym leads) (at_start shows)
   reached_by shows (x ∷ h) y (z, hand, after, leads, at, asked, follows, rules, is) = subst (IsReached (x ∷ h)) (sym is) (more h z (reached_by shows h z leads) x hand after at asked follows rules)
@@ -227,7 +227,7 @@ module _ (s : Setup) (form : IsOfForm s) where
 
   -- every such history is one of worlds
   pub of_worlds : Shows (scheduler_with s (values_and_hands_at_start (sched_means s))) (world_at_start s) → (h : List (Entry Event Reply)) (y : ValuesAndHands (Option ThreadRecord) LockValue)
-      → Leads (sched_means s) (values_and_hands_at_start (sched_means s)) h y → IsHistoryOfWorlds s (in_order h) y
+      → Leads (sched_means s) (values_and_hands_at_start (sched_means s)) h y → IsHistoryOfWorlds s (entries_in_order h) y
   of_worlds shows h y leads = let r = reached_by shows h y leads in record {
     workers = r.replays.workers;
     replies = r.replays.replies;
@@ -235,5 +235,5 @@ module _ (s : Setup) (form : IsOfForm s) where
     shows = subst (Shows (scheduler_with s y)) (sym r.replays.world) r.shows;
     made = r.replays.made;
     bounds = r.replays.bounds;
-    promise = promise_kept (world_at_start s) (in_order h) (start_calm s) r.replays.replies (subst (λ n. AllByRecursion (IsTickOfSome n) (in_order h)) (sym start.count) r.replays.ticks);
+    promise = promise_kept (world_at_start s) (entries_in_order h) (start_calm s) r.replays.replies (subst (λ n. AllByRecursion (IsTickOfSome n) (entries_in_order h)) (sym start.count) r.replays.ticks);
   }

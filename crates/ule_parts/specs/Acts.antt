@@ -41,11 +41,11 @@ IsUnderOne (chain channel) = Unit {0}
 IsUnderOne limbo = Unit {0}
 IsUnderOne (place_of t) = Unit {0}
 
--- word change: a change of a word as the step model has it
-abbrev pub word_change : Option words.WordChange → Option WordChange
-word_change None = None
-word_change (Some (words.block t)) = Some (Block t)
-word_change (Some (words.point t l)) = Some (Point t l)
+-- word change of: a change of a word as the step model has it
+abbrev pub word_change_of : Option words.WordChange → Option WordChange
+word_change_of None = None
+word_change_of (Some (words.block t)) = Some (Block t)
+word_change_of (Some (words.point t l)) = Some (Point t l)
 
 -- acted under one: what an event leaves of the hand and of one value, with its reply
 abbrev pub acted_under_one : Stepped → Acted (Option ThreadRecord) LockValue Reply

@@ -25,9 +25,9 @@ use Rattle.ule_parts.specs.Scheduler.{sched_means}
 abbrev pub world_entry : Entry Event Reply → types.Entry
 world_entry x = record { worker = x.worker; event = x.event; now = x.now; reply = x.reply }
 
--- in order: the entries of a history, the oldest first
-abbrev pub in_order : List (Entry Event Reply) → List types.Entry
-in_order h = map world_entry (reverse h)
+-- entries in order: those of a history, the oldest first
+abbrev pub entries_in_order : List (Entry Event Reply) → List types.Entry
+entries_in_order h = map world_entry (reverse h)
 
 -- scheduler with: the scheduler of a setup with these values under its locks and these hands
 abbrev pub scheduler_with : Setup → ValuesAndHands (Option ThreadRecord) LockValue → WorldValue
@@ -47,4 +47,4 @@ pub record IsHistoryOfWorlds (s : Setup) (es : List types.Entry) (y : ValuesAndH
 -- histories are of worlds: whatever the scheduler's values and hands went through, entry by entry, worlds went through, whatever the programs
 abbrev pub HistoriesAreOfWorlds : Type 0
 HistoriesAreOfWorlds = (s : Setup) (h : List (Entry Event Reply)) (y : ValuesAndHands (Option ThreadRecord) LockValue) → IsOfForm s
-    → Leads (sched_means s) (values_and_hands_at_start (sched_means s)) h y → IsHistoryOfWorlds s (in_order h) y
+    → Leads (sched_means s) (values_and_hands_at_start (sched_means s)) h y → IsHistoryOfWorlds s (entries_in_order h) y

@@ -13,7 +13,7 @@ use Rattle.ule_micro.specs.Courses.{LegalPlay, WorkerCourse}
 use Rattle.ule_micro.specs.Histories.{ValuesAndHands}
 use Rattle.ule_micro.specs.Laws.{AreOrders}
 use Rattle.ule_micro.specs.Standings.{rests}
-use Rattle.ule_parts.specs.Histories.{IsHistoryOfWorlds, in_order}
+use Rattle.ule_parts.specs.Histories.{IsHistoryOfWorlds, entries_in_order}
 use Rattle.ule_parts.specs.Scheduler.{sched_means}
 use Rattle.ule_parts.specs.Workers.{Worker}
 
@@ -31,9 +31,9 @@ AreAtTheirEnds lists courses = (w : ℕ) (c : WorkerCourse Worker Event Reply) �
 
 -- is played legally: the entries are a legal history of the lists, through worlds of which the values and hands show the last, and a whole one where the workers are at their ends
 pub record IsPlayedLegally (s : Setup) (lists : List (List Command)) (h : List (Entry Event Reply)) (values : List LockValue) (courses : List (WorkerCourse Worker Event Reply)) : Type 0 where
-  pub legal : IsLegal s lists (in_order h)
-  pub worlds : IsHistoryOfWorlds s (in_order h) (values_and_hands_of values courses)
-  pub whole : AreAtTheirEnds lists courses → IsWhole s lists (in_order h)
+  pub legal : IsLegal s lists (entries_in_order h)
+  pub worlds : IsHistoryOfWorlds s (entries_in_order h) (values_and_hands_of values courses)
+  pub whole : AreAtTheirEnds lists courses → IsWhole s lists (entries_in_order h)
 
 -- plays are legal: each legal play of the scheduler's values, whatever its orders, is a legal history of worlds
 abbrev pub PlaysAreLegal : Type 0

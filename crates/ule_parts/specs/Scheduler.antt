@@ -23,9 +23,9 @@ use Rattle.ule_model.specs.WorldValue.{Shows, WorldValue, held_by, if_thread}
 use Rattle.ule_rounds.proofs.Stages.{HasDeclaredParent}
 use Rattle.ule_micro.specs.declared.locks.TheConstants.{LIMBO}
 use Rattle.ule_micro.specs.Means.{Means}
-use Rattle.ule_micro.specs.Laws.{total}
-use Rattle.ule_parts.specs.Acts.{AreAt, IsUnderOne, act_on, needs_of, todo_of, word_change}
-use Rattle.ule_parts.specs.Workers.{AsksFor, IsValid, Stands, Worker, ids, left_at, owns_from}
+use Rattle.ule_micro.specs.Laws.{total_charge}
+use Rattle.ule_parts.specs.Acts.{AreAt, IsUnderOne, act_on, needs_of, todo_of, word_change_of}
+use Rattle.ule_parts.specs.Workers.{AsksFor, IsValid, Stands, Worker, declared_ids_of, left_at, owns_from}
 
 -- lock or limbo: the lock of a place, or limbo's where there is none
 abbrev pub lock_or_limbo : Option ℕ → ℕ
@@ -39,7 +39,7 @@ module _ (s : Setup) where
 
   -- budget of: the greatest number of items of a worker's script
   abbrev pub budget_of : ℕ → ℕ
-  budget_of w = total (λ c. greatest_of c w s.cpus) (orders_of w)
+  budget_of w = total_charge (λ c. greatest_of c w s.cpus) (orders_of w)
 
   -- opening word: the lock that a thread's word names at the start
   abbrev pub opening_word : ℕ → ℕ
@@ -49,11 +49,11 @@ module _ (s : Setup) where
   pub record IsWorldOf (x : World) : Type 0 where
     pub settings : x.settings ≡ s.settings
     pub lines : length x.lines ≡ s.cpus
-    pub numbers : numbers_of x.members ≡ ids s
+    pub numbers : numbers_of x.members ≡ declared_ids_of s
     pub made : IsWellMadeWorld x
     pub bounds : KeepsRecords x
     pub bound : AllByRecursion (λ m. IfSome m.thread.bound (λ c. c < s.cpus)) x.members
-    pub parents : AllByRecursion (HasDeclaredParent (ids s)) x.members
+    pub parents : AllByRecursion (HasDeclaredParent (declared_ids_of s)) x.members
 
   -- may act: some scheduler shows such a world, in which the event is possible, with this hand and these values under the event's locks
   pub record MayAct (w : ℕ) (e : Event) (now : ℕ) (hand : Option ThreadRecord) (guarded : List LockValue) : Type 0 where
@@ -69,7 +69,7 @@ module _ (s : Setup) where
   -- sched means: what the parts mean for the scheduler of a setup
   abbrev pub sched_means : Means (Option ThreadRecord) Worker LockValue Event Reply Command
   sched_means = record {
-    declared = λ t. is_among (ids s) t;
+    declared = λ t. is_among (declared_ids_of s) t;
     stands_in = has_under;
     carried_in = λ hand t. is_some (if_thread t hand);
     values = (opening_scheduler s).values;
@@ -83,7 +83,7 @@ module _ (s : Setup) where
     asks = AsksFor s;
     may = MayAct;
     act = act_on s.settings;
-    change = λ e r. word_change (change_of e r);
+    change = λ e r. word_change_of (change_of e r);
     valid = IsValid s;
     charge = λ w c. greatest_of c w s.cpus;
     stands = Stands s;

@@ -27,13 +27,13 @@ pub record Worker : Type 0 where
   pub program : Own
   pub hand : Option ThreadRecord
 
--- hatched in: the threads that these entries hatched
-abbrev pub hatched_in : List (Entry Event Reply) → List ℕ
-hatched_in mine = flat_map (λ x. hatched_by x.event) mine
+-- threads hatched: the threads that these entries hatched
+abbrev pub threads_hatched : List (Entry Event Reply) → List ℕ
+threads_hatched mine = flat_map (λ x. hatched_by x.event) mine
 
--- forked in: the threads that these commands fork
-abbrev pub forked_in : List Command → List ℕ
-forked_in given = flat_map forked_by given
+-- threads forked: the threads that these commands fork
+abbrev pub threads_forked : List Command → List ℕ
+threads_forked given = flat_map forked_by given
 
 -- stage at: the stage at which a worker's next item is found
 abbrev pub stage_at : Own → Standing Event Reply → Stage
@@ -56,36 +56,36 @@ IsItem own (standing.has (todo.Advance k)) = (own.stage ≡ stage.Ended) × (is_
 IsItem own rests = own.stage ≡ stage.Ended
 
 module _ (s : Setup) where
-  -- ids: the numbers of the declared threads
-  abbrev pub ids : List ℕ
-  ids = declared_ids s.threads s.unborn
+  -- declared ids of: the numbers of the declared threads
+  abbrev pub declared_ids_of : List ℕ
+  declared_ids_of = declared_ids s.threads s.unborn
 
   -- forks of: the threads that a worker's script forks
   abbrev pub forks_of : ℕ → List ℕ
-  forks_of w = forked_in (slice_index_or s.scripts w [])
+  forks_of w = threads_forked (slice_index_or s.scripts w [])
 
   -- hand fits: the hand is as the event needs it; a thread to hatch is one that the worker's script forks, and not yet hatched
   abbrev pub HandFits : ℕ → List (Entry Event Reply) → Option ThreadRecord → Handling → Type 0
   HandFits w mine hand any = Unit {0}
   HandFits w mine hand empty = hand ≡ None
-  HandFits w mine hand (unborn t) = (hand ≡ None) × (is_among (forks_of w) t ≡ true) × (is_among (hatched_in mine) t ≡ false)
+  HandFits w mine hand (unborn t) = (hand ≡ None) × (is_among (forks_of w) t ≡ true) × (is_among (threads_hatched mine) t ≡ false)
   HandFits w mine hand (has t) = is_some (if_thread t hand) ≡ true
 
   -- asks for: a worker with these own entries and this hand may ask for the event, which is under one lock
   pub record AsksFor (w : ℕ) (mine : List (Entry Event Reply)) (hand : Option ThreadRecord) (e : Event) : Type 0 where
     pub below : w < s.cpus
     pub alone : IsUnderOne (locking e)
-    pub names : NamesWhatIs ids s.cpus e
+    pub names : NamesWhatIs declared_ids_of s.cpus e
     pub fits : HandFits w mine hand (handling e)
 
   -- stands at: what a worker keeps at a stage, with the commands begun and the entries made so far
   pub record StandsAt (j : Journal Event Reply Command) (o : Worker) (st : Stage) : Type 0 where
     pub below : o.program.worker < s.cpus
     pub hand : (t : ℕ) → is_some (if_thread t o.hand) ≡ is_number t (in_hand st)
-    pub sound : IsSoundStage ids s.cpus st
+    pub sound : IsSoundStage declared_ids_of s.cpus st
     pub forks : (t : ℕ) → is_among (hatching st) t ≡ true
-        → (is_among (forks_of o.program.worker) t ≡ true) × (is_among (forked_in j.given) t ≡ true) × (is_among (hatched_in j.mine) t ≡ false)
-    pub given : (t : ℕ) → is_among (hatched_in j.mine) t ≡ true → is_among (forked_in j.given) t ≡ true
+        → (is_among (forks_of o.program.worker) t ≡ true) × (is_among (threads_forked j.given) t ≡ true) × (is_among (threads_hatched j.mine) t ≡ false)
+    pub given : (t : ℕ) → is_among (threads_hatched j.mine) t ≡ true → is_among (threads_forked j.given) t ≡ true
 
   -- stands: what a worker keeps where it stands
   abbrev pub Stands : Journal Event Reply Command → Worker → Standing Event Reply → Type 0
@@ -93,8 +93,8 @@ module _ (s : Setup) where
 
   -- is valid: the command is one of the setup's, and a thread that it forks is one that the worker's script forks, and was not forked before
   pub record IsValid (w : ℕ) (given : List Command) (c : Command) : Type 0 where
-    pub command : is_command ids s.cpus c ≡ true
-    pub forks : (t : ℕ) → is_among (forked_by c) t ≡ true → (is_among (forks_of w) t ≡ true) × (is_among (forked_in given) t ≡ false)
+    pub command : is_command declared_ids_of s.cpus c ≡ true
+    pub forks : (t : ℕ) → is_among (forked_by c) t ≡ true → (is_among (forks_of w) t ≡ true) × (is_among (threads_forked given) t ≡ false)
 
   -- owns from: the own parts of so many workers at the start, the first being of this number
   abbrev pub owns_from : ℕ → ℕ → List Worker
