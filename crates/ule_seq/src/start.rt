@@ -47,7 +47,8 @@ impl World {
     /// needs; without that memory there is no world.
     pub fn start(alloc: Global, s: &Setup) -> Result<World, Memory>
         requires { IsOfForm s.now }
-        ensures { IfOk result (λ v. Shows v (world_at_start s.now)) }
+        ensures value { IfOk result (λ v. v ≡ opening_scheduler s.now) }
+        ensures shows { IfOk result (λ v. Shows v (world_at_start s.now)) }
     {
         let values = opening_values(alloc, s)?;
         let hands = empty_hands(alloc, s.cpus)?;

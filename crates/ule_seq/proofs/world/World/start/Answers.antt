@@ -17,5 +17,8 @@ invariant_of-result c =
       shown = (world_at_start c.args.s.now, shows);
     }
 
-pub returns : goal.returns
-returns c = made_show c.args.s.now c.in_ok-values.values.items c.in_ok-hands.hands.items c.requires c.in_ok-values.ensures c.in_ok-hands.ensures
+pub returns-clause-shows : goal.returns-clause-shows
+returns-clause-shows c = made_show c.args.s.now c.in_ok-values.values.items c.in_ok-hands.hands.items c.requires c.in_ok-values.ensures c.in_ok-hands.ensures
+
+pub returns-clause-value : goal.returns-clause-value
+returns-clause-value c = λ i. record { settings = c.args.s.now.settings; values = c.in_ok-values.ensures i; hands = c.in_ok-hands.ensures i }
