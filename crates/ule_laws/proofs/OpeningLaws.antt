@@ -1,7 +1,7 @@
 -- The opening values of a setup and empty hands show the world at the start; and what starts as it is told is an opening value.
-use Rattle.std.proofs.Common.{◌≡◌, ℕ, zero, suc, ◌+◌, ◌-◌, ◌<◌, ◌≤◌, ◌==◌, nat_lt, Bool, true, false, List, [], ◌∷◌, ◌++◌, length, map, replicate, take, slice_get, slice_index_or, Option, Some, None, IfSome, if◌then◌else◌, refl, sym, ◌∙◌, ap, subst, arith}
+use Rattle.std.proofs.Common.{◌≡◌, ◌≢◌, ℕ, zero, suc, ◌+◌, ◌-◌, ◌<◌, ◌≤◌, ◌==◌, nat_lt, Bool, true, false, List, [], ◌∷◌, ◌++◌, length, map, replicate, take, slice_get, slice_index_or, Option, Some, None, IfSome, if◌then◌else◌, ⊎_elim, refl, sym, ◌∙◌, ap, subst, arith}
 use Rattle.std.specs.List.{range_with_len}
-use Rattle.std.proofs.lemmas.Bool.{cond-false, cond-true, cond_both, eq-eqb, ltb-false, ltb-true, ne_eqb}
+use Rattle.std.proofs.lemmas.Bool.{cases_eq, cond-false, cond-true, cond_both, eq-eqb, ltb-false, ltb-true, ne_eqb}
 use Rattle.std.proofs.lemmas.List.{length-replicate, take_all}
 use Rattle.std.proofs.lemmas.List.Elements.{filter_more}
 use Rattle.std.proofs.lemmas.List.FromFn.{length-map-range_with_len}
@@ -17,7 +17,7 @@ use Rattle.ule_types.specs.declared.setup.Setup.{Setup}
 use Rattle.ule_types.specs.declared.setup.ThreadSpec.{ThreadSpec}
 use Rattle.ule_model.specs.CpuStart.{StartsAs}
 use Rattle.ule_model.specs.CpuValue.{CpuValue, value_laid}
-use Rattle.ule_model.specs.LockValue.{chain, limbo, nothing, queue}
+use Rattle.ule_model.specs.LockValue.{LockValue, chain, limbo, nothing, queue}
 use Rattle.ule_model.specs.OpeningValues.{balance_word_before, bare_chain, bare_cpu, bare_limbo, declared_on, opening_limbo, opening_queue, opening_scheduler, opening_value, with_all_laid, with_all_unborn}
 use Rattle.ule_model.specs.Start.{record_of, unborn_record, world_at_start}
 use Rattle.ule_model.specs.WorldValue.{IsLimboOf, IsQueueOf, Shows, StandsUnder}
@@ -131,6 +131,18 @@ module _ (s : Setup) (c : ℕ) where
           (λ same. queue_further k spec at ∙ cond-true (spec.cpu == c) (value_laid (record_of s.settings spec) (queue_so_far k)) (queue_so_far k) (eq-eqb spec.cpu c (sym same)))
           (λ far. queue_further k spec at ∙ cond-false (spec.cpu == c) (value_laid (record_of s.settings spec) (queue_so_far k)) (queue_so_far k) (ne_eqb spec.cpu c (λ same. far (sym same)))) was
 
+  -- it stands there where there is a further declared thread
+  pub queue_opened_at : IsOfForm s → c < s.cpus → (k : ℕ) (spec : ThreadSpec) → slice_get s.threads k ≡ Some spec → IsQueueOf (laid_first s k) c (queue_so_far k)
+  queue_opened_at form within k spec at = queue_opens form within k (let low = slice_get_within s.threads k spec at in omega arith)
+
+  -- what lays a declared thread on its own CPU, and leaves every other, lays one more
+  pub queue_lays : (k : ℕ) (spec : ThreadSpec) → slice_get s.threads k ≡ Some spec → (v new : CpuValue) → v ≡ queue_so_far k → (c ≡ spec.cpu → new ≡ value_laid (record_of s.settings spec) v) → (c ≢ spec.cpu → new ≡ v)
+      → new ≡ queue_so_far (k + 1)
+  queue_lays k spec at v new is own elsewhere = ⊎_elim
+      (λ (same : c ≡ spec.cpu). own same ∙ (ap (value_laid (record_of s.settings spec)) is ∙ sym (queue_further k spec at ∙ cond-true (spec.cpu == c) _ (queue_so_far k) (eq-eqb spec.cpu c (sym same)))))
+      (λ (far : c ≡ spec.cpu → ⊥). elsewhere far ∙ (is ∙ sym (queue_further k spec at ∙ cond-false (spec.cpu == c) _ (queue_so_far k) (ne_eqb spec.cpu c (λ same. far (sym same))))))
+      (cases_eq c spec.cpu)
+
   -- with all declared threads it is the opening queue
   pub all_queued : (k : ℕ) → length s.threads ≤ k → queue_so_far k ≡ opening_queue s c
   all_queued k all = ap (λ specs. with_all_laid s (declared_on c specs) (bare_cpu s c)) (take_all k s.threads all)
@@ -182,6 +194,10 @@ module _ (s : Setup) where
       further None at was = absurd (none_within s.unborn k at (omega (arith, few)))
       further (Some t) at was = subst (IsLimboOf (unborn_first s (k + 1)) 24) (sym (limbo_further k t at)) (limbo_next s k t (limbo_so_far k) form at was)
 
+  -- it stands there where there is a further unborn thread
+  pub limbo_opened_at : IsOfForm s → (k t : ℕ) → slice_get s.unborn k ≡ Some t → IsLimboOf (unborn_first s k) 24 (limbo_so_far k)
+  limbo_opened_at form k t at = limbo_opens form k (let low = slice_get_within s.unborn k t at in omega arith)
+
   -- with all unborn threads it is the opening limbo
   pub all_unborn : (k : ℕ) → length s.unborn ≤ k → limbo_so_far k ≡ opening_limbo s
   all_unborn k all = ap (λ ts. with_all_unborn ts bare_limbo) (take_all k s.unborn all)
@@ -222,3 +238,28 @@ module _ (s : Setup) where
       where
         from_zero : (l : ℕ) → 0 + l ≡ l
         from_zero l = omega arith
+
+-- ---- what an opening value is, by its lock
+
+module _ (s : Setup) (l : ℕ) where
+  -- under the queue lock of a CPU that there is
+  pub opens_queue : l < s.cpus → queue (opening_queue s l) ≡ opening_value s l
+  opens_queue low = cond_both (nat_lt l s.cpus) (queue (opening_queue s l)) _ (λ v. queue (opening_queue s l) ≡ v) (λ within. refl) (λ past. absurd (let z = ltb-false l s.cpus past in omega arith))
+
+  module _ (past : s.cpus ≤ l) where
+    past_queues : (v : LockValue) → v ≡ (if nat_lt l 16 then nothing else if nat_lt l 24 then chain (bare_chain (l - 16)) else limbo (opening_limbo s)) → v ≡ opening_value s l
+    past_queues v is = cond_both (nat_lt l s.cpus) (queue (opening_queue s l)) _ (λ u. v ≡ u) (λ within. absurd (let z = ltb-true l s.cpus within in omega arith)) (λ fails. is)
+
+    -- under that of a CPU that there isn't
+    pub opens_nothing : l < 16 → nothing ≡ opening_value s l
+    opens_nothing low = past_queues nothing (cond_both (nat_lt l 16) nothing _ (λ u. nothing ≡ u) (λ within. refl) (λ fails. absurd (let z = ltb-false l 16 fails in omega arith)))
+
+    -- under that of a sleep chain
+    pub opens_chain : 16 ≤ l → l < 24 → chain (bare_chain (l - 16)) ≡ opening_value s l
+    opens_chain from low = past_queues (chain (bare_chain (l - 16))) (cond_both (nat_lt l 16) nothing _ (λ u. chain (bare_chain (l - 16)) ≡ u) (λ within. absurd (let z = ltb-true l 16 within in omega arith))
+        (λ fails. cond_both (nat_lt l 24) (chain (bare_chain (l - 16))) _ (λ u. chain (bare_chain (l - 16)) ≡ u) (λ within. refl) (λ none. absurd (let z = ltb-false l 24 none in omega arith))))
+
+    -- under that of limbo
+    pub opens_limbo : 24 ≤ l → limbo (opening_limbo s) ≡ opening_value s l
+    opens_limbo from = past_queues (limbo (opening_limbo s)) (cond_both (nat_lt l 16) nothing _ (λ u. limbo (opening_limbo s) ≡ u) (λ within. absurd (let z = ltb-true l 16 within in omega arith))
+        (λ fails. cond_both (nat_lt l 24) (chain (bare_chain (l - 16))) _ (λ u. limbo (opening_limbo s) ≡ u) (λ within. absurd (let z = ltb-true l 24 within in omega arith)) (λ none. refl)))

@@ -1,7 +1,7 @@
 -- Lines that are set in rising number, and the lines of the CPUs that the locks guard.
-use Rattle.std.proofs.Common.{◌≡◌, ℕ, suc, ◌+◌, ◌<◌, ◌≤◌, Bool, true, false, nat_lt, List, [], ◌∷◌, ◌++◌, drop, filter, length, take, slice_get, slice_index_or, Option, Some, None, IfSome, if◌then◌else◌, option_to_list, refl, sym, ◌∙◌, ap, subst, append-nil, length-append, take-append-drop, take_all, get_or, map, arith}
+use Rattle.std.proofs.Common.{◌≡◌, ℕ, suc, ◌+◌, ◌<◌, ◌≤◌, Bool, true, false, nat_lt, List, [], ◌∷◌, ◌++◌, drop, filter, length, take, slice_get, slice_index_or, Option, Some, None, IfSome, if◌then◌else◌, option_to_list, refl, sym, ◌∙◌, ap, subst, append-nil, length-append, take-append-drop, take_all, get_or, arith}
 use Rattle.std.specs.List.{AllByRecursion, cons_option, filter_map, range_with_len}
-use Rattle.std.proofs.lemmas.List.{drop-map, drop_all, drop_more, map_more, take-map}
+use Rattle.std.proofs.lemmas.List.{drop_all, drop_more, take_more}
 use Rattle.std.proofs.lemmas.List.Elements.{filter_map-append}
 use Rattle.ule_score.specs.declared.record.CpuLine.{CpuLine}
 use Rattle.ule_types.specs.Outcome.{OutcomeValue, placed, with_cpu}
@@ -13,10 +13,6 @@ use Rattle.ule_model.specs.WorldValue.{IsShown, Shows, StandsUnder, WorldValue, 
 use Rattle.ule_laws.proofs.TellLaws.{lines_shown}
 use Rattle.ule_members.proofs.Within.{all-append, all_along}
 use Rattle.ule_rounds.proofs.RoundsLaws.{range_push}
-use Rattle.ule_seq.specs.Locks.{lock_value}
-use Rattle.ule_seq.specs.Worlds.{world_value}
-use Rattle.ule_seq.specs.declared.world.World.TheInside.{Inside}
-use Rattle.ule_seq.specs.declared.lock.Guarded.{Guarded}
 use Rattle.ule_seq.specs.Outcomes.{HasFinals, queue_line, queue_lines}
 
 -- ---- the lines of threads
@@ -123,33 +119,21 @@ cpu_lines_shown v w shows =
     queue_lines_from w 0 v.values shows.cpus (omega (arith, shows.cpus, shows.locks))
     (λ k. subst (λ (i : ℕ). IfSome (slice_get v.values k) (StandsUnder w i)) (let e : k ≡ 0 + k = omega arith in e) (shows.under k))
 
--- a scheduler's values are those of the locks in its fields
-pub values_shown : (w : Inside) (v : WorldValue) (items : List Guarded) → world_value w ≡ v → items ≡ w.values.items → v.values ≡ map lock_value items
-values_shown w v items is same = ap (λ (u : WorldValue). u.values) (sym is) ∙ ap (map lock_value) (sym same)
-
 -- the value of the next lock is the first of those from it on
-pub value_next : (values : List LockValue) (items : List Guarded) (i : ℕ) (x : Guarded) →
-    values ≡ map lock_value items → i < length items → x ≡ get_or items i x → drop i values ≡ lock_value x ∷ drop (i + 1) values
-value_next values items i x shown below at =
-    ap (drop i) shown ∙ drop-map lock_value i items ∙ ap (map lock_value) (drop_more items i x below) ∙
-    ap (λ (g : Guarded). lock_value g ∷ map lock_value (drop (i + 1) items)) (sym at) ∙
-    ap (λ (vs : List LockValue). lock_value x ∷ vs) (sym (ap (drop (i + 1)) shown ∙ drop-map lock_value (i + 1) items))
+pub value_next : (values items : List LockValue) (i : ℕ) (x : LockValue) → values ≡ items → i < length items → x ≡ get_or items i x → drop i values ≡ x ∷ drop (i + 1) values
+value_next values items i x shown below at = ap (drop i) shown ∙ drop_more items i x below ∙ (λ j. sym at j ∷ drop (i + 1) (sym shown j))
 
 -- the line of a thread from the next lock on is that under it, or else that behind it
-pub line_next : (values : List LockValue) (items : List Guarded) (i : ℕ) (x : Guarded) (t : ℕ) (o : Option ThreadLine) →
-    values ≡ map lock_value items → i < length items → x ≡ get_or items i x → line_under (lock_value x) t ≡ o →
+pub line_next : (values items : List LockValue) (i : ℕ) (x : LockValue) (t : ℕ) (o : Option ThreadLine) →
+    values ≡ items → i < length items → x ≡ get_or items i x → line_under x t ≡ o →
     line_among (drop i values) t ≡ first_found o (line_among (drop (i + 1) values) t)
 line_next values items i x t o shown below at told =
     ap (λ (vs : List LockValue). line_among vs t) (value_next values items i x shown below at) ∙
     ap (λ (p : Option ThreadLine). first_found p (line_among (drop (i + 1) values) t)) told
 
 -- the value of the next lock is the last of those up to it
-pub value_last : (values : List LockValue) (items : List Guarded) (i : ℕ) (x : Guarded) →
-    values ≡ map lock_value items → i < length items → x ≡ get_or items i x → take (i + 1) values ≡ take i values ++ lock_value x ∷ []
-value_last values items i x shown below at =
-    ap (take (i + 1)) shown ∙ take-map lock_value (i + 1) items ∙ map_more lock_value items i x below ∙
-    ap (λ (g : Guarded). map lock_value (take i items) ++ lock_value g ∷ []) (sym at) ∙
-    ap (λ (vs : List LockValue). vs ++ lock_value x ∷ []) (sym (ap (take i) shown ∙ take-map lock_value i items))
+pub value_last : (values items : List LockValue) (i : ℕ) (x : LockValue) → values ≡ items → i < length items → x ≡ get_or items i x → take (i + 1) values ≡ take i values ++ x ∷ []
+value_last values items i x shown below at = ap (take (i + 1)) shown ∙ take_more items i x below ∙ (λ j. take i (sym shown j) ++ sym at j ∷ [])
 
 -- fewer than 16 CPUs are told of before one that is still to be told
 pub queue_lines_room : (v : WorldValue) (i : ℕ) (x : LockValue) (rest : List LockValue) (l : CpuLine) →

@@ -1,5 +1,5 @@
 -- The first of some values that passes a test, looked for from the front on.
-use Rattle.std.proofs.Common.{◌≡◌, ℕ, suc, ◌+◌, Bool, true, false, not, cond, List, [], ◌∷◌, length, map, Option, Some, None, nat_lt, refl, sym, ◌∙◌, ap, arith}
+use Rattle.std.proofs.Common.{◌≡◌, ℕ, suc, ◌+◌, Bool, true, false, not, cond, List, [], ◌∷◌, length, Option, Some, None, nat_lt, refl, sym, ◌∙◌, ap, arith}
 use Rattle.std.specs.List.{position, position_from, position_or_len}
 use Rattle.std.specs.Option.{option_map}
 use Rattle.std.proofs.lemmas.Bool.Decides.{nat_tests}
@@ -29,14 +29,9 @@ from_is_place {X = X} p i (x ∷ xs) = split (p x) (from_is_place p (i + 1) xs)
         rest ∙ later (nat_lt (position_or_len p xs) (length xs)) (position_or_len p xs) ∙
         ap (λ (b : Bool). option_map (λ k. i + k) (cond b (Some (1 + position_or_len p xs)) None)) (sym (one_more (position_or_len p xs) (length xs)))
 
--- the place of a list's values from i on is that of what they are made of
-from_mapped : {X Y : Type 0} (p : Y → Bool) (f : X → Y) (i : ℕ) (xs : List X) → position_from p i (map f xs) ≡ position_from (λ x. p (f x)) i xs
-from_mapped p f i [] = refl
-from_mapped p f i (x ∷ xs) = ap (λ (o : Option ℕ). cond (p (f x)) (Some i) o) (from_mapped p f (i + 1) xs)
-
--- the place among values is the place from the front on among what they are made of
-pub front_place : {X Y : Type 0} (p : Y → Bool) (f : X → Y) (xs : List X) → position p (map f xs) ≡ position_from (λ x. p (f x)) 0 xs
-front_place p f xs = sym (from_is_place p 0 (map f xs) ∙ same (position p (map f xs))) ∙ from_mapped p f 0 xs
+-- the place in a list is the place from the front on
+pub front_place : {X : Type 0} (p : X → Bool) (xs : List X) → position p xs ≡ position_from p 0 xs
+front_place p xs = sym (from_is_place p 0 xs ∙ same (position p xs))
   where
     same : (o : Option ℕ) → option_map (λ k. 0 + k) o ≡ o
     same None = refl

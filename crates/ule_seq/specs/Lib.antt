@@ -3,6 +3,5 @@ pub mod Locks
 pub mod Calls
 pub mod Worlds
 pub mod Readiness
-pub mod Starting
 pub mod Outcomes
 pub mod Playing

@@ -1,10 +1,11 @@
 -- What a lock guards, as the model has it.
 use Rattle.ule_model.specs.LockValue.{LockValue, chain, limbo, nothing, queue}
-use Rattle.ule_seq.specs.declared.lock.Guarded.{Guarded}
-use Rattle.ule_seq.specs.declared.lock.Guarded.TheVariants.{Queue, Chain, Limbo, Nothing}
+use Rattle.ule_seq.specs.declared.lock.Contents.{Contents}
+use Rattle.ule_seq.specs.declared.lock.Contents.TheVariants.{Queue, Chain, Limbo, Nothing}
 
-abbrev pub lock_value : Guarded → LockValue
-lock_value (Queue v) = queue v
-lock_value (Chain v) = chain v
-lock_value (Limbo v) = limbo v
-lock_value Nothing = nothing
+-- contents value: what is under a lock, as the model has it
+abbrev pub contents_value : Contents → LockValue
+contents_value (Queue v) = queue v
+contents_value (Chain v) = chain v
+contents_value (Limbo v) = limbo v
+contents_value Nothing = nothing

@@ -1,13 +1,11 @@
 ghost use Rattle.std.specs.Prelude.{◌≡◌, ◌≤◌, [], IfSome, option_and_then};
 ghost use Rattle.std.specs.List.{filter_map, range_with_len};
 ghost use Rattle.ule_model.specs.WorldValue.{held_line, line_among, line_at, line_in_hands};
-ghost use Rattle.ule_seq.specs.Locks.{lock_value};
-ghost use Rattle.ule_seq.specs.Outcomes.{HasFinals, IsBare, queue_line, queue_lines};
+ghost use Rattle.ule_seq.specs.Outcomes.{HasFinals, IsBare, queue_lines};
 
-use crate::lock::Guarded;
 use crate::world::World;
 use ule_prio::{Cpu, ThreadId};
-use ule_score::{CpuLine, Place, ThreadRecord};
+use ule_score::{Place, ThreadRecord};
 use ule_tdq::line_of;
 use ule_types::{Outcome, ThreadLine};
 
@@ -44,7 +42,7 @@ impl World {
         ensures { out.new ≡ record out.old { cpus = queue_lines self.now.values } }
     {
         for guarded in &self.values {
-            if let Some(line) = queue_line(guarded) {
+            if let Some(line) = guarded.cpu_line() {
                 let next = out.cpus().len() as u8;
                 out.set_cpu(Cpu(next), line);
             }
@@ -86,16 +84,6 @@ impl World {
             }
         }
         None
-    }
-}
-
-/// The line of the CPU that a lock guards, if it guards one.
-fn queue_line(guarded: &Guarded) -> Option<CpuLine>
-    ensures { result ≡ queue_line (lock_value guarded.now) }
-{
-    match guarded {
-        Guarded::Queue(tdq) => Some(tdq.line()),
-        Guarded::Chain(_) | Guarded::Limbo(_) | Guarded::Nothing => None,
     }
 }
 

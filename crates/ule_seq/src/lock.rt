@@ -1,4 +1,4 @@
-ghost use Rattle.std.specs.Prelude.{◌≡◌, ℕ, ◌%◌, ◌<◌, ◌≤◌, ◌^◌, not, ◌==◌, Option, None, Some, IfSome, IsSome, IsTrue};
+ghost use Rattle.std.specs.Prelude.{◌≡◌, ℕ, ◌%◌, ◌<◌, ◌≤◌, ◌^◌, not, ◌==◌, Option, None, Some, IfSome, IsNone, IsSome, IsTrue};
 ghost use Rattle.std.specs.Option.{option_map};
 ghost use Rattle.ule_model.specs.CpuChange.{value_changed};
 ghost use Rattle.ule_model.specs.CpuValue.{IsNoEarlier, thread_in, value_taken};
@@ -14,15 +14,16 @@ ghost use Rattle.ule_score.specs.Charges.{HasShortRun};
 ghost use Rattle.ule_score.specs.Settings.{are_settings};
 ghost use Rattle.ule_score.specs.declared.record.ThreadRecord.{ThreadRecord};
 ghost use Rattle.ule_threads.specs.declared.standing.Standing.{Standing};
-ghost use Rattle.ule_seq.specs.Locks.{lock_value};
+ghost use Rattle.ule_seq.specs.Outcomes.{queue_line};
 ghost use Rattle.ule_sleep.specs.Chain.{standing_in};
 ghost use Rattle.ule_sleep.specs.Limbo.{HasUnborn};
 ghost use Rattle.ule_tdq.specs.Replies.{changed_reply, reply_of, ticked_reply};
 
 use crate::hand::Hand;
+use std::marker::Model;
 use ule_prio::{Cpu, LockId, ThreadId};
 use ule_score::change::after_sleep;
-use ule_score::{Change, Changed, Place, Settings};
+use ule_score::{Change, Changed, CpuLine, Place, Settings};
 use ule_sleep::{Chain, Limbo};
 use ule_tdq::{Clocked, SwitchOut, Tdq, line_of};
 use ule_threads::Standing;
@@ -30,7 +31,13 @@ use ule_types::{Event, Reply, ThreadLine};
 
 /// What one lock guards.
 #[derive(Drop)]
-pub enum Guarded {
+pub struct Guarded {
+    contents: Contents,
+}
+
+/// The kinds of what one lock guards.
+#[derive(Drop)]
+enum Contents {
     /// The queue lock of a CPU guards the CPU, after `struct tdq`.
     Queue(Tdq),
     /// The lock of a sleep chain guards its sleepers, after `struct sleepqueue_chain`.
@@ -39,6 +46,15 @@ pub enum Guarded {
     Limbo(Limbo),
     /// The queue lock of a CPU that there isn't guards nothing.
     Nothing,
+}
+
+impl Model for Guarded {
+    ghost use Rattle.ule_model.specs.LockValue.{LockValue};
+    ghost use Rattle.ule_seq.specs.Locks.{contents_value};
+
+    ghost Value = { LockValue };
+
+    ghost view = { λ g. contents_value g.contents };
 }
 
 /// Performs an event of a worker on the value under its lock and on the worker's hand, and on
@@ -53,16 +69,16 @@ pub fn step_at(
     now: u64,
 ) -> Reply
     requires settings { IsTrue (are_settings settings.now) }
-    requires step { CanStepAt (lock_value guarded.old) hand.old e.now now }
-    ensures hand { hand.new ≡ (lock_step settings.now worker e.now now hand.old (lock_value guarded.old)).hand }
-    ensures value { lock_value guarded.new ≡ (lock_step settings.now worker e.now now hand.old (lock_value guarded.old)).value }
-    ensures reply { result ≡ (lock_step settings.now worker e.now now hand.old (lock_value guarded.old)).reply }
+    requires step { CanStepAt guarded.old hand.old e.now now }
+    ensures hand { hand.new ≡ (lock_step settings.now worker e.now now hand.old guarded.old).hand }
+    ensures value { guarded.new ≡ (lock_step settings.now worker e.now now hand.old guarded.old).value }
+    ensures reply { result ≡ (lock_step settings.now worker e.now now hand.old guarded.old).reply }
 {
-    match guarded {
-        Guarded::Queue(tdq) => step_queue(worker, hand, tdq, e, now),
-        Guarded::Chain(chain) => step_chain(settings, hand, chain, e, now),
-        Guarded::Limbo(limbo) => step_limbo(settings, hand, limbo, e),
-        Guarded::Nothing => Reply::Nothing,
+    match &mut guarded.contents {
+        Contents::Queue(tdq) => step_queue(worker, hand, tdq, e, now),
+        Contents::Chain(chain) => step_chain(settings, hand, chain, e, now),
+        Contents::Limbo(limbo) => step_limbo(settings, hand, limbo, e),
+        Contents::Nothing => Reply::Nothing,
     }
 }
 
@@ -459,28 +475,85 @@ fn standing_line(found: Option<Standing>, t: ThreadId) -> Option<ThreadLine>
 }
 
 impl Guarded {
+    /// What the queue lock of a CPU guards.
+    pub fn queue(tdq: Tdq) -> Guarded
+        ensures { result ≡ value.queue tdq }
+    {
+        Guarded {
+            contents: Contents::Queue(tdq),
+        }
+    }
+
+    /// What the lock of a sleep chain guards.
+    pub fn chain(chain: Chain) -> Guarded
+        ensures { result ≡ value.chain chain }
+    {
+        Guarded {
+            contents: Contents::Chain(chain),
+        }
+    }
+
+    /// What limbo's lock guards.
+    pub fn limbo(limbo: Limbo) -> Guarded
+        ensures { result ≡ value.limbo limbo }
+    {
+        Guarded {
+            contents: Contents::Limbo(limbo),
+        }
+    }
+
+    /// What the queue lock of a CPU guards that there isn't.
+    pub fn nothing() -> Guarded
+        ensures { result ≡ value.nothing }
+    {
+        Guarded {
+            contents: Contents::Nothing,
+        }
+    }
+
     /// Whether a thread is under this lock.
     pub fn has(&self, t: ThreadId) -> bool
-        ensures { result ≡ has_under (lock_value self.now) t }
+        ensures { result ≡ has_under self.now t }
     {
-        match self {
-            Guarded::Queue(tdq) => tdq.thread(t).is_some(),
-            Guarded::Chain(chain) => chain.standing(t).is_some(),
-            Guarded::Limbo(limbo) => limbo.standing(t).is_some(),
-            Guarded::Nothing => false,
+        match &self.contents {
+            Contents::Queue(tdq) => tdq.thread(t).is_some(),
+            Contents::Chain(chain) => chain.standing(t).is_some(),
+            Contents::Limbo(limbo) => limbo.standing(t).is_some(),
+            Contents::Nothing => false,
         }
     }
 
     /// What a trace tells of a thread that is under this lock.
     pub fn line(&self, t: ThreadId) -> Option<ThreadLine>
-        ensures line { result ≡ line_under (lock_value self.now) t }
+        ensures line { result ≡ line_under self.now t }
         ensures number { IfSome result (λ l. l.id ≡ t) }
     {
-        match self {
-            Guarded::Queue(tdq) => tdq.thread_line(t),
-            Guarded::Chain(chain) => standing_line(chain.standing(t), t),
-            Guarded::Limbo(limbo) => standing_line(limbo.standing(t), t),
-            Guarded::Nothing => None,
+        match &self.contents {
+            Contents::Queue(tdq) => tdq.thread_line(t),
+            Contents::Chain(chain) => standing_line(chain.standing(t), t),
+            Contents::Limbo(limbo) => standing_line(limbo.standing(t), t),
+            Contents::Nothing => None,
+        }
+    }
+
+    /// The CPU that this lock guards, if it guards one.
+    pub fn as_queue(&self) -> Option<&Tdq>
+        ensures found { IfSome result (λ q. self.now ≡ value.queue q.now) }
+        ensures none { IsNone result → queue_line self.now ≡ None }
+    {
+        match &self.contents {
+            Contents::Queue(tdq) => Some(tdq),
+            Contents::Chain(_) | Contents::Limbo(_) | Contents::Nothing => None,
+        }
+    }
+
+    /// What a trace tells of the CPU that this lock guards, if it guards one.
+    pub fn cpu_line(&self) -> Option<CpuLine>
+        ensures { result ≡ queue_line self.now }
+    {
+        match &self.contents {
+            Contents::Queue(tdq) => Some(tdq.line()),
+            Contents::Chain(_) | Contents::Limbo(_) | Contents::Nothing => None,
         }
     }
 }

@@ -1,9 +1,8 @@
 ghost use Rattle.std.specs.Prelude.{◌≡◌, ◌≢◌, ℕ, ◌+◌, ◌%◌, ◌^◌, ◌<◌, None, IfOk, IsTrue};
 ghost use Rattle.ule_model.specs.CpuValue.{thread_in, value_laid};
-ghost use Rattle.ule_model.specs.Start.{record_of, world_at_start};
-ghost use Rattle.ule_model.specs.WorldValue.{IsLimboOf, IsQueueOf, StandsUnder};
+ghost use Rattle.ule_model.specs.OpeningValues.{balance_word_before, opening_limbo, opening_queue, opening_value};
+ghost use Rattle.ule_model.specs.Start.{record_of};
 ghost use Rattle.ule_score.specs.Settings.{are_settings};
-ghost use Rattle.ule_seq.specs.Locks.{lock_value};
 ghost use Rattle.ule_types.specs.Form.{IsOfForm};
 
 use crate::lock::{FIRST_CHAIN_LOCK, Guarded, LIMBO_LOCK};
@@ -21,17 +20,17 @@ use ule_types::{Setup, ThreadSpec};
 /// isn't there. It takes all the memory that the lock's value ever needs.
 pub fn opening(alloc: Global, s: &Setup, l: LockId) -> Result<Guarded, Memory>
     requires { IsOfForm s.now }
-    ensures { IfOk result (λ g. StandsUnder (world_at_start s.now) l (lock_value g)) }
+    ensures { IfOk result (λ g. g ≡ opening_value s.now l) }
 {
     let l = l.0;
     if l < s.cpus {
-        Ok(Guarded::Queue(opening_queue(alloc, s, Cpu(l))?))
+        Ok(Guarded::queue(opening_queue(alloc, s, Cpu(l))?))
     } else if l < FIRST_CHAIN_LOCK {
-        Ok(Guarded::Nothing)
+        Ok(Guarded::nothing())
     } else if l < LIMBO_LOCK {
-        Ok(Guarded::Chain(Chain::start(alloc, l - FIRST_CHAIN_LOCK)?))
+        Ok(Guarded::chain(Chain::start(alloc, l - FIRST_CHAIN_LOCK)?))
     } else {
-        Ok(Guarded::Limbo(opening_limbo(alloc, s)?))
+        Ok(Guarded::limbo(opening_limbo(alloc, s)?))
     }
 }
 
@@ -39,7 +38,7 @@ pub fn opening(alloc: Global, s: &Setup, l: LockId) -> Result<Guarded, Memory>
 fn opening_queue(alloc: Global, s: &Setup, c: Cpu) -> Result<Tdq, Memory>
     requires form { IsOfForm s.now }
     requires there { c < s.now.cpus }
-    ensures { IfOk result (λ v. IsQueueOf (world_at_start s.now) c v) }
+    ensures { IfOk result (λ v. v ≡ opening_queue s.now c) }
 {
     let mut tdq = Tdq::start(alloc, c, &s.settings, balance_word(s.jitter))?;
     let specs = s.threads.as_slice();
@@ -71,7 +70,7 @@ fn lay_own(settings: &Settings, c: Cpu, spec: &ThreadSpec, tdq: &mut Tdq)
 /// Limbo with the unborn threads of a setup.
 fn opening_limbo(alloc: Global, s: &Setup) -> Result<Limbo, Memory>
     requires { IsOfForm s.now }
-    ensures { IfOk result (λ v. IsLimboOf (world_at_start s.now) 24 v) }
+    ensures { IfOk result (λ v. v ≡ opening_limbo s.now) }
 {
     let mut limbo = Limbo::start(alloc)?;
     let unborn = s.unborn.as_slice();

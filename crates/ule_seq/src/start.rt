@@ -1,7 +1,7 @@
-ghost use Rattle.std.specs.Prelude.{◌≤◌, IfOk};
+ghost use Rattle.std.specs.Prelude.{◌≡◌, None, replicate, IfOk};
+ghost use Rattle.ule_model.specs.OpeningValues.{opening_scheduler};
 ghost use Rattle.ule_model.specs.Start.{world_at_start};
 ghost use Rattle.ule_model.specs.WorldValue.{Shows};
-ghost use Rattle.ule_seq.specs.Starting.{AreEmptyHands, AreOpeningValues};
 ghost use Rattle.ule_types.specs.Form.{IsOfForm};
 
 use crate::hand::Hand;
@@ -16,7 +16,7 @@ use ule_types::Setup;
 /// What each lock guards at the start, by its number.
 fn opening_values(alloc: Global, s: &Setup) -> Result<Vec<Guarded>, Memory>
     requires { IsOfForm s.now }
-    ensures { IfOk result (λ values. AreOpeningValues s.now 25 values.items) }
+    ensures { IfOk result (λ values. values.items ≡ (opening_scheduler s.now).values) }
 {
     let mut values = Vec::new(alloc);
     for l in 0..LOCKS {
@@ -30,7 +30,7 @@ fn opening_values(alloc: Global, s: &Setup) -> Result<Vec<Guarded>, Memory>
 
 /// An empty hand for each of so many workers.
 fn empty_hands(alloc: Global, workers: u8) -> Result<Vec<Hand>, Memory>
-    ensures { IfOk result (λ hands. AreEmptyHands workers hands.items) }
+    ensures { IfOk result (λ hands. hands.items ≡ replicate workers None) }
 {
     let mut hands = Vec::new(alloc);
     for _worker in 0..workers {
@@ -47,7 +47,8 @@ impl World {
     /// needs; without that memory there is no world.
     pub fn start(alloc: Global, s: &Setup) -> Result<World, Memory>
         requires { IsOfForm s.now }
-        ensures { IfOk result (λ v. Shows v (world_at_start s.now)) }
+        ensures value { IfOk result (λ v. v ≡ opening_scheduler s.now) }
+        ensures shows { IfOk result (λ v. Shows v (world_at_start s.now)) }
     {
         let values = opening_values(alloc, s)?;
         let hands = empty_hands(alloc, s.cpus)?;

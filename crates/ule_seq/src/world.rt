@@ -81,10 +81,7 @@ impl World {
         ensures found { IfSome result (λ q. slice_get self.now.values c ≡ Some (queue q.now)) }
         ensures none { IsNone result → option_and_then queue_line (slice_get self.now.values c) ≡ None }
     {
-        match self.values.get(usize::from(c.0)) {
-            Some(Guarded::Queue(tdq)) => Some(tdq),
-            _ => None,
-        }
+        self.values.get(usize::from(c.0))?.as_queue()
     }
 
     /// The lock under which an event is performed, where there is one: the fixed lock of the event,

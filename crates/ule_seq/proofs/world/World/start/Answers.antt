@@ -1,12 +1,12 @@
 -- The parts show the world at the start.
 use Rattle.std.proofs.Common.{IsTrue, refl, sym, subst, arith}
 use Rattle.ule_model.specs.Start.{world_at_start}
-use Rattle.ule_seq.proofs.StartingLaws.{parts_show}
+use Rattle.ule_seq.proofs.StartingLaws.{made_show}
 use Rattle.ule_seq.proofs.world.World.start.Goals as goal
 
 pub invariant_of-result : goal.invariant_of-result
 invariant_of-result c =
-    let shows = parts_show c.args.s.now (record { settings = c.args.s.now.settings; values = c.in_ok-values.values; hands = c.in_ok-hands.hands }) c.requires refl c.in_ok-values.ensures c.in_ok-hands.ensures in
+    let shows = made_show c.args.s.now c.in_ok-values.values.items c.in_ok-hands.hands.items c.requires c.in_ok-values.ensures c.in_ok-hands.ensures in
     let few = shows.cpus in
     let workers = shows.workers in
     let counted = c.in_ok-hands.hands.ok.0 in
@@ -16,6 +16,8 @@ invariant_of-result c =
       shown = (world_at_start c.args.s.now, shows);
     }
 
-pub returns : goal.returns
-returns c =
-    parts_show c.args.s.now (record { settings = c.args.s.now.settings; values = c.in_ok-values.values; hands = c.in_ok-hands.hands }) c.requires refl c.in_ok-values.ensures c.in_ok-hands.ensures
+pub returns-clause-shows : goal.returns-clause-shows
+returns-clause-shows c = made_show c.args.s.now c.in_ok-values.values.items c.in_ok-hands.hands.items c.requires c.in_ok-values.ensures c.in_ok-hands.ensures
+
+pub returns-clause-value : goal.returns-clause-value
+returns-clause-value c = λ i. record { settings = c.args.s.now.settings; values = c.in_ok-values.ensures i; hands = c.in_ok-hands.ensures i }
