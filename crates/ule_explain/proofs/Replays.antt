@@ -10,7 +10,7 @@ use Rattle.ule_types.specs.declared.event.Reply.{Reply}
 use Rattle.ule_types.specs.declared.setup.Setup.{Setup}
 use Rattle.ule_model.specs.Events.{is_ready}
 use Rattle.ule_model.specs.Legal.{after_entry, replayed}
-use Rattle.ule_model.specs.Program.{Course, next_step}
+use Rattle.ule_program.specs.Courses.{Course, next_step}
 use Rattle.ule_model.specs.Rounds.{Play, after_item, entry_of, greatest_rounds, opening, performed, play_of, turn}
 use Rattle.ule_model.specs.Start.{world_at_start}
 use Rattle.ule_model.specs.Throughout.{HoldsOfEach}

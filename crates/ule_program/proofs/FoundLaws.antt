@@ -32,8 +32,8 @@ without_rest c mask d below out = ap (λ m. has_cpu m d) (sym (without_cpu_read 
 -- ---- searches
 
 -- a CPU of so many, of a mask
-abbrev pub IsOf : ℕ → ℕ → ℕ → Type 0
-IsOf n mask c = (c < n) × (has_cpu mask c ≡ true)
+abbrev pub IsCpuOf : ℕ → ℕ → ℕ → Type 0
+IsCpuOf n mask c = (c < n) × (has_cpu mask c ≡ true)
 
 high_in : (group mask : ℕ) (looks : List Summary) (at_least c : ℕ) → may_be_highest group mask looks at_least c ≡ true → has_cpu mask c ≡ true
 unfolding may_be_highest
@@ -50,19 +50,19 @@ low_in group mask looks above limit c may =
     (and_parts (has_cpu group c && has_cpu mask c && int_lt above (pos (look_at looks c).lowpri)) (nat_le (look_at looks c).load limit) may).0).0).1
 
 -- highest finds a CPU that was looked at, of the mask
-pub highest_of : (t : Tree) (g : ℕ) (looks : List Summary) (mask at_least x : ℕ) → IfSome (highest t g looks mask at_least x) (IsOf (length looks) mask)
+pub highest_of : (t : Tree) (g : ℕ) (looks : List Summary) (mask at_least x : ℕ) → IfSome (highest t g looks mask at_least x) (IsCpuOf (length looks) mask)
 highest_of t g looks mask at_least x = at_cpu (highest t g looks mask at_least x) (highest_greatest t g looks mask at_least x)
   where
-    at_cpu : (o : Option ℕ) → FindsHighest t g looks mask at_least x o → IfSome o (IsOf (length looks) mask)
+    at_cpu : (o : Option ℕ) → FindsHighest t g looks mask at_least x o → IfSome o (IsCpuOf (length looks) mask)
     at_cpu None best = tt
     at_cpu (Some c) best = (best.there, high_in (mask_of t g) mask looks at_least c best.fit)
 
 -- so does lowest
 pub lowest_of : (t : Tree) (g : ℕ) (looks : List Summary) (mask : ℕ) (above : ℤ) (limit : ℕ) (prefer : Option ℕ) (x : ℕ) →
-    IfSome (lowest t g looks mask above limit prefer x) (IsOf (length looks) mask)
+    IfSome (lowest t g looks mask above limit prefer x) (IsCpuOf (length looks) mask)
 lowest_of t g looks mask above limit prefer x = at_cpu (lowest t g looks mask above limit prefer x) (lowest_least t g looks mask above limit prefer x)
   where
-    at_cpu : (o : Option ℕ) → FindsLowest t g looks mask above limit prefer x o → IfSome o (IsOf (length looks) mask)
+    at_cpu : (o : Option ℕ) → FindsLowest t g looks mask above limit prefer x o → IfSome o (IsCpuOf (length looks) mask)
     at_cpu None best = tt
     at_cpu (Some c) best = (best.there, low_in (mask_of t g) mask looks above limit c best.fit)
 
@@ -76,7 +76,7 @@ module _ (t : Tree) (card : Card) (looks : List Summary) (own now : ℕ) (here :
   low_there : (g : ℕ) (above : ℤ) (x : ℕ) → IsThere (lowest_above t card looks g above x)
   low_there g above x = at_cpu (lowest_above t card looks g above x) (lowest_of t g looks (all_cpus t.cpus) above (2 ^ 32 - 1) (Some card.last) x)
     where
-      at_cpu : (o : Option ℕ) → IfSome o (IsOf (length looks) (all_cpus t.cpus)) → IsThere o
+      at_cpu : (o : Option ℕ) → IfSome o (IsCpuOf (length looks) (all_cpus t.cpus)) → IsThere o
       at_cpu None is = tt
       at_cpu (Some c) is = is.0
 
@@ -135,12 +135,12 @@ module _ (t : Tree) (looks : List Summary) (few : length looks ≤ 16) where
       word : ℕ
       word = word_after_search looks x
 
-      with_taker : (high : ℕ) (mask : ℕ) → high < length looks → has_cpu mask high ≡ false → (o : Option ℕ) → IfSome o (IsOf (length looks) mask) →
+      with_taker : (high : ℕ) (mask : ℕ) → high < length looks → has_cpu mask high ≡ false → (o : Option ℕ) → IfSome o (IsCpuOf (length looks) mask) →
           IfSome (pair_with high o) (IsPairOf (length looks))
       with_taker high mask there out None is = tt
       with_taker high mask there out (Some low) is = (there, is.0, apart high low mask out is.1)
 
-      at_cpu : (o : Option ℕ) → IfSome o (IsOf (length looks) m.donors) → IsSoundPlanned (length looks) (offer_of t looks m word o)
+      at_cpu : (o : Option ℕ) → IfSome o (IsCpuOf (length looks) m.donors) → IsSoundPlanned (length looks) (offer_of t looks m word o)
       at_cpu None is = (tt, sound)
       at_cpu (Some high) is =
           let mask = without_cpu high m.donors in
@@ -165,7 +165,7 @@ module _ (t : Tree) (looks : List Summary) (few : length looks ≤ 16) where
       none_kept : IsPlanOf (length looks) (record m { high = None })
       none_kept h same = absurd (none-some h same)
 
-      at_low : (high : ℕ) → m.high ≡ Some high → (o : Option ℕ) → IfSome o (IsOf (length looks) m.takers) →
+      at_low : (high : ℕ) → m.high ≡ Some high → (o : Option ℕ) → IfSome o (IsCpuOf (length looks) m.takers) →
           IsSoundPlanned (length looks) (offer_again t looks m word high o)
       at_low high is None low_is =
           cond_both m.fresh (plan_ended m word) (offer_anew t looks (record m { high = None }) word) (IsSoundPlanned (length looks))

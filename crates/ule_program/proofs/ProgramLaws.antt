@@ -26,10 +26,10 @@ use Rattle.ule_pick.specs.declared.choice.Card.{Card}
 use Rattle.ule_balance.specs.Plan.{IsPairOf, opening_plan, plan_next, plan_told}
 use Rattle.ule_balance.specs.declared.plan.Masks.{Masks}
 use Rattle.ule_program.specs.Hearing.{Allows, ChargesSoundly, IsGroupOf, IsPlanOf, IsPurposeBy, IsSeat, IsSoundCard, IsSoundNext, IsSoundPurpose, is_of_drop, is_of_exit, is_of_hatch, is_of_wake}
-use Rattle.ule_program.specs.Laws.{CommandsLead, LeadsTo, RepliesLead, IsSoundGiving, IsNextBy, NamesWhatIs, dropped_in, exited_in, hand_left, hatched_in, woken_in}
-use Rattle.ule_program.specs.Program.{Own, Next, Ends, Balances, Beds, Lands, Forks, LandsChild, Buries, Charges, Sees, Steals, Moves, Purpose, ToLand, ToSteal, ToBalance, balancing, gives, hand_for, hand_in, has_moved, is_stolen, landing, lands_on, lands_unless, looked, looks_for, most_after, most_for, moves, moves_pair, saw, searched, steals, steals_from, stops, summary_in, used}
+use Rattle.ule_program.specs.Laws.{CommandsLead, LeadsTo, RepliesLead, IsSoundGiving, IsNextBy, NamesWhatIs, dropped_in, exited_in, hand_by_word, hatched_in, woken_in}
+use Rattle.ule_program.specs.Program.{Own, Next, Ends, Balances, Beds, Lands, Forks, LandsChild, Buries, Charges, Sees, Steals, Moves, Purpose, ToLand, ToSteal, ToBalance, balancing, gives, hand_for, hand_in, has_moved, is_stolen, landing, lands_on, lands_unless, looked, looks_for, most_after, most_for, moves, moves_pair, saw, searched, steals, steals_from, stops, summary_in, uses_looks}
 use Rattle.ule_program.specs.Sets.{cpus_in}
-use Rattle.ule_program.proofs.FoundLaws.{IsOf, IsSoundPlanned, cpus_most, cpus_without, highest_of, opening_sound, pick_there, plan_next_sound, plan_told_sound, without_own, without_rest}
+use Rattle.ule_program.proofs.FoundLaws.{IsCpuOf, IsSoundPlanned, cpus_most, cpus_without, highest_of, opening_sound, pick_there, plan_next_sound, plan_told_sound, without_own, without_rest}
 use Rattle.ule_program.proofs.GroupLaws.{deepest_group, outward_groups}
 
 -- ---- the hand at an item
@@ -62,11 +62,11 @@ item_seeks _ next = tt
 -- ---- the hand after a reply
 
 -- what a taken thread leaves in the hand
-blocks_left : (taken : Option ℕ) → hand_left empty (blocks taken) None ≡ taken
+blocks_left : (taken : Option ℕ) → hand_by_word empty (blocks taken) None ≡ taken
 blocks_left None = refl
 blocks_left (Some t) = refl
 
-hatch_left : (t : ℕ) (taken : Option ℕ) → hand_left (unborn t) (blocks taken) None ≡ taken
+hatch_left : (t : ℕ) (taken : Option ℕ) → hand_by_word (unborn t) (blocks taken) None ≡ taken
 hatch_left t None = refl
 hatch_left t (Some u) = refl
 
@@ -117,7 +117,7 @@ module _ (declared : ℕ → Bool) (now : ℕ) where
 
   -- the last event of a command
   to_last : (own : Own) (e : Event) (n : ℕ) → NamesWhatIs declared own.topology.cpus e →
-      ((r : Reply) → hand_left (handling e) (change_of e r) (hand_for Ends (handling e)) ≡ None) → 1 ≤ n →
+      ((r : Reply) → hand_by_word (handling e) (change_of e r) (hand_for Ends (handling e)) ≡ None) → 1 ≤ n →
       LeadsTo declared own.worker own.topology now n 0 (hatched_by e) (hand_for Ends (handling e)) (gives e Ends own)
   to_last own e n names leaves some =
       to_event own e Ends n tt (record { names = names; charges = tt; hand = λ r time is. leaves r; allows = λ r time is by. tt }) tt (omega (arith, some))
@@ -167,7 +167,7 @@ module _ (declared : ℕ → Bool) (now : ℕ) where
       at_cpu (highest own.topology g own.looks mask own.steal own.jitter) (highest_of own.topology g own.looks mask own.steal own.jitter)
       (to_steals mask gs (searched own) seat n all groups.1 out few)
     where
-      at_cpu : (o : Option ℕ) → IfSome o (IsOf (length own.looks) mask) → LeadsTo declared own.worker own.topology now n 0 [] None (steals mask gs (searched own)) →
+      at_cpu : (o : Option ℕ) → IfSome o (IsCpuOf (length own.looks) mask) → LeadsTo declared own.worker own.topology now n 0 [] None (steals mask gs (searched own)) →
           LeadsTo declared own.worker own.topology now n 0 [] None (steals_from mask g o (steals mask gs) (searched own))
       at_cpu None of further = further
       at_cpu (Some v) of further =
@@ -216,7 +216,7 @@ module _ (declared : ℕ → Bool) (now : ℕ) where
 
   -- the use of the looks at all CPUs
   to_used : (own : Own) → IsSeat own.worker own.topology → (purpose : Purpose) (n : ℕ) → length own.looks ≡ own.topology.cpus → IsSoundPurpose own.topology.cpus purpose →
-      most_for purpose own.topology.cpus ≤ n → LeadsTo declared own.worker own.topology now n 0 [] (hand_in (Sees purpose)) (used purpose now own)
+      most_for purpose own.topology.cpus ≤ n → LeadsTo declared own.worker own.topology now n 0 [] (hand_in (Sees purpose)) (uses_looks purpose now own)
   to_used own seat (ToLand u card) n all sound few =
       let picked = pick own.topology card own.looks own.worker now own.jitter in
       to_lands (record own { jitter = picked.word }) u picked.cpu n
@@ -244,7 +244,7 @@ module _ (declared : ℕ → Bool) (now : ℕ) where
       IsPurposeBy now purpose → own.topology.cpus - length own.looks + most_for purpose own.topology.cpus ≤ n →
       LeadsTo declared own.worker own.topology now n 0 [] (hand_in (Sees purpose)) (looked purpose now own)
   to_looked own seat purpose n within sound by few =
-      cond_both (nat_lt (length own.looks) own.topology.cpus) (gives (Look (length own.looks)) (Sees purpose) own) (used purpose now own)
+      cond_both (nat_lt (length own.looks) own.topology.cpus) (gives (Look (length own.looks)) (Sees purpose) own) (uses_looks purpose now own)
       (LeadsTo declared own.worker own.topology now n 0 [] (hand_in (Sees purpose)))
       (λ is. let more : length own.looks < own.topology.cpus = ltb-true (length own.looks) own.topology.cpus is in
       to_look own purpose (length own.looks) n more more sound by few)

@@ -66,13 +66,13 @@ IsSoundNext own (Steals v g mask) = IsSoundSteal own.worker own.topology own.loo
 IsSoundNext own (Moves plan low left) = IsSoundMoving own.topology.cpus own.looks plan low
 IsSoundNext own next = Unit {0}
 
--- so of a stage
+-- the event at a stage, if it has one, is followed by what names CPUs and groups that there are
 abbrev pub IsSoundStage : Own → Stage → Type 0
 IsSoundStage own Ended = Unit {0}
 IsSoundStage own (Advances k) = Unit {0}
 IsSoundStage own (Gives e next) = IsSoundNext own next
 
--- what every program keeps
+-- what every program keeps: its seat, and a stage that names CPUs and groups that there are
 pub record IsSoundOwn (own : Own) : Type 0 where
   pub seat : IsSeat own.worker own.topology
   pub stage_is : IsSoundStage own own.stage
@@ -103,21 +103,24 @@ abbrev pub IsSmallLook : Reply → Type 0
 IsSmallLook (Seen load movable low) = (load ≤ 256) × (movable ≤ 256)
 IsSmallLook r = Unit {0}
 
--- whether a reply is one of a drop, of a wake, of a hatch, of an exit
+-- whether a reply is one of a drop
 abbrev pub is_of_drop : Reply → Bool
 is_of_drop Nothing = true
 is_of_drop (Dropped out into) = true
 is_of_drop r = false
 
+-- whether a reply is one of a wake
 abbrev pub is_of_wake : Reply → Bool
 is_of_wake (NotAsleep place) = true
 is_of_wake (Woken p bound last last_run) = true
 is_of_wake r = false
 
+-- whether a reply is one of a hatch
 abbrev pub is_of_hatch : Reply → Bool
 is_of_hatch Hatched = true
 is_of_hatch r = false
 
+-- whether a reply is one of an exit
 abbrev pub is_of_exit : Reply → Bool
 is_of_exit Nothing = true
 is_of_exit (Exited out into parent run) = true
@@ -154,13 +157,13 @@ pub record CanFollow (own : Own) (next : Next) (r : Reply) (now : ℕ) : Type 0 
   pub sound : IsSoundNext own next
   pub allows : Allows (λ t. true) own.worker own.topology.cpus next r now
 
--- so at a stage
+-- a program at a stage can go on from a reply at a time
 abbrev pub CanHearAt : Own → Stage → Reply → ℕ → Type 0
 CanHearAt own Ended r now = Unit {0}
 CanHearAt own (Advances k) r now = Unit {0}
 CanHearAt own (Gives e next) r now = CanFollow own next r now
 
--- what it may be told at a stage
+-- a reply that a program at a stage may be told at a time
 abbrev pub AllowsAt : Own → Stage → Reply → ℕ → Type 0
 AllowsAt own Ended r now = Unit {0}
 AllowsAt own (Advances k) r now = Unit {0}

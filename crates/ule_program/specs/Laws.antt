@@ -15,25 +15,28 @@ use Rattle.ule_program.specs.Program.{Own, Next, Beds, Lands, Forks, LandsChild,
 -- ---- the hand
 
 -- the thread in hand after an event that needs the hand so, by the change of a word
-abbrev pub hand_left : Handling → Option WordChange → Option ℕ → Option ℕ
-hand_left any change hand = hand
-hand_left needs None hand = hand
-hand_left needs (Some (block t)) hand = Some t
-hand_left needs (Some (point t l)) hand = None
+abbrev pub hand_by_word : Handling → Option WordChange → Option ℕ → Option ℕ
+hand_by_word any change hand = hand
+hand_by_word needs None hand = hand
+hand_by_word needs (Some (block t)) hand = Some t
+hand_by_word needs (Some (point t l)) hand = None
 
--- the thread that went to the hand, by the reply to a drop, a wake, a hatch and an exit
+-- the thread that went to the hand, by the reply to a drop
 abbrev pub dropped_in : Reply → Option ℕ
 dropped_in (Dropped out into) = Some out
 dropped_in r = None
 
+-- the thread that went to the hand, by the reply to its wake
 abbrev pub woken_in : ℕ → Reply → Option ℕ
 woken_in t (Woken p bound last last_run) = Some t
 woken_in t r = None
 
+-- the thread that went to the hand, by the reply to its hatch
 abbrev pub hatched_in : ℕ → Reply → Option ℕ
 hatched_in t Hatched = Some t
 hatched_in t r = None
 
+-- the thread that went to the hand, by the reply to an exit
 abbrev pub exited_in : Reply → Option ℕ
 exited_in (Exited out into parent run) = Some out
 exited_in r = None
@@ -68,15 +71,16 @@ IsNextBy now next = Unit {0}
 pub record IsSoundGiving (declared : ℕ → Bool) (worker cpus : ℕ) (e : Event) (next : Next) : Type 0 where
   pub names : NamesWhatIs declared cpus e
   pub charges : IsNamedNext declared next
-  pub hand : (r : Reply) (now : ℕ) → IsReplyTo declared cpus now e r → hand_left (handling e) (change_of e r) (hand_for next (handling e)) ≡ hand_after next r
+  pub hand : (r : Reply) (now : ℕ) → IsReplyTo declared cpus now e r → hand_by_word (handling e) (change_of e r) (hand_for next (handling e)) ≡ hand_after next r
   pub allows : (r : Reply) (now : ℕ) → IsReplyTo declared cpus now e r → IsNextBy now next → Allows declared worker cpus next r now
 
--- so of a stage; an amount of time is in range
+-- the event at a stage is a sound giving, and an amount of time is in range
 abbrev pub IsNamedAt : (ℕ → Bool) → ℕ → ℕ → Stage → Type 0
 IsNamedAt declared worker cpus Ended = Unit {0}
 IsNamedAt declared worker cpus (Advances k) = is_within 1 1000000 k ≡ true
 IsNamedAt declared worker cpus (Gives e next) = IsSoundGiving declared worker cpus e next
 
+-- at a stage, a thread that is to land after looks ran no later than now
 abbrev pub IsStageBy : ℕ → Stage → Type 0
 IsStageBy now Ended = Unit {0}
 IsStageBy now (Advances k) = Unit {0}
@@ -84,12 +88,13 @@ IsStageBy now (Gives e next) = IsNextBy now next
 
 -- ---- where a worker comes to
 
--- the time that a stage adds, and the thread that it is to hatch
+-- the time that a stage adds
 abbrev pub time_at : Stage → ℕ
 time_at Ended = 0
 time_at (Advances k) = k
 time_at (Gives e next) = 0
 
+-- the thread that the event at a stage hatches, if it hatches one
 abbrev pub hatching : Stage → List ℕ
 hatching Ended = []
 hatching (Advances k) = []

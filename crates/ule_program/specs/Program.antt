@@ -146,15 +146,15 @@ summary_in (Seen load movable low) = record { load = load; movable = movable; lo
 summary_in r = empty_summary
 
 -- the looks are used
-abbrev pub used : Purpose → ℕ → Own → Own
-used (ToLand t card) now own = lands_picked t card now own
-used ToSteal now own = idles own
-used ToBalance now own = balances own
+abbrev pub uses_looks : Purpose → ℕ → Own → Own
+uses_looks (ToLand t card) now own = lands_picked t card now own
+uses_looks ToSteal now own = idles own
+uses_looks ToBalance now own = balances own
 
 -- the next CPU is looked at, or the looks are used
 abbrev pub looked : Purpose → ℕ → Own → Own
 looked purpose now own =
-    if nat_lt (length own.looks) own.topology.cpus then gives (Look (length own.looks)) (Sees purpose) own else used purpose now own
+    if nat_lt (length own.looks) own.topology.cpus then gives (Look (length own.looks)) (Sees purpose) own else uses_looks purpose now own
 
 -- a look is kept
 abbrev pub saw : Summary → Own → Own

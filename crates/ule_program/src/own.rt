@@ -3,7 +3,7 @@ ghost use Rattle.ule_topo.specs.Build.{lone_root};
 ghost use Rattle.ule_topo.specs.Tree.{outward};
 ghost use Rattle.ule_program.specs.Groups.{topology_of};
 ghost use Rattle.ule_program.specs.Hearing.{CanFollow, CanHear, CanHearAt, IsGroupOf, IsPlanOf, IsPurposeBy, IsSeat, IsSmallLook, IsSoundCard, IsSoundLooking, IsSoundMoving, IsSoundOwn, IsSoundPurpose, IsSoundSteal};
-ghost use Rattle.ule_program.specs.Program.{after, balancing, begun, heard, idles, item_at, landing, lands_on, lands_picked, looks_for, moves, next_of, once_given, own_of_setup, steals, used};
+ghost use Rattle.ule_program.specs.Program.{after, balancing, begun, heard, idles, item_at, landing, lands_on, lands_picked, looks_for, moves, next_of, once_given, own_of_setup, steals, uses_looks};
 ghost use Rattle.ule_program.specs.declared.stage.Next.TheVariants.{Balances, Lands, LandsChild, Moves, Sees, Steals};
 ghost use Rattle.ule_program.specs.declared.stage.Stage.TheVariants.{Gives};
 
@@ -236,7 +236,7 @@ impl Own {
         requires all { length self.old.looks ≡ self.old.topology.cpus }
         requires sound { IsSoundPurpose self.old.topology.cpus purpose.now }
         requires by { IsPurposeBy now purpose.now }
-        ensures { self.new ≡ used purpose.now now self.old }
+        ensures { self.new ≡ uses_looks purpose.now now self.old }
     {
         match *purpose {
             Purpose::ToLand(t, card) => self.land_picked(t, &card, now),

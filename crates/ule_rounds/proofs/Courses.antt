@@ -17,7 +17,7 @@ use Rattle.ule_types.specs.declared.event.Reply.{Reply}
 use Rattle.ule_topo.specs.Tree.{Tree}
 use Rattle.ule_program.specs.Courses.{Course, course_of, next_in, next_step, or_else, stepped}
 use Rattle.ule_program.specs.Hearing.{Allows, AllowsAt, IsReplyTo, IsSeat}
-use Rattle.ule_program.specs.Laws.{IsStageBy, LeadsTo, NamesWhatIs, hand_after, hand_left, hatching, time_at}
+use Rattle.ule_program.specs.Laws.{IsStageBy, LeadsTo, NamesWhatIs, hand_after, hand_by_word, hatching, time_at}
 use Rattle.ule_program.specs.Program.{after, after_giving, begun, in_hand, item_at, most, most_after, next_of, once_given, told_last}
 use Rattle.ule_program.specs.declared.own.Own.{Own}
 use Rattle.ule_program.specs.declared.stage.Stage.{Stage}
@@ -126,17 +126,19 @@ item_goes_on (c ∷ cs) own i is = ap (λ o. or_else (stepped (c ∷ cs) o (once
 abbrev pub greatest_in : ℕ → ℕ → List Command → ℕ
 greatest_in cpus worker script = sum_by (λ c. greatest_of c worker cpus) script
 
--- the greatest number of items that a worker still has, and the time that it still adds
+-- the greatest number of items that a worker still has
 abbrev pub left_from : ℕ → List Command → Own → ℕ
 left_from cpus script own = most own + greatest_in cpus own.worker script
 
+-- the time that a worker still adds
 abbrev pub time_from : List Command → Own → ℕ
 time_from script own = time_at own.stage + amount_in script
 
--- so of a course
+-- the greatest number of items that a course still has
 abbrev pub left_of : ℕ → Course → ℕ
 left_of cpus course = left_from cpus course.script (told_at course)
 
+-- the time that a course still adds
 abbrev pub time_of : Course → ℕ
 time_of course = time_from course.script (told_at course)
 
@@ -305,12 +307,12 @@ module _ (ids : List ℕ) (worker : ℕ) (t : Tree) (seat : IsSeat worker t) (no
   -- where the reply to a worker's event leads
   led_from : (left amount : ℕ) (hand : Option ℕ) (ahead : List ℕ) (script : List Command) (own : Own) (e : Event) (next : Next) (r : Reply) →
       IsOrderly ids worker t now left amount hand ahead script (record own { stage = Gives e next }) → IsReplyTo (is_among ids) t.cpus now e r →
-      LeadsTo (is_among ids) worker t now (most_after next (record own { stage = Gives e next })) 0 [] (hand_left (handling e) (change_of e r) hand)
+      LeadsTo (is_among ids) worker t now (most_after next (record own { stage = Gives e next })) 0 [] (hand_by_word (handling e) (change_of e r) hand)
       (after next r now (record own { stage = Gives e next }))
   led_from left amount hand ahead script own e next r orderly says =
       let at : Own = record own { stage = Gives e next } in
       subst (λ h. LeadsTo (is_among ids) worker t now (most_after next at) 0 [] h (after next r now at))
-      (sym (orderly.leads.named.hand r now says) ∙ ap (hand_left (handling e) (change_of e r)) orderly.leads.hand)
+      (sym (orderly.leads.named.hand r now says) ∙ ap (hand_by_word (handling e) (change_of e r)) orderly.leads.hand)
       (subst (λ w. LeadsTo (is_among ids) w t now (most_after next at) 0 [] (hand_after next r) (after next r now at)) orderly.leads.same_worker
       (subst (λ s. LeadsTo (is_among ids) own.worker s now (most_after next at) 0 [] (hand_after next r) (after next r now at)) orderly.leads.same_topology
       (to_after (is_among ids) at next r now (seat_of ids worker t seat now own orderly.leads.same_worker orderly.leads.same_topology) orderly.leads.sound orderly.leads.named.charges
@@ -322,7 +324,7 @@ module _ (ids : List ℕ) (worker : ℕ) (t : Tree) (seat : IsSeat worker t) (no
   told_from : (course : Course) (script : List Command) (own : Own) (st : Stage) (e : Event) (r : Reply) →
       IsOrderly ids worker t now (left_of t.cpus course) (time_of course) (held_at course) (forks_ahead course) script (record own { stage = st }) →
       item_at st ≡ Some (item.Event e) → IsReplyTo (is_among ids) t.cpus now e r →
-      GoesOnAs ids worker t now 0 (hatched_by e) (hand_left (handling e) (change_of e r) (held_at course)) course
+      GoesOnAs ids worker t now 0 (hatched_by e) (hand_by_word (handling e) (change_of e r) (held_at course)) course
       (record { script = script; own = once_given (record own { stage = st }); last = Some (r, now) })
   told_from course script own Ended e r orderly is says = absurd (none-some (item.Event e) is)
   told_from course script own (Advances k) e r orderly is says = absurd (advance_no_event k e is)
@@ -330,8 +332,8 @@ module _ (ids : List ℕ) (worker : ℕ) (t : Tree) (seat : IsSeat worker t) (no
       let same : f ≡ e = cc in
       let back : e ≡ f = cc in
       let reached : Course = record { script = script; own = record own { stage = Gives f next }; last = Some (r, now) } in
-      subst (λ x. GoesOnAs ids worker t now 0 (hatched_by x) (hand_left (handling x) (change_of x r) (held_at course)) course reached) same
-      (went_on ids worker t now course reached 0 (hatched_by f) (held_at course) (hand_left (handling f) (change_of f r) (held_at course)) (record own { stage = Gives f next })
+      subst (λ x. GoesOnAs ids worker t now 0 (hatched_by x) (hand_by_word (handling x) (change_of x r) (held_at course)) course reached) same
+      (went_on ids worker t now course reached 0 (hatched_by f) (held_at course) (hand_by_word (handling f) (change_of f r) (held_at course)) (record own { stage = Gives f next })
       (most_after next (record own { stage = Gives f next })) orderly
       (led_from (left_of t.cpus course) (time_of course) (held_at course) (forks_ahead course) script own f next r orderly (subst (λ x. IsReplyTo (is_among ids) t.cpus now x r) back says))
       (omega arith) refl refl)
@@ -339,9 +341,9 @@ module _ (ids : List ℕ) (worker : ℕ) (t : Tree) (seat : IsSeat worker t) (no
   -- a course that is told the reply to its next event goes on
   pub course_told : (course : Course) (e : Event) (after : Course) (r : Reply) → IsNextItem ids worker t now course (item.Event e) after →
       IsReplyTo (is_among ids) t.cpus now e r →
-      GoesOnAs ids worker t now 0 (hatched_by e) (hand_left (handling e) (change_of e r) (held_at course)) course (record after { last = Some (r, now) })
+      GoesOnAs ids worker t now 0 (hatched_by e) (hand_by_word (handling e) (change_of e r) (held_at course)) course (record after { last = Some (r, now) })
   course_told course e after r next says =
-      subst (λ a. GoesOnAs ids worker t now 0 (hatched_by e) (hand_left (handling e) (change_of e r) (held_at course)) course (record a { last = Some (r, now) })) (sym next.gone)
+      subst (λ a. GoesOnAs ids worker t now 0 (hatched_by e) (hand_by_word (handling e) (change_of e r) (held_at course)) course (record a { last = Some (r, now) })) (sym next.gone)
       (told_from course next.script next.own next.own.stage e r next.holds next.item says)
 
   -- a worker that has its next advance of time goes on

@@ -8,7 +8,7 @@ use Rattle.ule_types.specs.Words.{WordChange, block, blocks, change_of, point, t
 use Rattle.ule_types.specs.declared.event.Event.{Event}
 use Rattle.ule_types.specs.declared.event.Event.TheVariants.{Bed, Bury, Drop, Exit, Hatch, Land, Return, Wake}
 use Rattle.ule_program.specs.Courses.{Course}
-use Rattle.ule_program.specs.Laws.{hand_left}
+use Rattle.ule_program.specs.Laws.{hand_by_word}
 use Rattle.ule_model.specs.Conditions.{HasEmptyHand, IsHandled, IsPossible}
 use Rattle.ule_model.specs.Events.{Handling, any, empty, handling, has, has_handled, holder_of, is_no_others, is_own, is_unborn_thread, unborn}
 use Rattle.ule_model.specs.Frames.{thread_in_hand}
@@ -107,7 +107,7 @@ module _ (w : World) (worker : ℕ) (e : Event) (now : ℕ) (hand : Option ℕ) 
 
   -- what look-up in the hand finds, by the change of a word
   hand_changes : (needs : Handling) (change : Option WordChange) → FitsChange needs change hand → (u : ℕ) (old : Bool) → old ≡ is_number u hand →
-      in_hand_after change u old ≡ is_number u (hand_left needs change hand)
+      in_hand_after change u old ≡ is_number u (hand_by_word needs change hand)
   hand_changes any None fits u old was = was
   hand_changes any (Some change) fits u old was = absurd fits
   hand_changes _ None fits u old was = was
@@ -124,7 +124,7 @@ module _ (w : World) (worker : ℕ) (e : Event) (now : ℕ) (hand : Option ℕ) 
 
   -- the hand after the step of an event, by look-up, is the one that the change of a word leaves
   pub hand_follows : FitsHand hand (handling e) → ((u : ℕ) → is_some (thread_in_hand worker u w.members) ≡ is_number u hand) →
-      (u : ℕ) → is_some (thread_in_hand worker u (step w worker e now).0.members) ≡ is_number u (hand_left (handling e) (change_of e (step w worker e now).1) hand)
+      (u : ℕ) → is_some (thread_in_hand worker u (step w worker e now).0.members) ≡ is_number u (hand_by_word (handling e) (change_of e (step w worker e now).1) hand)
   hand_follows fits was u =
       step_own_hand w worker e now made can u ∙
       hand_changes (handling e) (change_of e (step w worker e now).1) (change_fits e fits) u (is_some (thread_in_hand worker u w.members)) (was u)
@@ -132,7 +132,7 @@ module _ (w : World) (worker : ℕ) (e : Event) (now : ℕ) (hand : Option ℕ) 
 -- hands and courses agree after the step of a worker's event
 pub agree_step : (w : World) (worker : ℕ) (e : Event) (now : ℕ) (courses : List Course) (course reached : Course) → IsWellMadeWorld w →
     IsPossible w worker e now → slice_get courses worker ≡ Some course → DoAgree w.members courses → FitsHand (held_at course) (handling e) →
-    held_at reached ≡ hand_left (handling e) (change_of e (step w worker e now).1) (held_at course) →
+    held_at reached ≡ hand_by_word (handling e) (change_of e (step w worker e now).1) (held_at course) →
     DoAgree (step w worker e now).0.members (slice_set courses worker reached)
 agree_step w worker e now courses course reached made can got agree fits after =
     agree_set courses worker course reached w.members (step w worker e now).0.members got agree

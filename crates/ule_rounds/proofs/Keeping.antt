@@ -25,7 +25,7 @@ use Rattle.ule_model.specs.Legal.{after_entry}
 use Rattle.ule_model.specs.Places.{is_hand_of, is_number}
 use Rattle.ule_program.specs.Courses.{Course, next_step}
 use Rattle.ule_program.specs.Hearing.{CanHear, IsReplyTo, IsSeat}
-use Rattle.ule_program.specs.Laws.{hand_left}
+use Rattle.ule_program.specs.Laws.{hand_by_word}
 use Rattle.ule_program.proofs.GroupLaws.{topology_seat}
 use Rattle.ule_model.specs.Rounds.{Play, after_item, entry_of, greatest_rounds, opening, performed, turn}
 use Rattle.ule_model.specs.Shows.{numbers_of}
@@ -280,7 +280,7 @@ hears_reply s p worker course after e kept got found =
 
 -- the course that is told the reply of its next event goes on
 pub next_told : (s : Setup) (p : Play) (worker : ℕ) (course after : Course) (e : Event) → IsUnderWay s p → HasNext s p worker course e after →
-    GoesOnAs (ids_in s) worker (tree_of s) p.now 0 (hatched_by e) (hand_left (handling e) (change_of e (step p.world worker e p.now).1) (held_at course)) course
+    GoesOnAs (ids_in s) worker (tree_of s) p.now 0 (hatched_by e) (hand_by_word (handling e) (change_of e (step p.world worker e p.now).1) (held_at course)) course
     (record after { last = Some ((step p.world worker e p.now).1, p.now) })
 next_told s p worker course after e kept has =
     course_told (ids_in s) worker (tree_of s) has.seat p.now course e after (step p.world worker e p.now).1 has.next
@@ -337,7 +337,7 @@ under_way_performed s p worker e course after kept got found ready = record {
     reached : Course
     reached = record after { last = Some ((step p.world worker e p.now).1, p.now) }
 
-    went : GoesOnAs (ids_in s) worker (tree_of s) p.now 0 (hatched_by e) (hand_left (handling e) (change_of e (step p.world worker e p.now).1) (held_at course)) course reached
+    went : GoesOnAs (ids_in s) worker (tree_of s) p.now 0 (hatched_by e) (hand_by_word (handling e) (change_of e (step p.world worker e p.now).1) (held_at course)) course reached
     went = next_told s p worker course after e kept has
 
     rest : LeavesRest p.world e (step p.world worker e p.now).0

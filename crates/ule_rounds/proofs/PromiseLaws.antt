@@ -23,7 +23,7 @@ use Rattle.ule_pick.specs.declared.choice.Card.{Card}
 use Rattle.ule_balance.specs.Plan.{opening_plan, plan_next, plan_told}
 use Rattle.ule_balance.specs.declared.plan.Masks.{Masks}
 use Rattle.ule_program.specs.Courses.{Course, next_in, next_step, or_else, stepped}
-use Rattle.ule_program.specs.Program.{after, after_giving, balancing, begun, gives, has_moved, heard, is_stolen, item_at, lands_on, lands_unless, looks_for, moves, moves_pair, next_of, once_given, saw, searched, steals, steals_from, stops, summary_in, told_last, used}
+use Rattle.ule_program.specs.Program.{after, after_giving, balancing, begun, gives, has_moved, heard, is_stolen, item_at, lands_on, lands_unless, looks_for, moves, moves_pair, next_of, once_given, saw, searched, steals, steals_from, stops, summary_in, told_last, uses_looks}
 use Rattle.ule_program.specs.declared.own.Own.{Own}
 use Rattle.ule_program.specs.declared.stage.Stage.{Stage}
 use Rattle.ule_program.specs.declared.stage.Stage.TheVariants.{Advances, Ended, Gives}
@@ -108,7 +108,7 @@ balancing_own own =
     cond_both (own.topology.cpus == 1) (stops own) (looks_for ToBalance own) (TicksOwnNext own.worker) (λ one. stops_own own) (λ more. looks_own ToBalance own)
 
 -- the use of looks
-used_own : (purpose : Purpose) (now : ℕ) (own : Own) → TicksOwnNext own.worker (used purpose now own)
+used_own : (purpose : Purpose) (now : ℕ) (own : Own) → TicksOwnNext own.worker (uses_looks purpose now own)
 used_own (ToLand t card) now own =
     let picked = pick own.topology card own.looks own.worker now own.jitter in
     gives_own (Land t picked.cpu) Ends (record own { jitter = picked.word }) (λ d is. no_tick d own.worker is)
@@ -137,7 +137,7 @@ after_own (Charges (Some parent) run) r now own = gives_own (Inherit parent run)
 after_own (Charges None run) r now own = stops_own own
 after_own (Sees purpose) r now own =
     let kept = saw (summary_in r) own in
-    cond_both (nat_lt (length kept.looks) own.topology.cpus) (gives (Look (length kept.looks)) (Sees purpose) kept) (used purpose now kept) (TicksOwnNext own.worker)
+    cond_both (nat_lt (length kept.looks) own.topology.cpus) (gives (Look (length kept.looks)) (Sees purpose) kept) (uses_looks purpose now kept) (TicksOwnNext own.worker)
     (λ more. gives_own (Look (length kept.looks)) (Sees purpose) kept (λ d is. no_tick d own.worker is)) (λ all. used_own purpose now kept)
 after_own (Steals v g mask) r now own =
     cond_both (is_stolen r) (gives (Switch own.worker ByYield) Ends own) (steals (without_cpu v mask) (outward own.topology own.worker g) own) (TicksOwnNext own.worker)

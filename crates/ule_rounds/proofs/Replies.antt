@@ -40,7 +40,7 @@ due_on c cur false end says = tt
 
 -- what a world keeps of its threads for its replies to be sound: their CPUs are there, nothing is noted of them after now, their parents are
 -- declared, and they keep their bounds
-pub record KeepsThreads (ids : List ℕ) (cpus now : ℕ) (ms : List Member) : Type 0 where
+pub record AreSoundThreads (ids : List ℕ) (cpus now : ℕ) (ms : List Member) : Type 0 where
   pub bound : AllByRecursion (λ m. IfSome m.thread.bound (λ c. c < cpus)) ms
   pub last : AllByRecursion (λ m. m.thread.last < cpus) ms
   pub by_now : AllByRecursion (λ m. IsBy now m.thread) ms
@@ -54,7 +54,7 @@ IsExitReply ids r = (is_of_exit r ≡ true) × ChargesSoundly (is_among ids) r
 abbrev IsWakeReply : ℕ → ℕ → Reply → Type 0
 IsWakeReply cpus now r = (is_of_wake r ≡ true) × IsWokenWithin cpus now r
 
-module _ (ids : List ℕ) (cpus : ℕ) (w : World) (worker now : ℕ) (kept : KeepsThreads ids cpus now w.members) where
+module _ (ids : List ℕ) (cpus : ℕ) (w : World) (worker now : ℕ) (kept : AreSoundThreads ids cpus now w.members) where
   -- a tick finds a balance due on CPU 0 alone
   tick_replies : (c : ℕ) → IsDueOn c (step w worker (Tick c) now).1
   tick_replies c = at_current (current_record c w.members) _
