@@ -155,10 +155,10 @@ module _ (w : World) (worker now : ℕ) (made : IsWellMadeWorld w) where
             in_hand (Fork c t),
             (
               record {
-              found = ap (option_map (λ x. x.thread)) (thread_of_within m.thread.id m w.members v);
-              numbers = v.made.numbers;
-              by_now = all_has (IsByIfReached w worker (Fork c t) now) m w.members past (has_within m.thread.id m w.members v)
-                  (here (Fork c t) c m.place (takes_itself c) (lock_where_runs c m.place (current_runs c w.members m found)));
+                found = ap (option_map (λ x. x.thread)) (thread_of_within m.thread.id m w.members v);
+                numbers = v.made.numbers;
+                by_now = all_has (IsByIfReached w worker (Fork c t) now) m w.members past (has_within m.thread.id m w.members v)
+                    (here (Fork c t) c m.place (takes_itself c) (lock_where_runs c m.place (current_runs c w.members m found)));
               },
               there,
             ),
