@@ -20,3 +20,4 @@ pub mod ReaderValue
 pub mod ReaderKept
 pub mod ReaderView
 pub mod Feeding
+pub mod Front
