@@ -12,6 +12,7 @@ use Rattle.ule_parts.specs.Acts.{AreAt}
 use Rattle.ule_parts.specs.Scheduler.{MayAct}
 use Rattle.ule_parts.proofs.Locks.{lock_of_possible}
 use Rattle.ule_parts.proofs.Standing.{one_at}
+use Rattle.ule_model.specs.WorldValue.{held_by}
 
 pub may_can : (s : Setup) (w : ℕ) (e : Event) (now : ℕ) (hand : Option ThreadRecord) (u : LockValue) → MayAct s w e now hand (u ∷ []) → CanStepAt u hand e now
 may_can s w e now hand u may =
@@ -19,7 +20,7 @@ may_can s w e now hand u may =
     let at = one_at may.value.values lock.0 (u ∷ []) (subst (λ ls. AreAt may.value.values ls (u ∷ [])) lock.1.numbers may.guarded_are) in
     let can : CanStepUnder may.value w e now lock.0 = can_step_under may.value w e now lock.0 (may.world, may.shows, may.possible) lock.1.found in
     let here : u ≡ at.0 = head u at.0 at.1 in
-    subst (λ h. CanStepAt u h e now) may.hand_is (subst (λ v. CanStepAt v (Rattle.ule_model.specs.WorldValue.held_by may.value w) e now) (same_Some can.value u (sym can.found ∙ (at.2 ∙ ap (λ v. Some v) (sym here)))) can.can)
+    subst (λ h. CanStepAt u h e now) may.hand_is (subst (λ v. CanStepAt v (held_by may.value w) e now) (same_Some can.value u (sym can.found ∙ (at.2 ∙ ap (λ v. Some v) (sym here)))) can.can)
   where
     refl_head : LockValue → List LockValue → LockValue
     refl_head d [] = d

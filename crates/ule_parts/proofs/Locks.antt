@@ -30,6 +30,7 @@ use Rattle.ule_micro.proofs.Effects.{stands_value}
 use Rattle.ule_parts.specs.Acts.{IsUnderOne, needs_of}
 use Rattle.ule_parts.specs.Workers.{HandFits}
 use Rattle.ule_parts.specs.Scheduler.{sched_means}
+use Rattle.ule_micro.specs.declared.entry.Entry.{Entry}
 
 -- an event that seeks needs an empty hand
 pub seeker_empty : (e : Event) (t : ℕ) → locking e ≡ place_of t → handling e ≡ empty
@@ -122,7 +123,7 @@ module _ (v : WorldValue) (x : World) (worker : ℕ) (hand : Option ThreadRecord
   empty_in_world none t held = true≢false (sym (held_in_hand worker t x.members held) ∙ (sym (hand_some t) ∙ ap (λ (h : Option ThreadRecord). is_some (if_thread t h)) none))
 
   -- the hand that an event needs is as it needs it in the world
-  pub handled : (s : Setup) (mine : List (Rattle.ule_micro.specs.declared.entry.Entry.Entry Event Reply)) (k : Handling) → HandFits s worker mine hand k
+  pub handled : (s : Setup) (mine : List (Entry Event Reply)) (k : Handling) → HandFits s worker mine hand k
       → ((t : ℕ) → k ≡ unborn t → is_unborn_thread (thread_of t x.members) ≡ true) → IsHandled x worker k
   handled s mine any fits still = tt
   handled s mine empty fits still = empty_in_world fits

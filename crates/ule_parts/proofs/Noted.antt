@@ -24,6 +24,7 @@ use Rattle.ule_micro.specs.declared.entry.Entry.{Entry}
 use Rattle.ule_micro.specs.declared.entry.HeldLocks.TheVariants.{One}
 use Rattle.ule_micro.proofs.Among.{among_this}
 use Rattle.ule_micro.specs.Histories.{IsNoEarlierThanShared, Shares, is_lock_among}
+use Rattle.ule_score.specs.declared.record.ThreadRecord.{ThreadRecord}
 
 -- is over: an entry was performed under the lock of a place, or by the worker whose hand the place is
 abbrev pub IsOver : Entry Event Reply → Place → Type 0
@@ -38,7 +39,7 @@ pub record IsBehind (h : List (Entry Event Reply)) (p : Place) (now : ℕ) : Typ
 abbrev pub IsNoted : List (Entry Event Reply) → Member → Type 0
 IsNoted h m = (now : ℕ) → IsBehind h m.place now → IsBy now m.thread
 
-by_later : (now later : ℕ) (r : Rattle.ule_score.specs.declared.record.ThreadRecord.ThreadRecord) → now ≤ later → IsBy now r → IsBy later r
+by_later : (now later : ℕ) (r : ThreadRecord) → now ≤ later → IsBy now r → IsBy later r
 by_later now later r past is = record { ltick = omega (arith, is.ltick); slept_at = omega (arith, is.slept_at); last_run = omega (arith, is.last_run) }
 
 -- at the start

@@ -15,7 +15,7 @@ use Rattle.ule_types.specs.declared.setup.Setup.{Setup}
 use Rattle.ule_types.specs.declared.stage.Stage.TheVariants as stage
 use Rattle.ule_types.proofs.Repeats.{among_front, among_back}
 use Rattle.ule_model.specs.Conditions.{IsHandled}
-use Rattle.ule_model.specs.Events.{locking, handling, locks_of, Handling, any, empty, unborn, has}
+use Rattle.ule_model.specs.Events.{locking, handling, locks_of, Handling, any, empty, unborn, has, sought_by}
 use Rattle.ule_model.specs.Frames.{thread_in_hand}
 use Rattle.ule_model.specs.LockValue.{LockValue}
 use Rattle.ule_model.specs.Places.{is_number}
@@ -36,11 +36,12 @@ use Rattle.ule_parts.specs.Acts.{AreAt, IsUnderOne, act_on, todo_of}
 use Rattle.ule_parts.specs.Workers.{AsksFor, HandFits, IsValid, Stands, StandsAt, Worker, threads_forked, forks_of, threads_hatched, declared_ids_of, left_at, owns_from}
 use Rattle.ule_parts.specs.Scheduler.{MayAct, sched_means}
 use Rattle.ule_parts.proofs.Locks.{HasLock, IsActed, acted_shows, hand_some, lock_of_possible}
+use Rattle.std.specs.Prelude.{if◌then◌else◌}
 
 -- an empty hand, where no thread is found in it
 hand_none : (hand : Option ThreadRecord) → ((t : ℕ) → is_some (if_thread t hand) ≡ false) → hand ≡ None
 hand_none None without = refl
-hand_none (Some r) without = absurd (true≢false (sym (ap (λ b. is_some (Rattle.std.specs.Prelude.if◌then◌else◌ b (Some r) None)) (eq-eqb r.id r.id refl)) ∙ without r.id))
+hand_none (Some r) without = absurd (true≢false (sym (ap (λ b. is_some (if◌then◌else◌ b (Some r) None)) (eq-eqb r.id r.id refl)) ∙ without r.id))
 
 -- what holds of an item of each kind, of what it is
 by_item : (P : Option Item → Type 0) (o : Option Item) → (o ≡ None → P None) → ((e : Event) → o ≡ Some (item.Event e) → P (Some (item.Event e)))
@@ -132,7 +133,7 @@ module _ (s : Setup) (some_cpus : 0 < s.cpus) where
     alone = at_event (λ x. IsUnderOne (locking x)) (λ k. Unit {0}) o.program.worker o.program.stage e (stage_alone o.program.worker o.program.stage) is;
     names = at_event (NamesWhatIs (declared_ids_of s) s.cpus) (λ k. is_within 1 1000000 k ≡ true) o.program.worker o.program.stage e (item_names (declared_ids_of s) s.cpus o.program.worker o.program.stage at.below at.sound) is;
     fits = hand_fits o.program.worker j.mine o.hand (in_hand o.program.stage) (handling e) at.hand
-        (at_event (λ x. FitsHand (in_hand o.program.stage) (handling x) × IfSome (in_hand o.program.stage) (λ t. Rattle.ule_model.specs.Events.sought_by x ≡ None)) (λ k. in_hand o.program.stage ≡ None) o.program.worker o.program.stage e (item_fits o.program.worker o.program.stage) is).0
+        (at_event (λ x. FitsHand (in_hand o.program.stage) (handling x) × IfSome (in_hand o.program.stage) (λ t. sought_by x ≡ None)) (λ k. in_hand o.program.stage ≡ None) o.program.worker o.program.stage e (item_fits o.program.worker o.program.stage) is).0
         (λ t un. let z = at.forks t (at_event (λ x. (u : ℕ) → handling x ≡ unborn u → is_among (hatching o.program.stage) u ≡ true) (λ k. Unit {0}) o.program.worker o.program.stage e (stage_hatches o.program.worker o.program.stage) is t un) in (z.0, z.2));
   }
 
@@ -172,7 +173,7 @@ module _ (s : Setup) (some_cpus : 0 < s.cpus) where
       ((moved (after_giving own.stage) same, ap (item_at own.worker) same ∙ is), let z : most_from (after_giving own.stage) ≡ most_from own.stage = ap most_from same in omega arith))
       (λ k there is. let after : after_giving own.stage ≡ stage.Ended = at_advance (λ x. after_giving own.stage ≡ own.stage) (λ k. after_giving own.stage ≡ stage.Ended) own.worker own.stage k (given_stage own.worker own.stage) is in
       let less : most_from (after_giving own.stage) + 1 ≤ most_from own.stage = at_advance (λ e. Unit {0}) (λ k. most_from (after_giving own.stage) + 1 ≤ most_from own.stage) own.worker own.stage k (advance_lowers own.worker own.stage) is in
-      let bare : in_hand own.stage ≡ None = at_advance (λ x. FitsHand (in_hand own.stage) (handling x) × IfSome (in_hand own.stage) (λ t. Rattle.ule_model.specs.Events.sought_by x ≡ None)) (λ k. in_hand own.stage ≡ None) own.worker own.stage k (item_fits own.worker own.stage) is in
+      let bare : in_hand own.stage ≡ None = at_advance (λ x. FitsHand (in_hand own.stage) (handling x) × IfSome (in_hand own.stage) (λ t. sought_by x ≡ None)) (λ k. in_hand own.stage ≡ None) own.worker own.stage k (item_fits own.worker own.stage) is in
       let valid : is_within 1 1000000 k ≡ true = at_advance (NamesWhatIs (declared_ids_of s) s.cpus) (λ j. is_within 1 1000000 j ≡ true) own.worker own.stage k (item_names (declared_ids_of s) s.cpus own.worker own.stage (subst (λ u. u < s.cpus) (sym worker) at.below) at.sound) is in
       ((ended (after_giving own.stage) after bare, (after, valid)), omega arith))
       refl

@@ -1,7 +1,7 @@
 -- After every history in order whose entries were asked for, an event that is asked for may be performed.
 use Rattle.std.proofs.Common.{◌≡◌, ◌≢◌, ◌⊎◌, ℕ, ◌^◌, ◌<◌, ◌≤◌, true, false, ◌==◌, ◌++◌, List, [], ◌∷◌, flat_map, length, refl, sym, ap, ◌∙◌, subst, inl, inr, ⊎_elim, arith, slice_get, slice_set, Option, Some, None, IfSome, IsTrue}
 use Rattle.std.specs.List.{AllByRecursion}
-use Rattle.std.proofs.lemmas.Bool.{false≢true, false_from_ne_true, cases_eq, eqb-true, or_parts, ltb-true, both_ways}
+use Rattle.std.proofs.lemmas.Bool.{false≢true, false_from_ne_true, cases_eq, eqb-true, or_parts, ltb-true, both_ways, or_cases}
 use Rattle.std.proofs.lemmas.Option.{IfSome_then}
 use Rattle.ule_score.specs.Bounds.{KeepsBounds}
 use Rattle.ule_score.specs.Changes.{HasSlice, IsBy}
@@ -20,7 +20,7 @@ use Rattle.ule_model.specs.LockValue.{LockValue}
 use Rattle.ule_model.specs.Start.{starting_time, world_at_start}
 use Rattle.ule_model.specs.Step.{step}
 use Rattle.ule_model.specs.World.{Member, World}
-use Rattle.ule_model.specs.WorldValue.{Shows, WorldValue, held_by}
+use Rattle.ule_model.specs.WorldValue.{Shows, WorldValue, held_by, IsHandOf}
 use Rattle.ule_members.proofs.CalendarStarts.{start_calm}
 use Rattle.ule_members.proofs.CalendarStretches.{IsTickOfSome, promise_kept}
 use Rattle.ule_members.proofs.Numbered.{step_bounds, step_numbers}
@@ -63,7 +63,7 @@ hatch_needs (Move a b why) t among = absurd (false≢true among)
 hatch_needs (Lend u p) t among = absurd (false≢true among)
 hatch_needs (Unlend u) t among = absurd (false≢true among)
 hatch_needs (Renice u n) t among = absurd (false≢true among)
-hatch_needs (Hatch u) t among = ⊎_elim (λ (here : (u == t) ≡ true). ap unborn (eqb-true u t here)) (λ (rest : false ≡ true). absurd (cc)) (Rattle.std.proofs.lemmas.Bool.or_cases (u == t) false among)
+hatch_needs (Hatch u) t among = ⊎_elim (λ (here : (u == t) ≡ true). ap unborn (eqb-true u t here)) (λ (rest : false ≡ true). absurd (cc)) (or_cases (u == t) false among)
 hatch_needs (Fork c u) t among = absurd (false≢true among)
 hatch_needs (Return u) t among = absurd (false≢true among)
 hatch_needs (Exit c) t among = absurd (false≢true among)
@@ -107,7 +107,7 @@ module _ (s : Setup) (form : IsOfForm s) where
       cpus = subst (λ c. IsTrue (names_cpus c e)) (sym r.is_world.lines) asked.names.0;
       declared = IfSome_then (sought_by e) asked.names.1 (λ t among. found_numbered t (declared_ids_of s) r.world.members r.is_world.numbers among);
       ready = lock.2.ready w;
-      hand = handled (scheduler_with s y) r.world w hand r.shows (subst (λ o. Rattle.ule_model.specs.WorldValue.IsHandOf r.world w o) hand_is (r.shows.hands w)) s (own_entries w h) (handling e) asked.fits (λ t is. still t (handling e) asked.fits is);
+      hand = handled (scheduler_with s y) r.world w hand r.shows (subst (λ o. IsHandOf r.world w o) hand_is (r.shows.hands w)) s (own_entries w h) (handling e) asked.fits (λ t is. still t (handling e) asked.fits is);
       numbers = asked.names.2;
       begun = rules.begun;
       bounded = small;
