@@ -8,7 +8,7 @@ use Rattle.std.proofs.lemmas.List.Sums.{sum_by-cons, sum_by-set}
 use Rattle.ule_prio.specs.declared.kind.Kind.{Kind}
 use Rattle.ule_score.specs.declared.place.Place.{Place}
 use Rattle.ule_score.specs.declared.record.ThreadRecord.{ThreadRecord}
-use Rattle.ule_types.specs.declared.look.Summary.{Summary}
+use Rattle.ule_topo.specs.declared.look.Summary.{Summary}
 use Rattle.ule_model.specs.Choice.{choice_of}
 use Rattle.ule_model.specs.CpuNumbers.{is_unbound, low_priority_in, low_priority_of, movable_in, movable_of, next_record, queued_records, records_but, summary_of, value_summary}
 use Rattle.ule_model.specs.CpuValue.{CpuValue, StandsFor, first_in, thread_in}

@@ -52,7 +52,7 @@ sound_where_bounded w now all (placed c) sound = tt
 sound_where_bounded w now all (changed change) sound = sound
 sound_where_bounded w now all forks sound = tt
 sound_where_bounded w now all (forked parent c load) sound =
-    (parent_keeps w now KeepsBounds parent all sound, sound.by_now, sound.numbers.nice, sound.numbers.base)
+    (parent_keeps w now KeepsBounds parent all sound.0, sound.0.by_now, sound.0.numbers.nice, sound.0.numbers.base)
 
 -- what a record keeps that went through changes no earlier than what is noted of it
 pub record IsInBounds (now : ℕ) (r : ThreadRecord) : Type 0 where

@@ -75,7 +75,7 @@ change_parents P w now all (changed (Inherit run)) r sound has =
 change_parents P w now all forks r sound has =
     subst (λ o. IfSome o P) (sym (rebased_parent w.settings (with_history (used true now r) (charged_history r.hist tick_length)))) has
 change_parents P w now all (forked parent c load) r sound has =
-    subst (λ o. IfSome o P) (sym (child_parent w.settings now parent c load r)) (parent_keeps w now (λ x. P x.id) parent all sound)
+    subst (λ o. IfSome o P) (sym (child_parent w.settings now parent c load r)) (parent_keeps w now (λ x. P x.id) parent all sound.0)
 
 -- ---- all records
 

@@ -1,11 +1,10 @@
 -- The world at the start of a setup: the numbers, records and places of its threads, while they are laid and after.
-use Rattle.std.proofs.Common.{◌≡◌, ℕ, ◌<◌, ◌≤◌, ◌==◌, ◌||◌, Bool, true, false, not, ℤ, pos, negsuc, nat_le, nat_lt, List, [], ◌∷◌, ◌++◌, zero, suc, ◌+◌, drop, fold, length, map, replicate, slice_get, take, Some, None, IfSome, refl, sym, ◌∙◌, ap, subst, arith}
+use Rattle.std.proofs.Common.{◌≡◌, ℕ, ◌<◌, ◌≤◌, ◌==◌, ◌||◌, Bool, true, false, not, pos, nat_lt, List, [], ◌∷◌, ◌++◌, zero, suc, ◌+◌, drop, fold, length, map, replicate, slice_get, take, Some, None, IfSome, refl, sym, ◌∙◌, ap, subst, arith}
 use Rattle.std.specs.List.{AllByRecursion, list_all}
-use Rattle.std.proofs.lemmas.Bool.{and_parts, both_ways, cond-false, cond_both, eq-eqb, false≢true, leb-true, ltb-true, not-true, or_parts, ne_eqb}
-use Rattle.std.proofs.lemmas.Int.{ints}
+use Rattle.std.proofs.lemmas.Bool.{and_parts, both_ways, cond-false, cond_both, eq-eqb, false≢true, ltb-true, not-true, or_parts, ne_eqb}
 use Rattle.std.proofs.lemmas.List.{append-nil, append_assoc, length-replicate, length-set, map-append, map-id, set-get_or, take-append-drop}
 use Rattle.std.proofs.lemmas.List.Folds.{list_all-append}
-use Rattle.ule_prio.specs.Class.{is_base_of, is_within}
+use Rattle.ule_prio.specs.Class.{is_base_of}
 use Rattle.ule_prio.specs.declared.class.Class.{Class}
 use Rattle.ule_prio.specs.declared.class.Class.TheVariants as class
 use Rattle.ule_score.proofs.TimesharePriorityLemmas.{timeshare_priority-bounds}
@@ -18,10 +17,11 @@ use Rattle.ule_score.specs.declared.record.CpuLine.{CpuLine}
 use Rattle.ule_score.specs.declared.record.Settings.{Settings}
 use Rattle.ule_score.specs.declared.record.ThreadRecord.{ThreadRecord}
 use Rattle.ule_prio.specs.declared.class.Class.TheVariants as class
+pub use Rattle.ule_types.proofs.Numbers.{nice_is, within_byte}
 use Rattle.ule_types.specs.Commands.{is_among}
 use Rattle.ule_types.proofs.Repeats.{distinct_front}
 use Rattle.ule_types.specs.Form.{IsOfForm}
-use Rattle.ule_types.specs.Rules.{declared_ids, is_distinct, is_form, is_nice, is_spec}
+use Rattle.ule_types.specs.Rules.{declared_ids, is_distinct, is_form, is_spec}
 use Rattle.ule_types.specs.declared.setup.Form.{Form}
 use Rattle.ule_types.specs.declared.setup.Form.TheVariants.{Ts, Ithd, Rt, Fifo, Idle}
 use Rattle.ule_types.specs.declared.setup.Setup.{Setup}
@@ -41,11 +41,6 @@ use Rattle.ule_members.proofs.Threads.{find-appended_new, none_passes}
 use Rattle.ule_members.proofs.Within.{all-append, all_along, changed_between, well_made_between}
 
 -- ---- a declared thread's record
-
--- a nice value of a declared thread is one
-pub nice_is : (n : ℤ) → is_nice n ≡ true → IsNice n
-nice_is (pos n) is = let within : n ≤ 20 = leb-true n 20 is in (omega (arith, ints), omega (arith, ints))
-nice_is (negsuc n) is = let within : n < 20 = ltb-true n 20 is in (omega (arith, ints), omega (arith, ints))
 
 -- what holds of the class, the nice value and the base priority that a thread is declared with
 pub record HasFormBounds (settings : Settings) (f : Form) : Type 0 where
@@ -74,10 +69,6 @@ declared_bounds settings f p nice base other small = record {
   low = class_apart (class_of f) (120 ≤ base_of settings f) other;
   high = class_apart (class_of f) (base_of settings f ≤ 223) other;
 }
-
--- a number that lies in a range which ends below 256 is below 256
-pub within_byte : (low high p : ℕ) → high < 256 → is_within low high p ≡ true → p < 256
-within_byte low high p small within = omega (arith, small, leb-true p high (and_parts (nat_le low p) (nat_le p high) within).1)
 
 -- the nice value and the base priority that a thread is declared with are in the ranges of its class
 pub form_bounds : (settings : Settings) (f : Form) → is_form f ≡ true → HasFormBounds settings f

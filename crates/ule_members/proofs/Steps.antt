@@ -40,7 +40,7 @@ use Rattle.ule_model.specs.Conditions.{IsByIfReached, IsPossible}
 use Rattle.ule_model.specs.Frames.{IsParent, IsSoundIn, LeavesRest, StepIsMade, StepLeavesRest, StepMovesWord, StepTouches, thread_in_hand}
 use Rattle.ule_model.specs.Step.{step}
 use Rattle.ule_members.proofs.Rest.{after_leaving_within, index_of, IsSideKept, side_kept_further, queued_kept, choosing_kept, turn_within, side_leaves, rest_left, side_indexes}
-use Rattle.std.proofs.lemmas.Bool.{and_left, cond_both, ne_eqb}
+use Rattle.std.proofs.lemmas.Bool.{and_left, cond_both, ltb-true, ne_eqb}
 use Rattle.ule_prio.specs.declared.kind.Kind.TheVariants.{Batch}
 use Rattle.ule_model.specs.Insertion.{members_in, queued}
 
@@ -187,14 +187,14 @@ module _ (w : World) (worker now : ℕ) where
       split (Some m) found = at_place m found m.place refl
 
   -- a landing queues the thread in hand
-  pub landed_done : (t c : ℕ) → IsWellMade w.members → (slice_index_or w.lines c fresh_line).ridx < 64 → holder_of w.members t ≡ Some worker →
+  pub landed_done : (t c : ℕ) → IsWellMade w.members → c < length w.lines → (slice_index_or w.lines c fresh_line).ridx < 64 → holder_of w.members t ≡ Some worker →
       IsDone w worker (event.Land t c) now (Some (point t c)) w.members (landed t c worker now (side_of c w)).0.members
-  landed_done t c made index held =
+  landed_done t c made there index held =
       let h : IsHeld w.members t worker = held_found w.members t worker held in
       let m : Member = h.member in
       subst (λ (o : Option Member). IsDone w worker (event.Land t c) now (Some (point t c)) w.members (landed_with o c worker now (side_of c w)).0.members) (sym h.found)
       (done_landed w worker (event.Land t c) now Ordinary c (placed c) m (side_of c w) (within_found (is_numbered t) w.members m made h.found) t refl (takes_itself c)
-      h.hand (has_thread_of t m w.members h.found).1 tt index)
+      h.hand (has_thread_of t m w.members h.found).1 there index)
 
   -- birth and burial
 
@@ -237,9 +237,9 @@ module _ (w : World) (worker now : ℕ) where
   -- forks
 
   -- a fork makes the thread in hand a child of the current thread, which is charged for it
-  pub forked_done : (c t : ℕ) → IsWellMade w.members → AllByRecursion (IsByIfReached w worker (event.Fork c t) now) w.members → holder_of w.members t ≡ Some worker →
+  pub forked_done : (c t : ℕ) → IsWellMade w.members → c < length w.lines → AllByRecursion (IsByIfReached w worker (event.Fork c t) now) w.members → holder_of w.members t ≡ Some worker →
       IsDoneBy w worker (event.Fork c t) now (λ old. in_hand_kept w now (event.Fork c t) old) None w.members (forked_on c t now (side_of c w)).0.members
-  forked_done c t made past held = split (current_of c w.members) refl
+  forked_done c t made there past held = split (current_of c w.members) refl
     where
       e : Event
       e = event.Fork c t
@@ -268,7 +268,7 @@ module _ (w : World) (worker now : ℕ) where
       one m found =
           let birth : RecordChange = forked m.thread c (load_of c w.members) in
           let young : List Member = with_change w.settings now t birth w.members in
-          let first : IsDoneBy w worker e now (kept (Some m)) None w.members young = done_in_hand w worker e now t birth w.members made h (parent m found) in
+          let first : IsDoneBy w worker e now (kept (Some m)) None w.members young = done_in_hand w worker e now t birth w.members made h (parent m found, there) in
           let f : Member → Member = born_of (Some m) w now c t in
           let n : Member = f m in
           let current : current_of c young ≡ Some n =
@@ -383,13 +383,13 @@ step_done w worker (event.Drop c channel) now made possible = dropped_done w wor
 step_done w worker (event.Bed t channel) now made possible = bedded_done w worker now t channel made.members possible.hand
 step_done w worker (event.Wake t) now made possible = woken_done w worker now t made.members
 step_done w worker (event.Look c) now made possible = done_nothing w worker (event.Look c) now w.members made.members
-step_done w worker (event.Land t c) now made possible = landed_done w worker now t c made.members (index_of w c made.indexes) possible.hand
+step_done w worker (event.Land t c) now made possible = landed_done w worker now t c made.members (ltb-true c (length w.lines) possible.cpus) (index_of w c made.indexes) possible.hand
 step_done w worker (event.Move a b why) now made possible = done_nothing w worker (event.Move a b why) now w.members made.members
 step_done w worker (event.Lend t p) now made possible = thread_changed_done w worker now (event.Lend t p) t (Lend p) made refl possible.numbers
 step_done w worker (event.Unlend t) now made possible = thread_changed_done w worker now (event.Unlend t) t Unlend made refl tt
 step_done w worker (event.Renice t n) now made possible = thread_changed_done w worker now (event.Renice t n) t (Renice n) made refl possible.numbers
 step_done w worker (event.Hatch t) now made possible = hatched_done w worker now t made.members possible.hand.1
-step_done w worker (event.Fork c t) now made possible = forked_done w worker now c t made.members possible.in_time possible.hand
+step_done w worker (event.Fork c t) now made possible = forked_done w worker now c t made.members (ltb-true c (length w.lines) possible.cpus) possible.in_time possible.hand
 step_done w worker (event.Return t) now made possible = returned_done w worker now t made.members possible.hand
 step_done w worker (event.Exit c) now made possible = exited_done w worker now c made.members
 step_done w worker (event.Bury t) now made possible = buried_done w worker now t made.members possible.hand

@@ -28,7 +28,7 @@ sound_numbers settings w now (ticked load) r sound has = change_numbers settings
 sound_numbers settings w now (placed c) r sound has = change_numbers settings now (placed c) r tt has
 sound_numbers settings w now (changed change) r sound has = change_numbers settings now (changed change) r sound has
 sound_numbers settings w now forks r sound has = change_numbers settings now forks r tt has
-sound_numbers settings w now (forked parent c load) r sound has = child_numbers settings now parent c load r sound.numbers has
+sound_numbers settings w now (forked parent c load) r sound has = child_numbers settings now parent c load r sound.0.numbers has
 
 -- one change that a step of a world may make is a way through such changes
 pub comes_by_one : (w : World) (now : ℕ) (change : RecordChange) (r : ThreadRecord) → IsSoundIn w now change → ComesTo w now r (record_after w.settings now change r)

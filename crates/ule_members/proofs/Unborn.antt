@@ -15,6 +15,7 @@ use Rattle.ule_score.specs.declared.record.ThreadRecord.{ThreadRecord}
 use Rattle.ule_types.proofs.Repeats.{distinct_apart}
 use Rattle.ule_types.specs.Commands.{forked_by, is_among}
 use Rattle.ule_types.specs.Form.{IsOfForm}
+pub use Rattle.ule_types.specs.Needs.{hatched_by}
 use Rattle.ule_types.specs.Rules.{budget_from, is_distinct}
 use Rattle.ule_types.specs.declared.event.Event.{Event}
 use Rattle.ule_types.specs.declared.event.Event.TheVariants as event
@@ -42,26 +43,6 @@ use Rattle.ule_members.proofs.Steps.{step_is_made}
 use Rattle.ule_members.proofs.Threads.{thread_of-moved_other, thread_of-queued_other}
 use Rattle.ule_members.proofs.Untouched.{step_under}
 use Rattle.ule_members.proofs.Within.{within_thread}
-
--- the thread that an event hatches, if it is a hatch
-abbrev pub hatched_by : Event → List ℕ
-hatched_by (event.Tick c) = []
-hatched_by (event.Switch c why) = []
-hatched_by (event.Drop c channel) = []
-hatched_by (event.Bed t channel) = []
-hatched_by (event.Wake t) = []
-hatched_by (event.Look c) = []
-hatched_by (event.Land t c) = []
-hatched_by (event.Move a b why) = []
-hatched_by (event.Lend t p) = []
-hatched_by (event.Unlend t) = []
-hatched_by (event.Renice t n) = []
-hatched_by (event.Hatch t) = t ∷ []
-hatched_by (event.Fork c t) = []
-hatched_by (event.Return t) = []
-hatched_by (event.Exit c) = []
-hatched_by (event.Bury t) = []
-hatched_by (event.Inherit t run) = []
 
 -- thread t is there and unborn
 abbrev pub IsStillUnborn : ℕ → List Member → Type 0

@@ -2,9 +2,8 @@
 use Rattle.std.specs.Prelude.{◌≡◌, ◌≢◌, ℕ, ◌<◌, ◌≤◌, ◌^◌, true, length, IfSome, IsSome, IsTrue, Some}
 use Rattle.std.specs.List.{AllByRecursion}
 use Rattle.ule_score.specs.Changes.{IsBy}
-use Rattle.ule_score.specs.TimesharePriority.{IsNice}
 use Rattle.ule_types.specs.declared.event.Event.{Event}
-use Rattle.ule_types.specs.declared.event.Event.TheVariants.{Tick, Switch, Drop, Bed, Wake, Look, Land, Move, Lend, Unlend, Renice, Hatch, Fork, Return, Exit, Bury, Inherit}
+pub use Rattle.ule_types.specs.Needs.{HasSoundNumbers}
 use Rattle.ule_model.specs.Events.{Handling, any, empty, handling, has, holder_of, is_reached, is_ready, is_unborn_thread, names_cpus, sought_by, unborn}
 use Rattle.ule_model.specs.Start.{starting_time}
 use Rattle.ule_model.specs.World.{Member, World, thread_of}
@@ -23,26 +22,6 @@ IsHandled w worker (has t) = holder_of w.members t ≡ Some worker
 -- a thread within an event's reach, of which nothing is noted after this time
 abbrev pub IsByIfReached : World → ℕ → Event → ℕ → Member → Type 0
 IsByIfReached w worker e now m = is_reached w worker e m.place ≡ true → IsBy now m.thread
-
--- the numbers that an event brings are in their ranges: a nice value, a priority, and run time
-abbrev pub HasSoundNumbers : Event → Type 0
-HasSoundNumbers (Tick c) = Unit {0}
-HasSoundNumbers (Switch c why) = Unit {0}
-HasSoundNumbers (Drop c channel) = Unit {0}
-HasSoundNumbers (Bed t channel) = Unit {0}
-HasSoundNumbers (Wake t) = Unit {0}
-HasSoundNumbers (Look c) = Unit {0}
-HasSoundNumbers (Land t c) = Unit {0}
-HasSoundNumbers (Move a b why) = Unit {0}
-HasSoundNumbers (Lend t p) = p < 256
-HasSoundNumbers (Unlend t) = Unit {0}
-HasSoundNumbers (Renice t n) = IsNice n
-HasSoundNumbers (Hatch t) = Unit {0}
-HasSoundNumbers (Fork c t) = Unit {0}
-HasSoundNumbers (Return t) = Unit {0}
-HasSoundNumbers (Exit c) = Unit {0}
-HasSoundNumbers (Bury t) = Unit {0}
-HasSoundNumbers (Inherit t run) = run < 2 ^ 62
 
 -- an event that a worker can perform in this world at this time
 pub record IsPossible (w : World) (worker : ℕ) (e : Event) (now : ℕ) : Type 0 where

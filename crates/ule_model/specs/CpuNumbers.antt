@@ -3,7 +3,7 @@
 use Rattle.std.specs.Prelude.{ℕ, Bool, true, false, is_none, ◌&&◌, List, count_by, min, slice_index_or, slice_set, Option, Some, None, option_and_then}
 use Rattle.std.specs.Option.{option_map}
 use Rattle.ule_score.specs.declared.record.ThreadRecord.{ThreadRecord}
-use Rattle.ule_types.specs.declared.look.Summary.{Summary}
+use Rattle.ule_topo.specs.declared.look.Summary.{Summary}
 use Rattle.ule_model.specs.Choice.{choice_of}
 use Rattle.ule_model.specs.CpuValue.{CpuValue, current_in, first_in, thread_in}
 use Rattle.ule_model.specs.Landing.{current_priority, current_record}

@@ -1,92 +1,17 @@
--- What each event needs: the locks that it takes, the threads and CPUs that it names, and the
--- worker's hand. Two tables, of which all else is read.
-use Rattle.std.specs.Prelude.{ℕ, ◌+◌, ◌%◌, min, max, Bool, true, false, not, nat_lt, ◌==◌, ◌&&◌, ◌||◌, List, [], ◌∷◌, Option, Some, None, option_and_then}
+-- What each event needs of a world: the locks that it takes and what they guard, the thread that it seeks, and the
+-- thread that it names from a hand or from among the unborn. Of the event alone `Needs` tells.
+use Rattle.std.specs.Prelude.{ℕ, ◌+◌, ◌%◌, min, max, Bool, true, false, ◌==◌, ◌||◌, List, [], ◌∷◌, Option, Some, None, option_and_then}
 use Rattle.std.specs.List.{list_any}
 use Rattle.std.specs.Option.{option_to_list}
 use Rattle.ule_score.specs.declared.place.Place.{Place}
 use Rattle.ule_score.specs.declared.place.Place.TheVariants.{Running, Queued, Asleep, Unborn, Gone}
 use Rattle.ule_score.specs.declared.place.Place.TheVariants as place
 use Rattle.ule_types.specs.declared.event.Event.{Event}
-use Rattle.ule_types.specs.declared.event.Event.TheVariants.{Tick, Switch, Drop, Bed, Wake, Look, Land, Move, Lend, Unlend, Renice, Hatch, Fork, Return, Exit, Bury, Inherit}
+pub use Rattle.ule_types.specs.Needs.{Locking, queue, queues, chain, limbo, place_of, locking, Handling, any, empty, unborn, has, handling, sought_in, sought_by, are_cpus, names_cpus}
 use Rattle.ule_model.specs.Places.{hand_of, is_hand_of, is_under, lock_of}
 use Rattle.ule_model.specs.World.{Member, World, thread_of}
 
--- ---- the two tables
-
--- the locks that an event takes
-pub data Locking : Type 0 where
-  -- the queue of this CPU
-  queue : ℕ → Locking
-  -- the queues of these two CPUs
-  queues : ℕ → ℕ → Locking
-  -- the sleep chain of this channel
-  chain : ℕ → Locking
-  -- the lock of unborn and gone threads
-  limbo : Locking
-  -- the lock of this thread's place: the event seeks the thread
-  place_of : ℕ → Locking
-
-abbrev pub locking : Event → Locking
-locking (Tick c) = queue c
-locking (Switch c why) = queue c
-locking (Drop c channel) = queue c
-locking (Bed t channel) = chain channel
-locking (Wake t) = place_of t
-locking (Look c) = queue c
-locking (Land t c) = queue c
-locking (Move a b why) = queues a b
-locking (Lend t p) = place_of t
-locking (Unlend t) = place_of t
-locking (Renice t n) = place_of t
-locking (Hatch t) = limbo
-locking (Fork c t) = queue c
-locking (Return t) = limbo
-locking (Exit c) = queue c
-locking (Bury t) = limbo
-locking (Inherit t run) = place_of t
-
--- what an event needs of the worker's hand
-pub data Handling : Type 0 where
-  -- nothing
-  any : Handling
-  -- that it is empty: the event fills it, or seeks a thread
-  empty : Handling
-  -- that it is empty and this thread unborn: the event fills it with the thread
-  unborn : ℕ → Handling
-  -- that this thread is in it
-  has : ℕ → Handling
-
-abbrev pub handling : Event → Handling
-handling (Tick c) = any
-handling (Switch c why) = any
-handling (Drop c channel) = empty
-handling (Bed t channel) = has t
-handling (Wake t) = empty
-handling (Look c) = any
-handling (Land t c) = has t
-handling (Move a b why) = any
-handling (Lend t p) = empty
-handling (Unlend t) = empty
-handling (Renice t n) = empty
-handling (Hatch t) = unborn t
-handling (Fork c t) = has t
-handling (Return t) = has t
-handling (Exit c) = empty
-handling (Bury t) = has t
-handling (Inherit t run) = empty
-
 -- ---- seeking
-
--- the thread that is sought under the lock of its place
-abbrev pub sought_in : Locking → Option ℕ
-sought_in (queue c) = None
-sought_in (queues a b) = None
-sought_in (chain channel) = None
-sought_in limbo = None
-sought_in (place_of t) = Some t
-
-abbrev pub sought_by : Event → Option ℕ
-sought_by e = sought_in (locking e)
 
 -- the worker in whose hand thread t is
 abbrev pub holder_of : List Member → ℕ → Option ℕ
@@ -122,19 +47,6 @@ locks_of w e = lock_numbers w.members (locking e)
 -- whether a place is within an event's reach: under one of its locks, or the worker's hand
 abbrev pub is_reached : World → ℕ → Event → Place → Bool
 is_reached w worker e place = list_any (λ l. is_under l place) (locks_of w e) || is_hand_of worker place
-
--- ---- the CPUs that an event names
-
--- whether the CPUs named are among so many, and two are different ones
-abbrev pub are_cpus : ℕ → Locking → Bool
-are_cpus count (queue c) = nat_lt c count
-are_cpus count (queues a b) = nat_lt a count && (nat_lt b count && not (a == b))
-are_cpus count (chain channel) = true
-are_cpus count limbo = true
-are_cpus count (place_of t) = true
-
-abbrev pub names_cpus : ℕ → Event → Bool
-names_cpus count e = are_cpus count (locking e)
 
 -- ---- the thread that an event names from a place
 

@@ -1,5 +1,5 @@
 -- What a step may touch, and what it leaves: said once for all events.
-use Rattle.std.specs.Prelude.{◌≡◌, ℕ, true, false, ◌&&◌, List, [], ◌∷◌, find, length, slice_index_or, Option, Some, None, if◌then◌else◌}
+use Rattle.std.specs.Prelude.{◌≡◌, ◌<◌, ℕ, true, false, ◌&&◌, List, [], ◌∷◌, find, length, slice_index_or, Option, Some, None, if◌then◌else◌}
 use Rattle.std.specs.Option.{option_map}
 use Rattle.ule_score.specs.Changes.{HasNumbers, IsBy, IsSoundChange, RecordChange, changed, forked, forks, placed, ran, record_after, runs, sleeps, ticked, woken}
 use Rattle.ule_score.specs.declared.record.ThreadRecord.{ThreadRecord}
@@ -31,17 +31,18 @@ pub record IsParent (w : World) (now : ℕ) (parent : ThreadRecord) : Type 0 whe
   pub numbers : HasNumbers parent
   pub by_now : IsBy now parent
 
--- a change that a step of a world may make: its own numbers are in range, and a child is that of a thread of the world
+-- a change that a step of a world may make: its own numbers are in range, the CPU that it names is there, and a child is that of a
+-- thread of the world
 abbrev pub IsSoundIn : World → ℕ → RecordChange → Type 0
 IsSoundIn w now ran = Unit {0}
 IsSoundIn w now runs = Unit {0}
 IsSoundIn w now sleeps = Unit {0}
 IsSoundIn w now woken = Unit {0}
 IsSoundIn w now (ticked load) = Unit {0}
-IsSoundIn w now (placed c) = Unit {0}
+IsSoundIn w now (placed c) = c < length w.lines
 IsSoundIn w now (changed change) = IsSoundChange now (changed change)
 IsSoundIn w now forks = Unit {0}
-IsSoundIn w now (forked parent c load) = IsParent w now parent
+IsSoundIn w now (forked parent c load) = IsParent w now parent × (c < length w.lines)
 
 -- a record after any number of changes that a step of a world may make at one time
 pub data ComesTo (w : World) (now : ℕ) : ThreadRecord → ThreadRecord → Type 0 where

@@ -8,7 +8,7 @@ use Rattle.ule_model.specs.CalendarPromise.{HasCalendarPromise}
 use Rattle.ule_model.specs.Ends.{end_time, end_world}
 use Rattle.ule_model.specs.Legal.{IsLegal, IsWhole}
 use Rattle.ule_model.specs.Places.{hand_of}
-use Rattle.ule_model.specs.Program.{Course, next_step}
+use Rattle.ule_program.specs.Courses.{Course, next_step}
 use Rattle.ule_model.specs.Rounds.{Play, greatest_rounds, opening, play_of, round, rounds}
 use Rattle.ule_model.specs.Start.{world_at_start}
 use Rattle.ule_model.specs.Throughout.{HoldsThroughout}

@@ -3,13 +3,14 @@
 use Rattle.std.specs.Prelude.{◌≡◌, ℕ, ◌+◌, ◌<◌, ◌≤◌, Bool, true, ◌==◌, ◌||◌, List, [], ◌∷◌, filter, map, slice_index_or, sum_by, Some, None}
 use Rattle.std.specs.List.{AllByRecursion, list_any}
 use Rattle.ule_types.specs.Commands.{is_among}
+pub use Rattle.ule_types.specs.Commands.{amount_of}
 use Rattle.ule_types.specs.declared.command.Command.{Command}
-use Rattle.ule_types.specs.declared.command.Command.TheVariants as command
 use Rattle.ule_types.specs.declared.event.Entry.{Entry}
 use Rattle.ule_types.specs.declared.event.Item.TheVariants as item
 use Rattle.ule_types.specs.declared.setup.Setup.{Setup}
+use Rattle.ule_program.specs.Courses.{Course, course_of, next_step}
+use Rattle.ule_program.specs.Program.{own_of_setup}
 use Rattle.ule_model.specs.Events.{has_thread, is_ready, locks_of}
-use Rattle.ule_model.specs.Program.{Course, course_of, next_step, own_of}
 use Rattle.ule_model.specs.Start.{world_at_start, starting_time}
 use Rattle.ule_model.specs.Step.{step}
 use Rattle.ule_model.specs.World.{World}
@@ -61,7 +62,7 @@ entries_of worker es = filter (λ x. x.entry.worker == worker) es
 
 -- a worker before the first command of its list
 abbrev pub opening_of : Setup → List (List Command) → ℕ → Course
-opening_of s lists worker = course_of (own_of s.jitter s.cpus worker) (slice_index_or lists worker [])
+opening_of s lists worker = course_of (own_of_setup s worker) (slice_index_or lists worker [])
 
 -- a worker's entries are the first of the program of its list
 pub record BeginsProgram (s : Setup) (lists : List (List Command)) (es : List Timed) (worker : ℕ) : Type 0 where
@@ -100,23 +101,6 @@ pub record KeepsTime (w : World) (es : List Timed) (total : ℕ) : Type 0 where
   pub in_order : IsInTime (with_locks w (map (λ x. x.entry) es))
   pub after_own : AllByRecursion (λ x. starting_time + x.amount ≤ x.entry.now) es
   pub by_the_end : AllByRecursion (λ x. x.entry.now ≤ starting_time + total) es
-
--- the time that a command adds
-abbrev pub amount_of : Command → ℕ
-amount_of (command.Time k) = k
-amount_of command.Tick = 0
-amount_of command.Yield = 0
-amount_of command.Resched = 0
-amount_of (command.Sleep channel) = 0
-amount_of (command.Wake t) = 0
-amount_of (command.Lend t p) = 0
-amount_of (command.Unlend t) = 0
-amount_of (command.Renice t n) = 0
-amount_of (command.Fork t) = 0
-amount_of command.Exit = 0
-amount_of command.Idle = 0
-amount_of command.Balance = 0
-amount_of (command.Look c) = 0
 
 -- the time that a list of commands adds, and that all lists add
 abbrev pub amount_in : List Command → ℕ

@@ -12,7 +12,6 @@ pub mod Birth
 pub mod Events
 pub mod Words
 pub mod Step
-pub mod Program
 pub mod Rounds
 pub mod Finals
 pub mod Legal

@@ -6,8 +6,9 @@ use Rattle.ule_types.specs.declared.event.Event.{Event}
 use Rattle.ule_types.specs.declared.event.Item.{Item}
 use Rattle.ule_types.specs.declared.event.Item.TheVariants as item
 use Rattle.ule_types.specs.declared.setup.Setup.{Setup}
+use Rattle.ule_program.specs.Courses.{Course, course_of, next_step}
+use Rattle.ule_program.specs.Program.{own_of_setup}
 use Rattle.ule_model.specs.Events.{is_ready}
-use Rattle.ule_model.specs.Program.{Course, course_of, next_step, own_of}
 use Rattle.ule_model.specs.Start.{world_at_start, starting_time}
 use Rattle.ule_model.specs.Step.{step}
 use Rattle.ule_model.specs.World.{World}
@@ -60,7 +61,7 @@ greatest_rounds = 65536
 
 -- each worker before its first command
 abbrev pub opening_courses : Setup → List Course
-opening_courses s = map (λ e. course_of (own_of s.jitter s.cpus e.0) e.1) (enumerate_from 0 (take s.cpus s.scripts))
+opening_courses s = map (λ e. course_of (own_of_setup s e.0) e.1) (enumerate_from 0 (take s.cpus s.scripts))
 
 -- the play before its first round
 abbrev pub opening : Setup → Play

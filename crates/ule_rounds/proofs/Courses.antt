@@ -4,20 +4,40 @@ use Rattle.std.specs.List.{list_all}
 use Rattle.std.proofs.lemmas.Bool.{and_parts}
 use Rattle.std.proofs.lemmas.List.Sums.{sum_by-cons}
 use Rattle.std.proofs.lemmas.Option.{none-some, some_pair_parts}
-use Rattle.ule_types.specs.Commands.{forked_by, greatest_of, is_command}
+use Rattle.ule_types.specs.Commands.{amount_of, forked_by, greatest_of, is_among, is_command}
+use Rattle.ule_prio.specs.Class.{is_within}
+use Rattle.ule_types.specs.Needs.{FitsHand, handling, hatched_by, sought_by}
+use Rattle.ule_types.specs.Words.{change_of}
 use Rattle.ule_types.specs.declared.command.Command.{Command}
 use Rattle.ule_types.specs.declared.event.Entry.{Entry}
 use Rattle.ule_types.specs.declared.event.Event.{Event}
 use Rattle.ule_types.specs.declared.event.Item.{Item}
 use Rattle.ule_types.specs.declared.event.Item.TheVariants as item
 use Rattle.ule_types.specs.declared.event.Reply.{Reply}
-use Rattle.ule_types.specs.declared.stage.Stage.TheVariants as stage
-use Rattle.ule_model.specs.Events.{handling, sought_by}
-use Rattle.ule_model.specs.Legal.{Performs, Timed, acts, advances, amount_in, amount_of, stays}
-use Rattle.ule_model.specs.Program.{Course, Own, after_giving, begun, course_of, in_hand, item_at, most_from, next_in, next_of, next_step, or_else, stage_after, stepped, told_last}
-use Rattle.ule_members.proofs.Unborn.{hatched_by}
-use Rattle.ule_rounds.proofs.Stages.{IsSoundReply, reply_sound}
-use Rattle.ule_rounds.proofs.Stages.{FitsHand, IsSoundStage, advance_lowers, at_advance, at_event, ended_stage, first_charged, first_hand, first_hatching, first_sound, first_time, given_sound, given_stage, hatching, item_fits, item_hatching, item_time, reply_hatching, reply_lowers, reply_time, time_at}
+use Rattle.ule_topo.specs.Tree.{Tree}
+use Rattle.ule_program.specs.Courses.{Course, course_of, next_in, next_step, or_else, stepped}
+use Rattle.ule_program.specs.Hearing.{Allows, AllowsAt, IsReplyTo, IsSeat}
+use Rattle.ule_program.specs.Laws.{IsStageBy, LeadsTo, NamesWhatIs, hand_after, hand_left, hatching, time_at}
+use Rattle.ule_program.specs.Program.{after, after_giving, begun, in_hand, item_at, most, most_after, next_of, once_given, told_last}
+use Rattle.ule_program.specs.declared.own.Own.{Own}
+use Rattle.ule_program.specs.declared.stage.Stage.{Stage}
+use Rattle.ule_program.specs.declared.stage.Stage.TheVariants.{Advances, Ended, Gives}
+use Rattle.ule_program.specs.declared.stage.Next.{Next}
+use Rattle.ule_program.specs.declared.stage.Next.TheVariants.{Sees}
+use Rattle.ule_program.specs.declared.stage.Purpose.{Purpose}
+use Rattle.ule_program.specs.declared.stage.Purpose.TheVariants.{ToLand}
+use Rattle.ule_program.proofs.ProgramLaws.{allows_any, item_fits, item_seeks, to_after, to_begun}
+use Rattle.ule_model.specs.Legal.{Performs, Timed, acts, advances, amount_in, stays}
+
+-- a stage without an item is the end of its command
+ended_stage : (st : Stage) → item_at st ≡ None → st ≡ Ended
+ended_stage Ended none = refl
+ended_stage (Advances k) none = cc
+ended_stage (Gives e next) none = cc
+
+-- an advance of time is no event
+advance_no_event : (k : ℕ) (e : Event) → Some (item.Advance k) ≡ Some (item.Event e) → ⊥
+advance_no_event k e is = cc
 
 -- ---- where the next item is found
 
@@ -25,14 +45,10 @@ use Rattle.ule_rounds.proofs.Stages.{FitsHand, IsSoundStage, advance_lowers, at_
 abbrev pub told_at : Course → Own
 told_at course = told_last course.last course.own
 
--- a worker's own part once the item at its stage is given
-abbrev pub once_given : Own → Own
-once_given own = record own { stage = after_giving own.stage }
-
 -- the next item of the commands not begun, and before them of the stage that a worker is at
 abbrev pub next_from : List Command → Own → Option (Item × Course)
-next_from [] own = stepped [] (item_at own.worker own.stage) (once_given own)
-next_from (c ∷ cs) own = or_else (stepped (c ∷ cs) (item_at own.worker own.stage) (once_given own)) (next_from cs (begun c own))
+next_from [] own = stepped [] (item_at own.stage) (once_given own)
+next_from (c ∷ cs) own = or_else (stepped (c ∷ cs) (item_at own.stage) (once_given own)) (next_from cs (begun c (once_given own)))
 
 -- the next item of a program is found from where its worker stands once it knows the last reply
 pub next_in_is : (script : List Command) (own : Own) (last : Option (Reply × ℕ)) → next_in script own last ≡ next_from script (told_last last own)
@@ -44,30 +60,30 @@ next_in_is (c ∷ cs) own last =
 -- what holds of the commands not begun and of a worker's own part still holds when it begins the next command
 abbrev pub KeptAtBegin : (List Command → Own → Type 0) → Type 0
 KeptAtBegin P =
-    (c : Command) (cs : List Command) (own : Own) → item_at own.worker own.stage ≡ None → P (c ∷ cs) own → P cs (begun c own)
+    (c : Command) (cs : List Command) (own : Own) → item_at own.stage ≡ None → P (c ∷ cs) own → P cs (begun c (once_given own))
 
 -- a program's next item, with the commands not begun and the worker's own part where it was found
 pub record IsFound (P : List Command → Own → Type 0) (i : Item) (after : Course) : Type 0 where
   pub script : List Command
   pub own : Own
   pub holds : P script own
-  pub item : item_at own.worker own.stage ≡ Some i
+  pub item : item_at own.stage ≡ Some i
   pub gone : after ≡ course_of (once_given own) script
 
 -- a next item is found where what holds of the worker is kept
 pub found_from : (P : List Command → Own → Type 0) → KeptAtBegin P → (script : List Command) (own : Own) (i : Item) (after : Course) → P script own →
     next_from script own ≡ Some (i, after) → IsFound P i after
-found_from P kept [] own i after holds next = at_item (item_at own.worker own.stage) refl next
+found_from P kept [] own i after holds next = at_item (item_at own.stage) refl next
   where
-    at_item : (o : Option Item) → item_at own.worker own.stage ≡ o → stepped [] o (once_given own) ≡ Some (i, after) → IsFound P i after
+    at_item : (o : Option Item) → item_at own.stage ≡ o → stepped [] o (once_given own) ≡ Some (i, after) → IsFound P i after
     at_item None is none = absurd (none-some (i, after) none)
     at_item (Some j) is some =
         let parts = some_pair_parts j i (course_of (once_given own) []) after some in
         record { script = []; own = own; holds = holds; item = is ∙ ap (λ (k : Item). Some k) parts.0; gone = sym parts.1 }
-found_from P kept (c ∷ cs) own i after holds next = at_item (item_at own.worker own.stage) refl next (found_from P kept cs (begun c own) i after)
+found_from P kept (c ∷ cs) own i after holds next = at_item (item_at own.stage) refl next (found_from P kept cs (begun c (once_given own)) i after)
   where
-    at_item : (o : Option Item) → item_at own.worker own.stage ≡ o → or_else (stepped (c ∷ cs) o (once_given own)) (next_from cs (begun c own)) ≡ Some (i, after) →
-        (P cs (begun c own) → next_from cs (begun c own) ≡ Some (i, after) → IsFound P i after) → IsFound P i after
+    at_item : (o : Option Item) → item_at own.stage ≡ o → or_else (stepped (c ∷ cs) o (once_given own)) (next_from cs (begun c (once_given own))) ≡ Some (i, after) →
+        (P cs (begun c (once_given own)) → next_from cs (begun c (once_given own)) ≡ Some (i, after) → IsFound P i after) → IsFound P i after
     at_item None is some further = further (kept c cs own is holds) some
     at_item (Some j) is some further =
         let parts = some_pair_parts j i (course_of (once_given own) (c ∷ cs)) after some in
@@ -83,50 +99,46 @@ next_found P kept course i after holds next =
 pub record HasRunOut (P : List Command → Own → Type 0) : Type 0 where
   pub own : Own
   pub holds : P [] own
-  pub ended : own.stage ≡ stage.Ended
+  pub ended : own.stage ≡ Ended
 
 -- where there is no next item, the commands have run out
 pub ended_from : (P : List Command → Own → Type 0) → KeptAtBegin P → (script : List Command) (own : Own) → P script own → next_from script own ≡ None → HasRunOut P
-ended_from P kept [] own holds next = at_item (item_at own.worker own.stage) refl next
+ended_from P kept [] own holds next = at_item (item_at own.stage) refl next
   where
-    at_item : (o : Option Item) → item_at own.worker own.stage ≡ o → stepped [] o (once_given own) ≡ None → HasRunOut P
-    at_item None is none = record { own = own; holds = holds; ended = ended_stage own.worker own.stage is }
+    at_item : (o : Option Item) → item_at own.stage ≡ o → stepped [] o (once_given own) ≡ None → HasRunOut P
+    at_item None is none = record { own = own; holds = holds; ended = ended_stage own.stage is }
     at_item (Some j) is some = absurd (none-some (j, course_of (once_given own) []) (sym some))
-ended_from P kept (c ∷ cs) own holds next = at_item (item_at own.worker own.stage) refl next (ended_from P kept cs (begun c own))
+ended_from P kept (c ∷ cs) own holds next = at_item (item_at own.stage) refl next (ended_from P kept cs (begun c (once_given own)))
   where
-    at_item : (o : Option Item) → item_at own.worker own.stage ≡ o → or_else (stepped (c ∷ cs) o (once_given own)) (next_from cs (begun c own)) ≡ None →
-        (P cs (begun c own) → next_from cs (begun c own) ≡ None → HasRunOut P) → HasRunOut P
+    at_item : (o : Option Item) → item_at own.stage ≡ o → or_else (stepped (c ∷ cs) o (once_given own)) (next_from cs (begun c (once_given own))) ≡ None →
+        (P cs (begun c (once_given own)) → next_from cs (begun c (once_given own)) ≡ None → HasRunOut P) → HasRunOut P
     at_item None is none further = further (kept c cs own is holds) none
     at_item (Some j) is some further = absurd (none-some (j, course_of (once_given own) (c ∷ cs)) (sym some))
 
 -- a worker at a stage with an item has a next item
-pub item_goes_on : (script : List Command) (own : Own) (i : Item) → item_at own.worker own.stage ≡ Some i → next_from script own ≡ Some (i, course_of (once_given own) script)
+pub item_goes_on : (script : List Command) (own : Own) (i : Item) → item_at own.stage ≡ Some i → next_from script own ≡ Some (i, course_of (once_given own) script)
 item_goes_on [] own i is = ap (λ o. stepped [] o (once_given own)) is
-item_goes_on (c ∷ cs) own i is = ap (λ o. or_else (stepped (c ∷ cs) o (once_given own)) (next_from cs (begun c own))) is
+item_goes_on (c ∷ cs) own i is = ap (λ o. or_else (stepped (c ∷ cs) o (once_given own)) (next_from cs (begun c (once_given own)))) is
 
--- ---- the items and the time that are left
+-- ---- what a course keeps
 
 -- the greatest number of items of some commands
 abbrev pub greatest_in : ℕ → ℕ → List Command → ℕ
 greatest_in cpus worker script = sum_by (λ c. greatest_of c worker cpus) script
 
--- the greatest number of items that a worker still has
+-- the greatest number of items that a worker still has, and the time that it still adds
 abbrev pub left_from : ℕ → List Command → Own → ℕ
-left_from cpus script own = most_from own.stage + greatest_in cpus own.worker script
+left_from cpus script own = most own + greatest_in cpus own.worker script
 
--- the time that a worker still adds
 abbrev pub time_from : List Command → Own → ℕ
 time_from script own = time_at own.stage + amount_in script
 
--- the greatest number of items that a course still has
+-- so of a course
 abbrev pub left_of : ℕ → Course → ℕ
 left_of cpus course = left_from cpus course.script (told_at course)
 
--- the time that a course still adds
 abbrev pub time_of : Course → ℕ
 time_of course = time_from course.script (told_at course)
-
--- ---- what a course keeps
 
 -- the thread that the worker of a course has in hand
 abbrev pub held_at : Course → Option ℕ
@@ -140,157 +152,279 @@ to_fork script own = hatching own.stage ++ flat_map forked_by script
 abbrev pub forks_ahead : Course → List ℕ
 forks_ahead course = to_fork course.script (told_at course)
 
--- a worker with valid commands before it and at a sound stage, with so many items and so much time left, this hand, and
--- these threads to fork
-pub record IsOrderly (ids : List ℕ) (cpus worker most amount : ℕ) (hand : Option ℕ) (ahead : List ℕ) (script : List Command) (own : Own) : Type 0 where
-  pub worker_is : own.worker ≡ worker
-  pub valid : list_all (is_command ids cpus) script ≡ true
-  pub sound : IsSoundStage ids cpus own.stage
-  pub left : left_from cpus script own ≤ most
+-- a worker of a topology with valid commands before it that has come to where it stands by now, with so many items and so much time left, this
+-- hand, and these threads to fork
+pub record IsOrderly (ids : List ℕ) (worker : ℕ) (t : Tree) (now left amount : ℕ) (hand : Option ℕ) (ahead : List ℕ) (script : List Command) (own : Own) : Type 0 where
+  pub valid : list_all (is_command ids t.cpus) script ≡ true
+  pub leads : LeadsTo (is_among ids) worker t now (most own) (time_at own.stage) (hatching own.stage) hand own
+  pub few : left_from t.cpus script own ≤ left
   pub time : time_from script own ≡ amount
-  pub held : in_hand own.stage ≡ hand
   pub forks : to_fork script own ≡ ahead
 
--- a command that is begun keeps a worker orderly
-pub orderly_begun : (ids : List ℕ) (cpus worker most amount : ℕ) (hand : Option ℕ) (ahead : List ℕ) →
-    KeptAtBegin (IsOrderly ids cpus worker most amount hand ahead)
-orderly_begun ids cpus worker most amount hand ahead c cs own none orderly =
-    let ended = ended_stage own.worker own.stage none in
-    let few : most_from own.stage ≡ 0 = ap most_from ended in
-    let short : time_at own.stage ≡ 0 = ap time_at ended in
-    let parts = and_parts (is_command ids cpus c) (list_all (is_command ids cpus) cs) orderly.valid in
-    record {
-      worker_is = orderly.worker_is;
-      valid = parts.1;
-      sound = first_sound ids cpus c parts.0;
-      left = omega (arith, few, orderly.left, first_charged own.worker cpus c, sum_by-cons (λ d. greatest_of d own.worker cpus) c cs);
-      time = omega (arith, short, orderly.time, first_time c, sum_by-cons amount_of c cs);
-      held = first_hand c ∙ sym (ap in_hand ended) ∙ orderly.held;
-      forks = ap (λ us. us ++ flat_map forked_by cs) (first_hatching c) ∙ sym (ap (λ st. hatching st ++ flat_map forked_by (c ∷ cs)) ended) ∙ orderly.forks;
-    }
+-- where a worker has come to by now, with the numbers that it has there
+at_itself : (ids : List ℕ) (worker : ℕ) (t : Tree) (now n k : ℕ) (us : List ℕ) (hand : Option ℕ) (own : Own) → LeadsTo (is_among ids) worker t now n k us hand own →
+    LeadsTo (is_among ids) worker t now (most own) (time_at own.stage) (hatching own.stage) hand own
+at_itself ids worker t now n k us hand own led = record {
+  same_worker = led.same_worker;
+  same_topology = led.same_topology;
+  few = omega arith;
+  time = refl;
+  hatches = refl;
+  hand = led.hand;
+  sound = led.sound;
+  named = led.named;
+  by_now = led.by_now;
+}
+
+-- a worker that has come to where it stands by now has come there by any later time
+stage_later : (st : Stage) (now later : ℕ) → now ≤ later → IsStageBy now st → IsStageBy later st
+stage_later Ended now later past by = tt
+stage_later (Advances k) now later past by = tt
+stage_later (Gives e next) now later past by = next_later next by
+  where
+    purpose_later : (purpose : Purpose) → IsStageBy now (Gives e (Sees purpose)) → IsStageBy later (Gives e (Sees purpose))
+    purpose_later (ToLand t card) by = omega (arith, by, past)
+    purpose_later _ by = tt
+
+    next_later : (next : Next) → IsStageBy now (Gives e next) → IsStageBy later (Gives e next)
+    next_later (Sees purpose) by = purpose_later purpose by
+    next_later _ by = tt
 
 -- a course of a worker that is orderly once it is told
-abbrev pub HasOrder : List ℕ → ℕ → ℕ → Course → Type 0
-HasOrder ids cpus worker course = IsOrderly ids cpus worker (left_of cpus course) (time_of course) (held_at course) (forks_ahead course) course.script (told_at course)
+abbrev pub HasOrder : List ℕ → ℕ → Tree → ℕ → Course → Type 0
+HasOrder ids worker t now course =
+    IsOrderly ids worker t now (left_of t.cpus course) (time_of course) (held_at course) (forks_ahead course) course.script (told_at course)
+
+-- an orderly course is so at any later time
+pub order_later : (ids : List ℕ) (worker : ℕ) (t : Tree) (now later : ℕ) (course : Course) → now ≤ later → HasOrder ids worker t now course → HasOrder ids worker t later course
+order_later ids worker t now later course past orderly = record {
+  valid = orderly.valid;
+  leads = record {
+    same_worker = orderly.leads.same_worker;
+    same_topology = orderly.leads.same_topology;
+    few = orderly.leads.few;
+    time = orderly.leads.time;
+    hatches = orderly.leads.hatches;
+    hand = orderly.leads.hand;
+    sound = orderly.leads.sound;
+    named = orderly.leads.named;
+    by_now = stage_later (told_at course).stage now later past orderly.leads.by_now;
+  };
+  few = orderly.few;
+  time = orderly.time;
+  forks = orderly.forks;
+}
 
 -- where the next item of an orderly course is found
-abbrev pub IsNextItem : List ℕ → ℕ → ℕ → Course → Item → Course → Type 0
-IsNextItem ids cpus worker course i after = IsFound (IsOrderly ids cpus worker (left_of cpus course) (time_of course) (held_at course) (forks_ahead course)) i after
+abbrev pub IsNextItem : List ℕ → ℕ → Tree → ℕ → Course → Item → Course → Type 0
+IsNextItem ids worker t now course i after = IsFound (IsOrderly ids worker t now (left_of t.cpus course) (time_of course) (held_at course) (forks_ahead course)) i after
 
--- the next item of an orderly course is found where the worker is orderly
-pub next_is : (ids : List ℕ) (cpus worker : ℕ) (course : Course) (i : Item) (after : Course) → HasOrder ids cpus worker course →
-    next_step course ≡ Some (i, after) → IsNextItem ids cpus worker course i after
-next_is ids cpus worker course i after orderly next =
-    next_found (IsOrderly ids cpus worker (left_of cpus course) (time_of course) (held_at course) (forks_ahead course)) (orderly_begun ids cpus worker (left_of cpus course) (time_of course) (held_at course) (forks_ahead course)) course i after orderly next
+module _ (ids : List ℕ) (worker : ℕ) (t : Tree) (seat : IsSeat worker t) (now : ℕ) where
+  -- the worker's seat, by its own part
+  seat_of : (own : Own) → own.worker ≡ worker → own.topology ≡ t → IsSeat own.worker own.topology
+  seat_of own same_worker same_topology = subst (λ s. IsSeat own.worker s) (sym same_topology) (subst (λ w. IsSeat w t) (sym same_worker) seat)
 
--- a course after another: it is orderly, with an item less, so much time less, and these threads to fork less
-pub record GoesOnAs (ids : List ℕ) (cpus worker k : ℕ) (forked : List ℕ) (course reached : Course) : Type 0 where
-  pub orderly : HasOrder ids cpus worker reached
-  pub left : left_of cpus reached + 1 ≤ left_of cpus course
+  -- where this worker's command begins
+  begun_from : (c : Command) (own : Own) → is_command ids t.cpus c ≡ true → own.worker ≡ worker → own.topology ≡ t →
+      LeadsTo (is_among ids) worker t now (greatest_of c worker t.cpus) (amount_of c) (forked_by c) None (begun c (once_given own))
+  begun_from c own valid same_worker same_topology =
+      subst (λ s. LeadsTo (is_among ids) worker s now (greatest_of c worker s.cpus) (amount_of c) (forked_by c) None (begun c (once_given own))) same_topology
+      (subst (λ w. LeadsTo (is_among ids) w own.topology now (greatest_of c w own.topology.cpus) (amount_of c) (forked_by c) None (begun c (once_given own))) same_worker
+      (to_begun ids (once_given own) now c (seat_of own same_worker same_topology) (subst (λ (s : Tree). is_command ids s.cpus c ≡ true) (sym same_topology) valid)))
+
+  -- a command that is begun keeps a worker orderly
+  pub orderly_begun : (left amount : ℕ) (hand : Option ℕ) (ahead : List ℕ) → KeptAtBegin (IsOrderly ids worker t now left amount hand ahead)
+  orderly_begun left amount hand ahead c cs own none orderly =
+      let ended = ended_stage own.stage none in
+      let few : most own ≡ 0 = ap (λ st. most (record own { stage = st })) ended in
+      let short : time_at own.stage ≡ 0 = ap time_at ended in
+      let parts = and_parts (is_command ids t.cpus c) (list_all (is_command ids t.cpus) cs) orderly.valid in
+      let led : LeadsTo (is_among ids) worker t now (greatest_of c worker t.cpus) (amount_of c) (forked_by c) None (begun c (once_given own)) =
+      begun_from c own parts.0 orderly.leads.same_worker orderly.leads.same_topology in
+      let first : greatest_in t.cpus (begun c (once_given own)).worker cs ≡ greatest_in t.cpus worker cs = ap (λ w. greatest_in t.cpus w cs) led.same_worker in
+      let all : greatest_in t.cpus own.worker (c ∷ cs) ≡ greatest_in t.cpus worker (c ∷ cs) = ap (λ w. greatest_in t.cpus w (c ∷ cs)) orderly.leads.same_worker in
+      let same : None ≡ hand = sym (ap in_hand ended) ∙ orderly.leads.hand in
+      record {
+        valid = parts.1;
+        leads = subst (λ h. LeadsTo (is_among ids) worker t now (most (begun c (once_given own))) (time_at (begun c (once_given own)).stage) (hatching (begun c (once_given own)).stage) h
+            (begun c (once_given own))) same (at_itself ids worker t now (greatest_of c worker t.cpus) (amount_of c) (forked_by c) None (begun c (once_given own)) led);
+        few = omega (arith, orderly.few, led.few, few, first, all, sum_by-cons (λ d. greatest_of d worker t.cpus) c cs);
+        time = omega (arith, short, orderly.time, led.time, sum_by-cons amount_of c cs);
+        forks = ap (λ us. us ++ flat_map forked_by cs) led.hatches ∙ sym (ap (λ st. hatching st ++ flat_map forked_by (c ∷ cs)) ended) ∙ orderly.forks;
+      }
+
+  -- the next item of an orderly course is found where the worker is orderly
+  pub next_is : (course : Course) (i : Item) (after : Course) → HasOrder ids worker t now course → next_step course ≡ Some (i, after) → IsNextItem ids worker t now course i after
+  next_is course i after orderly next =
+      next_found (IsOrderly ids worker t now (left_of t.cpus course) (time_of course) (held_at course) (forks_ahead course))
+      (orderly_begun (left_of t.cpus course) (time_of course) (held_at course) (forks_ahead course)) course i after orderly next
+
+  -- a course without a next item adds no time
+  pub ended_time : (course : Course) → HasOrder ids worker t now course → next_step course ≡ None → time_of course ≡ 0
+  ended_time course orderly none =
+      let end = ended_from (IsOrderly ids worker t now (left_of t.cpus course) (time_of course) (held_at course) (forks_ahead course))
+      (orderly_begun (left_of t.cpus course) (time_of course) (held_at course) (forks_ahead course)) course.script (told_at course) orderly
+      (sym (next_in_is course.script course.own course.last) ∙ none) in
+      let short : time_at end.own.stage ≡ 0 = ap time_at end.ended in
+      omega (arith, end.holds.time, short)
+
+-- a course that goes on from another: it is orderly, with an item less, so much time less, these threads to fork less, and this hand
+pub record GoesOnAs (ids : List ℕ) (worker : ℕ) (t : Tree) (now k : ℕ) (forked : List ℕ) (hand : Option ℕ) (course reached : Course) : Type 0 where
+  pub orderly : HasOrder ids worker t now reached
+  pub left : left_of t.cpus reached + 1 ≤ left_of t.cpus course
   pub time : k + time_of reached ≡ time_of course
   pub forks : forked ++ forks_ahead reached ≡ forks_ahead course
+  pub held : held_at reached ≡ hand
 
--- a course that is told the reply to its next event goes on
-pub course_told : (ids : List ℕ) (cpus worker : ℕ) (course : Course) (e : Event) (after : Course) (r : Reply) (now : ℕ)
-    (next : IsNextItem ids cpus worker course (item.Event e) after) → IsSoundReply ids cpus next.own.stage r →
-    GoesOnAs ids cpus worker 0 (hatched_by e) course (record after { last = Some (r, now) })
-course_told ids cpus worker course e after r now next sound =
-    subst (λ a. GoesOnAs ids cpus worker 0 (hatched_by e) course (record a { last = Some (r, now) })) (sym next.gone) (record {
-      orderly = record {
-        worker_is = next.holds.worker_is;
-        valid = next.holds.valid;
-        sound = subst (λ s. IsSoundStage ids cpus (stage_after r s)) (sym same) (reply_sound ids cpus r next.own.stage next.holds.sound sound);
-        left = omega arith;
+module _ (ids : List ℕ) (worker : ℕ) (t : Tree) (now : ℕ) where
+  -- a worker that has come to where a course stands once it is told, with fewer items than were left, has gone on to it
+  went_on : (course reached : Course) (k : ℕ) (forked : List ℕ) (held hand : Option ℕ) (own : Own) (n : ℕ) →
+      IsOrderly ids worker t now (left_of t.cpus course) (time_of course) held (forks_ahead course) reached.script own →
+      LeadsTo (is_among ids) worker t now n 0 [] hand (told_at reached) → 1 + n ≤ most own → k ≡ time_at own.stage → forked ≡ hatching own.stage →
+      GoesOnAs ids worker t now k forked hand course reached
+  went_on course reached k forked held hand own n orderly led few time forks =
+      let before : greatest_in t.cpus own.worker reached.script ≡ greatest_in t.cpus worker reached.script = ap (λ w. greatest_in t.cpus w reached.script) orderly.leads.same_worker in
+      let after : greatest_in t.cpus (told_at reached).worker reached.script ≡ greatest_in t.cpus worker reached.script =
+      ap (λ w. greatest_in t.cpus w reached.script) led.same_worker in
+      record {
+        orderly = record {
+          valid = orderly.valid;
+          leads = subst (λ h. LeadsTo (is_among ids) worker t now (most (told_at reached)) (time_at (told_at reached).stage) (hatching (told_at reached).stage) h (told_at reached))
+              (sym led.hand) (at_itself ids worker t now n 0 [] hand (told_at reached) led);
+          few = omega arith;
+          time = refl;
+          forks = refl;
+        };
+        left = omega (arith, few, led.few, before, after, orderly.few);
+        time = omega (arith, time, led.time, orderly.time);
+        forks = ap (λ us. forked ++ (us ++ flat_map forked_by reached.script)) led.hatches ∙ ap (λ us. us ++ flat_map forked_by reached.script) forks ∙ orderly.forks;
+        held = led.hand;
+      }
+
+module _ (ids : List ℕ) (worker : ℕ) (t : Tree) (seat : IsSeat worker t) (now : ℕ) where
+  -- where the reply to a worker's event leads
+  led_from : (left amount : ℕ) (hand : Option ℕ) (ahead : List ℕ) (script : List Command) (own : Own) (e : Event) (next : Next) (r : Reply) →
+      IsOrderly ids worker t now left amount hand ahead script (record own { stage = Gives e next }) → IsReplyTo (is_among ids) t.cpus now e r →
+      LeadsTo (is_among ids) worker t now (most_after next (record own { stage = Gives e next })) 0 [] (hand_left (handling e) (change_of e r) hand)
+      (after next r now (record own { stage = Gives e next }))
+  led_from left amount hand ahead script own e next r orderly says =
+      let at : Own = record own { stage = Gives e next } in
+      subst (λ h. LeadsTo (is_among ids) worker t now (most_after next at) 0 [] h (after next r now at))
+      (sym (orderly.leads.named.hand r now says) ∙ ap (hand_left (handling e) (change_of e r)) orderly.leads.hand)
+      (subst (λ w. LeadsTo (is_among ids) w t now (most_after next at) 0 [] (hand_after next r) (after next r now at)) orderly.leads.same_worker
+      (subst (λ s. LeadsTo (is_among ids) own.worker s now (most_after next at) 0 [] (hand_after next r) (after next r now at)) orderly.leads.same_topology
+      (to_after (is_among ids) at next r now (seat_of ids worker t seat now own orderly.leads.same_worker orderly.leads.same_topology) orderly.leads.sound orderly.leads.named.charges
+      (subst (λ w. Allows (is_among ids) w own.topology.cpus next r now) (sym orderly.leads.same_worker)
+      (subst (λ (s : Tree). Allows (is_among ids) worker s.cpus next r now) (sym orderly.leads.same_topology)
+      (orderly.leads.named.allows r now says orderly.leads.by_now))))))
+
+  -- a worker that is told the reply to its next event goes on
+  told_from : (course : Course) (script : List Command) (own : Own) (st : Stage) (e : Event) (r : Reply) →
+      IsOrderly ids worker t now (left_of t.cpus course) (time_of course) (held_at course) (forks_ahead course) script (record own { stage = st }) →
+      item_at st ≡ Some (item.Event e) → IsReplyTo (is_among ids) t.cpus now e r →
+      GoesOnAs ids worker t now 0 (hatched_by e) (hand_left (handling e) (change_of e r) (held_at course)) course
+      (record { script = script; own = once_given (record own { stage = st }); last = Some (r, now) })
+  told_from course script own Ended e r orderly is says = absurd (none-some (item.Event e) is)
+  told_from course script own (Advances k) e r orderly is says = absurd (advance_no_event k e is)
+  told_from course script own (Gives f next) e r orderly is says =
+      let same : f ≡ e = cc in
+      let back : e ≡ f = cc in
+      let reached : Course = record { script = script; own = record own { stage = Gives f next }; last = Some (r, now) } in
+      subst (λ x. GoesOnAs ids worker t now 0 (hatched_by x) (hand_left (handling x) (change_of x r) (held_at course)) course reached) same
+      (went_on ids worker t now course reached 0 (hatched_by f) (held_at course) (hand_left (handling f) (change_of f r) (held_at course)) (record own { stage = Gives f next })
+      (most_after next (record own { stage = Gives f next })) orderly
+      (led_from (left_of t.cpus course) (time_of course) (held_at course) (forks_ahead course) script own f next r orderly (subst (λ x. IsReplyTo (is_among ids) t.cpus now x r) back says))
+      (omega arith) refl refl)
+
+  -- a course that is told the reply to its next event goes on
+  pub course_told : (course : Course) (e : Event) (after : Course) (r : Reply) → IsNextItem ids worker t now course (item.Event e) after →
+      IsReplyTo (is_among ids) t.cpus now e r →
+      GoesOnAs ids worker t now 0 (hatched_by e) (hand_left (handling e) (change_of e r) (held_at course)) course (record after { last = Some (r, now) })
+  course_told course e after r next says =
+      subst (λ a. GoesOnAs ids worker t now 0 (hatched_by e) (hand_left (handling e) (change_of e r) (held_at course)) course (record a { last = Some (r, now) })) (sym next.gone)
+      (told_from course next.script next.own next.own.stage e r next.holds next.item says)
+
+  -- a worker that has its next advance of time goes on
+  advanced_from : (course : Course) (script : List Command) (own : Own) (st : Stage) (k : ℕ) →
+      IsOrderly ids worker t now (left_of t.cpus course) (time_of course) (held_at course) (forks_ahead course) script (record own { stage = st }) →
+      item_at st ≡ Some (item.Advance k) → GoesOnAs ids worker t now k [] (held_at course) course (course_of (once_given (record own { stage = st })) script)
+  advanced_from course script own Ended k orderly is = absurd (none-some (item.Advance k) is)
+  advanced_from course script own (Gives e next) k orderly is = absurd (advance_no_event k e (sym is))
+  advanced_from course script own (Advances j) k orderly is =
+      let same : k ≡ j = cc in
+      went_on ids worker t now course (course_of (record own { stage = Ended }) script) k [] (held_at course) (held_at course) (record own { stage = Advances j }) 0 orderly
+      (record {
+        same_worker = orderly.leads.same_worker;
+        same_topology = orderly.leads.same_topology;
+        few = omega arith;
         time = refl;
-        held = refl;
-        forks = refl;
-      };
-      left = omega (arith, next.holds.left, lower);
-      time = omega (arith, next.holds.time, none, reply_time r (after_giving next.own.stage));
-      forks = ap (λ us. hatched_by e ++ (us ++ flat_map forked_by next.script)) (reply_hatching r (after_giving next.own.stage)) ∙
-          ap (λ us. us ++ flat_map forked_by next.script) (sym hatches) ∙ next.holds.forks;
-    })
-  where
-    same : after_giving next.own.stage ≡ next.own.stage
-    same = at_event (λ x. after_giving next.own.stage ≡ next.own.stage) (λ k. after_giving next.own.stage ≡ stage.Ended) next.own.worker next.own.stage e (given_stage next.own.worker next.own.stage) next.item
+        hatches = refl;
+        hand = orderly.leads.hand;
+        sound = tt;
+        named = tt;
+        by_now = tt;
+      })
+      (omega arith) same refl
 
-    lower : most_from (stage_after r (after_giving next.own.stage)) + 1 ≤ most_from next.own.stage
-    lower = subst (λ s. most_from (stage_after r s) + 1 ≤ most_from next.own.stage) (sym same) (at_event (λ x. most_from (stage_after r next.own.stage) + 1 ≤ most_from next.own.stage) (λ k. Unit {0}) next.own.worker next.own.stage e (reply_lowers r next.own.worker next.own.stage) next.item)
+  -- a course that has its next advance of time goes on, with the hand that it had
+  pub course_advanced : (k : ℕ) (course after : Course) → IsNextItem ids worker t now course (item.Advance k) after →
+      GoesOnAs ids worker t now k [] (held_at course) course after
+  course_advanced k course after next =
+      subst (λ a. GoesOnAs ids worker t now k [] (held_at course) course a) (sym next.gone) (advanced_from course next.script next.own next.own.stage k next.holds next.item)
 
-    hatches : hatching next.own.stage ≡ hatched_by e
-    hatches = at_event (λ x. hatching next.own.stage ≡ hatched_by x) (λ k. hatching next.own.stage ≡ []) next.own.worker next.own.stage e (item_hatching next.own.worker next.own.stage) next.item
+-- ---- what comes next
 
-    none : time_at next.own.stage ≡ 0
-    none = at_event (λ x. time_at next.own.stage ≡ 0) (λ k. time_at next.own.stage ≡ k) next.own.worker next.own.stage e (item_time next.own.worker next.own.stage) next.item
+-- an event of an orderly worker: it names what there is, has the hand that it needs, and hatches what comes first of what is to fork
+pub record IsAtEvent (ids : List ℕ) (cpus : ℕ) (hand : Option ℕ) (ahead : List ℕ) (script : List Command) (e : Event) : Type 0 where
+  pub names : NamesWhatIs (is_among ids) cpus e
+  pub fits : FitsHand hand (handling e)
+  pub seeks : IfSome hand (λ u. sought_by e ≡ None)
+  pub forks : hatched_by e ++ flat_map forked_by script ≡ ahead
 
--- a course that has its next advance of time goes on
-pub course_advanced : (ids : List ℕ) (cpus worker k : ℕ) (course after : Course) → IsNextItem ids cpus worker course (item.Advance k) after →
-    GoesOnAs ids cpus worker k [] course after
-course_advanced ids cpus worker k course after next =
-    subst (λ a. GoesOnAs ids cpus worker k [] course a) (sym next.gone) (record {
-      orderly = record {
-        worker_is = next.holds.worker_is;
-        valid = next.holds.valid;
-        sound = given_sound ids cpus next.own.stage next.holds.sound;
-        left = omega arith;
-        time = refl;
-        held = refl;
-        forks = refl;
-      };
-      left = omega (arith, next.holds.left, lower);
-      time = omega (arith, next.holds.time, own, none);
-      forks = ap (λ st. hatching st ++ flat_map forked_by next.script) same ∙ ap (λ us. us ++ flat_map forked_by next.script) (sym hatches) ∙ next.holds.forks;
-    })
-  where
-    same : after_giving next.own.stage ≡ stage.Ended
-    same = at_advance (λ x. after_giving next.own.stage ≡ next.own.stage) (λ k. after_giving next.own.stage ≡ stage.Ended) next.own.worker next.own.stage k (given_stage next.own.worker next.own.stage) next.item
+module _ (ids : List ℕ) (worker : ℕ) (t : Tree) (now left amount : ℕ) (hand : Option ℕ) (ahead : List ℕ) (script : List Command) where
+  -- an orderly worker whose item is an event
+  pub event_at : (own : Own) (st : Stage) (e : Event) → IsOrderly ids worker t now left amount hand ahead script (record own { stage = st }) →
+      item_at st ≡ Some (item.Event e) → IsAtEvent ids t.cpus hand ahead script e
+  event_at own Ended e orderly is = absurd (none-some (item.Event e) is)
+  event_at own (Advances k) e orderly is = absurd (advance_no_event k e is)
+  event_at own (Gives f next) e orderly is =
+      let same : f ≡ e = cc in
+      subst (IsAtEvent ids t.cpus hand ahead script) same (record {
+        names = orderly.leads.named.names;
+        fits = subst (λ h. FitsHand h (handling f)) orderly.leads.hand (item_fits next (handling f));
+        seeks = subst (λ h. IfSome h (λ u. sought_by f ≡ None)) orderly.leads.hand (item_seeks f next);
+        forks = orderly.forks;
+      })
 
-    lower : most_from (after_giving next.own.stage) + 1 ≤ most_from next.own.stage
-    lower = at_advance (λ x. Unit {0}) (λ k. most_from (after_giving next.own.stage) + 1 ≤ most_from next.own.stage) next.own.worker next.own.stage k (advance_lowers next.own.worker next.own.stage) next.item
+  -- an orderly worker whose item is an advance of time
+  pub advance_at : (own : Own) (st : Stage) (k : ℕ) → IsOrderly ids worker t now left amount hand ahead script (record own { stage = st }) →
+      item_at st ≡ Some (item.Advance k) → is_within 1 1000000 k ≡ true
+  advance_at own Ended k orderly is = absurd (none-some (item.Advance k) is)
+  advance_at own (Gives e next) k orderly is = absurd (advance_no_event k e (sym is))
+  advance_at own (Advances j) k orderly is = let same : j ≡ k = cc in subst (λ n. is_within 1 1000000 n ≡ true) same orderly.leads.named
 
-    none : time_at (after_giving next.own.stage) ≡ 0
-    none = ap time_at same
-
-    hatches : hatching next.own.stage ≡ []
-    hatches = at_advance (λ x. hatching next.own.stage ≡ hatched_by x) (λ j. hatching next.own.stage ≡ []) next.own.worker next.own.stage k (item_hatching next.own.worker next.own.stage) next.item
-
-    own : time_at next.own.stage ≡ k
-    own = at_advance (λ x. time_at next.own.stage ≡ 0) (λ j. time_at next.own.stage ≡ j) next.own.worker next.own.stage k (item_time next.own.worker next.own.stage) next.item
-
--- a course without a next item adds no time
-pub ended_time : (ids : List ℕ) (cpus worker : ℕ) (course : Course) → HasOrder ids cpus worker course → next_step course ≡ None → time_of course ≡ 0
-ended_time ids cpus worker course orderly none =
-    let end = ended_from (IsOrderly ids cpus worker (left_of cpus course) (time_of course) (held_at course) (forks_ahead course)) (orderly_begun ids cpus worker (left_of cpus course) (time_of course) (held_at course) (forks_ahead course)) course.script (told_at course) orderly
-    (sym (next_in_is course.script course.own course.last) ∙ none) in
-    let short : time_at end.own.stage ≡ 0 = ap time_at end.ended in
-    omega (arith, end.holds.time, short)
-
--- ---- the hand
-
--- a course that is told a reply has in hand what the reply's stage says
-pub held_told : (ids : List ℕ) (cpus worker : ℕ) (course : Course) (e : Event) (after : Course) (r : Reply) (now : ℕ)
-    (next : IsNextItem ids cpus worker course (item.Event e) after) → held_at (record after { last = Some (r, now) }) ≡ in_hand (stage_after r next.own.stage)
-held_told ids cpus worker course e after r now next =
-    ap (λ (a : Course). held_at (record a { last = Some (r, now) })) next.gone ∙
-    ap (λ s. in_hand (stage_after r s)) (at_event (λ x. after_giving next.own.stage ≡ next.own.stage) (λ k. after_giving next.own.stage ≡ stage.Ended) next.own.worker next.own.stage e (given_stage next.own.worker next.own.stage) next.item)
-
--- a course that has its advance of time has the hand that it had
-pub held_advanced : (ids : List ℕ) (cpus worker k : ℕ) (course after : Course) → IsNextItem ids cpus worker course (item.Advance k) after → held_at after ≡ held_at course
-held_advanced ids cpus worker k course after next =
-    ap held_at next.gone ∙
-    ap in_hand (at_advance (λ x. after_giving next.own.stage ≡ next.own.stage) (λ j. after_giving next.own.stage ≡ stage.Ended) next.own.worker next.own.stage k (given_stage next.own.worker next.own.stage) next.item) ∙
-    sym (at_advance (λ e. FitsHand (in_hand next.own.stage) (handling e) × IfSome (in_hand next.own.stage) (λ t. sought_by e ≡ None)) (λ j. in_hand next.own.stage ≡ None) next.own.worker next.own.stage k (item_fits next.own.worker next.own.stage) next.item) ∙
-    next.holds.held
+-- an orderly worker that gave its event can hear a reply that the event can have
+pub hears_at : (ids : List ℕ) (worker : ℕ) (t : Tree) (now left amount : ℕ) (hand : Option ℕ) (ahead : List ℕ) (script : List Command) (own : Own) (st : Stage) (e : Event) (r : Reply) →
+    IsOrderly ids worker t now left amount hand ahead script (record own { stage = st }) → item_at st ≡ Some (item.Event e) → IsReplyTo (is_among ids) t.cpus now e r →
+    AllowsAt (once_given (record own { stage = st })) (after_giving st) r now
+hears_at ids worker t now left amount hand ahead script own Ended e r orderly is says = absurd (none-some (item.Event e) is)
+hears_at ids worker t now left amount hand ahead script own (Advances k) e r orderly is says = absurd (advance_no_event k e is)
+hears_at ids worker t now left amount hand ahead script own (Gives f next) e r orderly is says =
+    let back : e ≡ f = cc in
+    allows_any (is_among ids) own.worker own.topology.cpus next r now
+    (subst (λ w. Allows (is_among ids) w own.topology.cpus next r now) (sym orderly.leads.same_worker)
+    (subst (λ (s : Tree). Allows (is_among ids) worker s.cpus next r now) (sym orderly.leads.same_topology)
+    (orderly.leads.named.allows r now (subst (λ x. IsReplyTo (is_among ids) t.cpus now x r) back says) orderly.leads.by_now)))
 
 -- a course that has a thread in hand has a next item
-pub held_goes_on : (t : ℕ) (course : Course) → held_at course ≡ Some t → next_step course ≡ None → ⊥
-held_goes_on t course held none = at_item (item_at (told_at course).worker (told_at course).stage) refl
+pub held_goes_on : (u : ℕ) (course : Course) → held_at course ≡ Some u → next_step course ≡ None → ⊥
+held_goes_on u course held none = at_item (item_at (told_at course).stage) refl
   where
     from : next_from course.script (told_at course) ≡ None
     from = sym (next_in_is course.script course.own course.last) ∙ none
 
-    at_item : (o : Option Item) → item_at (told_at course).worker (told_at course).stage ≡ o → ⊥
-    at_item None is = none-some t (sym (ap in_hand (ended_stage (told_at course).worker (told_at course).stage is)) ∙ held)
+    at_item : (o : Option Item) → item_at (told_at course).stage ≡ o → ⊥
+    at_item None is = none-some u (sym (ap in_hand (ended_stage (told_at course).stage is)) ∙ held)
     at_item (Some i) is = none-some (i, course_of (once_given (told_at course)) course.script) (sym from ∙ item_goes_on course.script (told_at course) i is)
 
 -- ---- a worker's entries, one step more

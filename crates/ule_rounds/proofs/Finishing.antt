@@ -9,7 +9,7 @@ use Rattle.ule_types.specs.declared.event.Item.{Item}
 use Rattle.ule_types.specs.declared.event.Item.TheVariants as item
 use Rattle.ule_types.specs.declared.setup.Setup.{Setup}
 use Rattle.ule_model.specs.Events.{holder_of, is_no_others, is_ready, sought_by}
-use Rattle.ule_model.specs.Program.{Course, next_step}
+use Rattle.ule_program.specs.Courses.{Course, next_step}
 use Rattle.ule_model.specs.Rounds.{Play, after_item, entry_of, performed, round, rounds, turn}
 use Rattle.ule_members.proofs.Reach.{number_from_test}
 use Rattle.ule_rounds.proofs.Courses.{held_at, held_goes_on}
@@ -132,7 +132,7 @@ held_not_idle s p t h kept had idle = option_and_then_some held_at (slice_get p.
     is_lost : IsLost p h → ⊥
     is_lost lost =
         let has : HasNext s p h lost.course lost.event lost.after = has_next s p h lost.course lost.after lost.event kept lost.got lost.next in
-        let seeks : sought_by lost.event ≡ None = subst (λ o. IfSome o (λ u. sought_by lost.event ≡ None)) (sym has.hand ∙ had) has.fits.1 in
+        let seeks : sought_by lost.event ≡ None = subst (λ o. IfSome o (λ u. sought_by lost.event ≡ None)) (sym has.hand ∙ had) has.event.seeks in
         let ready : is_ready p.world h lost.event ≡ true = ap (λ o. is_no_others h (option_and_then (holder_of p.world.members) o)) seeks in
         true≢false (sym ready ∙ lost.ready)
 

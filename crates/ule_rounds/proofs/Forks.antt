@@ -7,7 +7,7 @@ use Rattle.ule_types.specs.Form.{IsOfForm}
 use Rattle.ule_types.specs.Rules.{is_distinct}
 use Rattle.ule_types.specs.declared.command.Command.{Command}
 use Rattle.ule_types.specs.declared.setup.Setup.{Setup}
-use Rattle.ule_model.specs.Program.{Course}
+use Rattle.ule_program.specs.Courses.{Course}
 use Rattle.ule_model.specs.Rounds.{opening_courses}
 use Rattle.ule_model.specs.Start.{world_at_start}
 use Rattle.ule_model.specs.World.{Member}

@@ -1,25 +1,29 @@
 -- The threads in hands: each worker has in hand the thread that its program says.
-use Rattle.std.proofs.Common.{◌≡◌, ◌≢◌, ℕ, ◌&&◌, Bool, true, false, List, [], ◌∷◌, slice_get, slice_set, is_some, Option, Some, None, if◌then◌else◌, option_and_then, refl, sym, ◌∙◌, ap, subst, ⊎_elim, eq-eqb}
+use Rattle.std.proofs.Common.{◌≡◌, ◌≢◌, ℕ, ◌==◌, ◌&&◌, Bool, true, false, List, [], ◌∷◌, slice_get, slice_set, is_some, Option, Some, None, if◌then◌else◌, option_and_then, refl, sym, ◌∙◌, ap, subst, ⊎_elim, eq-eqb}
 use Rattle.std.proofs.lemmas.Bool.{and_parts, cases_eq, eqb-true, false≢true, true≢false}
 use Rattle.std.proofs.lemmas.Option.{none-some, slice_get_within}
+use Rattle.ule_types.specs.Commands.{is_among}
+use Rattle.ule_types.specs.Needs.{FitsHand, handling, hatched_for}
+use Rattle.ule_types.specs.Words.{WordChange, block, blocks, change_of, point, taken_by}
 use Rattle.ule_types.specs.declared.event.Event.{Event}
-use Rattle.ule_types.specs.declared.event.Item.TheVariants as item
+use Rattle.ule_types.specs.declared.event.Event.TheVariants.{Bed, Bury, Drop, Exit, Hatch, Land, Return, Wake}
+use Rattle.ule_program.specs.Courses.{Course}
+use Rattle.ule_program.specs.Laws.{hand_left}
 use Rattle.ule_model.specs.Conditions.{HasEmptyHand, IsHandled, IsPossible}
-use Rattle.ule_model.specs.Events.{Handling, any, empty, handling, has, has_handled, holder_of, is_no_others, is_own, unborn}
+use Rattle.ule_model.specs.Events.{Handling, any, empty, handling, has, has_handled, holder_of, is_no_others, is_own, is_unborn_thread, unborn}
 use Rattle.ule_model.specs.Frames.{thread_in_hand}
 use Rattle.ule_model.specs.Places.{hand_of, is_hand_of, is_number}
-use Rattle.ule_model.specs.Program.{Course, Stage, in_hand, item_at, stage_after}
 use Rattle.ule_model.specs.Step.{step}
 use Rattle.ule_model.specs.WellMade.{IsWellMade, IsWellMadeWorld}
 use Rattle.ule_model.specs.World.{Member, World, is_numbered, thread_of}
+use Rattle.ule_members.proofs.Done.{holder_after, in_hand_after, kept_some, taken_member}
 use Rattle.ule_members.proofs.Lists.{slice_get-set_other, slice_get-set_same}
-use Rattle.ule_members.proofs.Reach.{number_from_test}
-use Rattle.ule_members.proofs.Steps.{step_own_hand}
+use Rattle.ule_members.proofs.Reach.{number_from_test, takes_itself}
+use Rattle.ule_members.proofs.Steps.{step_holders, step_own_hand}
 use Rattle.ule_members.proofs.Threads.{thread_of_within}
 use Rattle.ule_members.proofs.Untouched.{step_in_hand}
 use Rattle.ule_members.proofs.Within.{found_at, within_found}
 use Rattle.ule_rounds.proofs.Courses.{held_at}
-use Rattle.ule_rounds.proofs.Stages.{FindsUnborn, FitsHand, at_event, FollowsHand, hand_follows}
 
 -- ---- look-ups in a hand
 
@@ -70,18 +74,75 @@ agree_set courses worker course reached old new got agree others own h t =
     (λ (other : h ≡ worker → ⊥). others h t other ∙ agree h t ∙ ap (λ o. is_number t (option_and_then held_at o)) (sym (slice_get-set_other courses worker h reached other)))
     (cases_eq h worker)
 
+-- ---- the hand after a step
+
+-- a change of a word fits an event that needs the hand so, with this in it
+abbrev FitsChange : Handling → Option WordChange → Option ℕ → Type 0
+FitsChange needs None hand = Unit {0}
+FitsChange any (Some change) hand = ⊥
+FitsChange needs (Some (block t)) hand = hand ≡ None
+FitsChange needs (Some (point t l)) hand = hand ≡ Some t
+
+-- a thread is taken into an empty hand
+blocks_fit : (taken hand : Option ℕ) → hand ≡ None → FitsChange empty (blocks taken) hand
+blocks_fit None hand none = tt
+blocks_fit (Some t) hand none = none
+
+module _ (w : World) (worker : ℕ) (e : Event) (now : ℕ) (hand : Option ℕ) (made : IsWellMadeWorld w) (can : IsPossible w worker e now) where
+  -- each event's change of a word fits the hand that it needs
+  change_fits : (x : Event) → FitsHand hand (handling x) → FitsChange (handling x) (change_of x (step w worker x now).1) hand
+  change_fits (Drop c channel) fits = blocks_fit (taken_by 0 (step w worker (Drop c channel) now).1) hand fits
+  change_fits (Wake t) fits = blocks_fit (taken_by t (step w worker (Wake t) now).1) hand fits
+  change_fits (Hatch t) fits = fits
+  change_fits (Exit c) fits = blocks_fit (taken_by 0 (step w worker (Exit c) now).1) hand fits
+  change_fits (Bed t channel) fits = fits
+  change_fits (Land t c) fits = fits
+  change_fits (Return t) fits = fits
+  change_fits (Bury t) fits = fits
+  change_fits _ fits = tt
+
+  -- a thread that is taken is found in the hand
+  taken_some : (t : ℕ) → change_of e (step w worker e now).1 ≡ Some (block t) → is_some (taken_member w worker e now t) ≡ true
+  taken_some t is =
+      let held : holder_of (step w worker e now).0.members t ≡ Some worker =
+      step_holders w worker e now made can t ∙ ap (λ change. holder_after worker change t (holder_of w.members t)) is ∙ ap (λ b. if b then Some worker else holder_of w.members t) (eq-eqb t t refl) in
+      sym (ap (λ o. is_some o) (step_own_hand w worker e now made can t ∙ ap (λ change. in_hand_after w worker e now change t (thread_in_hand worker t w.members)) is ∙
+      ap (λ b. if b then taken_member w worker e now t else thread_in_hand worker t w.members) (eq-eqb t t refl))) ∙ held_in_hand worker t (step w worker e now).0.members held
+
+  -- what look-up in the hand finds, by the change of a word
+  hand_changes : (needs : Handling) (change : Option WordChange) → change_of e (step w worker e now).1 ≡ change → FitsChange needs change hand → (u : ℕ) (old : Option Member) →
+      is_some old ≡ is_number u hand → is_some (in_hand_after w worker e now change u old) ≡ is_number u (hand_left needs change hand)
+  hand_changes any None is fits u old was = kept_some w now e old ∙ was
+  hand_changes any (Some change) is fits u old was = absurd fits
+  hand_changes _ None is fits u old was = kept_some w now e old ∙ was
+  hand_changes _ (Some (block t)) is fits u old was = by_test (u == t)
+    where
+      by_test : (b : Bool) → is_some (if b then taken_member w worker e now t else old) ≡ b
+      by_test true = taken_some t is
+      by_test false = was ∙ ap (is_number u) fits
+  hand_changes _ (Some (point t l)) is fits u old was = by_test (u == t) (was ∙ ap (is_number u) fits)
+    where
+      by_test : (b : Bool) → is_some old ≡ b → is_some (if b then None else old) ≡ false
+      by_test true at = refl
+      by_test false at = at
+
+  -- the hand after the step of an event, by look-up, is the one that the change of a word leaves
+  pub hand_follows : FitsHand hand (handling e) → ((u : ℕ) → is_some (thread_in_hand worker u w.members) ≡ is_number u hand) →
+      (u : ℕ) → is_some (thread_in_hand worker u (step w worker e now).0.members) ≡ is_number u (hand_left (handling e) (change_of e (step w worker e now).1) hand)
+  hand_follows fits was u =
+      ap (λ o. is_some o) (step_own_hand w worker e now made can u) ∙
+      hand_changes (handling e) (change_of e (step w worker e now).1) refl (change_fits e fits) u (thread_in_hand worker u w.members) (was u)
+
 -- hands and courses agree after the step of a worker's event
-pub agree_step : (w : World) (worker : ℕ) (e : Event) (now : ℕ) (courses : List Course) (course reached : Course) (st : Stage) → IsWellMadeWorld w →
-    IsPossible w worker e now → slice_get courses worker ≡ Some course → DoAgree w.members courses → hand_at courses worker ≡ in_hand st →
-    item_at worker st ≡ Some (item.Event e) → held_at reached ≡ in_hand (stage_after (step w worker e now).1 st) →
+pub agree_step : (w : World) (worker : ℕ) (e : Event) (now : ℕ) (courses : List Course) (course reached : Course) → IsWellMadeWorld w →
+    IsPossible w worker e now → slice_get courses worker ≡ Some course → DoAgree w.members courses → FitsHand (held_at course) (handling e) →
+    held_at reached ≡ hand_left (handling e) (change_of e (step w worker e now).1) (held_at course) →
     DoAgree (step w worker e now).0.members (slice_set courses worker reached)
-agree_step w worker e now courses course reached st made can got agree before at after =
+agree_step w worker e now courses course reached made can got agree fits after =
     agree_set courses worker course reached w.members (step w worker e now).0.members got agree
     (λ h t other. ap (λ o. is_some o) (step_in_hand w worker e now made can h t other))
-    (λ t. ap (λ o. is_some o) (step_own_hand w worker e now made can t) ∙
-    at_event (λ x. IsHandled w worker (handling x) → FollowsHand w worker now st x) (λ k. Unit {0}) worker st e (hand_follows w worker now st made.members) at can.hand t
-    (thread_in_hand worker t w.members)
-    (agree worker t ∙ ap (is_number t) before) ∙ ap (is_number t) (sym after))
+    (λ t. hand_follows w worker e now (held_at course) made can fits
+    (λ u. agree worker u ∙ ap (λ o. is_number u (option_and_then held_at o)) got) t ∙ ap (is_number t) (sym after))
 
 -- ---- what an event needs
 
@@ -89,6 +150,20 @@ agree_step w worker e now courses course reached st made can got agree before at
 pub empty_handled : (w : World) (worker : ℕ) (courses : List Course) → DoAgree w.members courses → hand_at courses worker ≡ None → HasEmptyHand w worker
 empty_handled w worker courses agree none t held =
     true≢false (sym (held_in_hand worker t w.members held) ∙ agree worker t ∙ ap (is_number t) none)
+
+-- the unborn thread that an event fills a hand with is there, if it does
+abbrev pub FindsUnborn : List Member → Handling → Type 0
+FindsUnborn ms any = Unit {0}
+FindsUnborn ms empty = Unit {0}
+FindsUnborn ms (unborn t) = is_unborn_thread (thread_of t ms) ≡ true
+FindsUnborn ms (has t) = Unit {0}
+
+-- where the threads that an event hatches are unborn, it finds them
+pub finds_unborn : (ms : List Member) (needs : Handling) → ((t : ℕ) → is_among (hatched_for needs) t ≡ true → is_unborn_thread (thread_of t ms) ≡ true) → FindsUnborn ms needs
+finds_unborn ms any each = tt
+finds_unborn ms empty each = tt
+finds_unborn ms (unborn t) each = each t (takes_itself t)
+finds_unborn ms (has t) each = tt
 
 -- a worker whose hand is as its event needs it
 pub hand_handled : (w : World) (worker : ℕ) (courses : List Course) (hand : Option ℕ) (needs : Handling) → IsWellMade w.members → DoAgree w.members courses →

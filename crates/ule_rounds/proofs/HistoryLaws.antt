@@ -11,7 +11,8 @@ use Rattle.ule_model.specs.History.{GoesOn, HasEmptyHands, IsHistoryOf, RoundsGo
 use Rattle.ule_model.specs.Events.{holder_of}
 use Rattle.ule_model.specs.Legal.{BeginsProgram, Completes, IsInTime, IsLegal, IsWhole, Timed, amount_in_all, with_locks}
 use Rattle.ule_model.specs.Places.{hand_of}
-use Rattle.ule_model.specs.Program.{Course, course_of, own_of}
+use Rattle.ule_program.specs.Courses.{Course, course_of}
+use Rattle.ule_program.specs.Program.{own_of_setup}
 use Rattle.ule_model.specs.Rounds.{Play, greatest_rounds, opening, play_of, round, rounds}
 use Rattle.ule_model.specs.Start.{starting_time, world_at_start}
 use Rattle.ule_model.specs.World.{Member, thread_of}
@@ -21,21 +22,21 @@ use Rattle.ule_members.proofs.Reach.{number_from_test}
 use Rattle.ule_rounds.proofs.Courses.{ended_time, held_at, held_goes_on, time_of}
 use Rattle.ule_rounds.proofs.Finishing.{IsFurther, round_goes, rounds_finish}
 use Rattle.ule_rounds.proofs.Hands.{hand_at, held_in_hand}
-use Rattle.ule_rounds.proofs.Keeping.{IsUnderWay, ids_in, under_way_opening, under_way_turn}
+use Rattle.ule_rounds.proofs.Keeping.{IsUnderWay, ids_in, seat_in, under_way_opening, under_way_turn}
 use Rattle.ule_rounds.proofs.LegalLaws.{IsLegalSoFar, StandsAt}
-use Rattle.ule_rounds.proofs.Plays.{all_time, opening_left, sum_none}
+use Rattle.ule_rounds.proofs.Plays.{all_time, opening_left, sum_none, tree_of}
 use Rattle.ule_rounds.proofs.PromiseLaws.{legal_promise}
 use Rattle.ule_rounds.proofs.RoundsLaws.{IsFinished, rounds_keep}
 
 -- ---- the history
 
 -- the course of a worker that isn't there
-abbrev spare : Course
-spare = course_of (own_of 0 0 0) []
+abbrev spare : Setup → Course
+spare s = course_of (own_of_setup s 0) []
 
 -- the course of each worker of the setup
-course_there : (s : Setup) (p : Play) (worker : ℕ) → IsLegalSoFar s p → worker < s.cpus → slice_get p.courses worker ≡ Some (get_or p.courses worker spare)
-course_there s p worker legal below = slice_get-get_or p.courses worker spare (subst (λ n. worker < n) (sym legal.count) below)
+course_there : (s : Setup) (p : Play) (worker : ℕ) → IsLegalSoFar s p → worker < s.cpus → slice_get p.courses worker ≡ Some (get_or p.courses worker (spare s))
+course_there s p worker legal below = slice_get-get_or p.courses worker (spare s) (subst (λ n. worker < n) (sym legal.count) below)
 
 -- a worker of a legal play has begun its program
 begins_so_far : (s : Setup) (p : Play) (es : List Timed) (worker : ℕ) (course : Course) → StandsAt s es p.now worker course → BeginsProgram s s.scripts es worker
@@ -54,7 +55,7 @@ legal_from_so_far s p legal by_the_end = record {
   workers = legal.workers;
   replies = legal.made;
   programs = λ worker below.
-      let course = get_or p.courses worker spare in
+      let course = get_or p.courses worker (spare s) in
       begins_so_far s p legal.timed worker course (legal.courses worker course (course_there s p worker legal below));
   times = record {
     in_order = subst (λ es. IsInTime (with_locks (world_at_start s) es)) (sym legal.entries) legal.in_time;
@@ -72,14 +73,14 @@ whole_from_finished s p legal ended = record { timed = legal.timed; entries = le
   where
     complete : (worker : ℕ) → worker < s.cpus → Completes s s.scripts legal.timed worker
     complete worker below =
-        let course = get_or p.courses worker spare in
+        let course = get_or p.courses worker (spare s) in
         let there = course_there s p worker legal below in
         record { begins = begins_so_far s p legal.timed worker course (legal.courses worker course there); finished = ended worker course there }
 
 -- where all workers are at their ends, no script adds time
 pub no_time_left : (s : Setup) (p : Play) → IsUnderWay s p → ((worker : ℕ) → IsFinished p worker) → all_time p.courses ≡ 0
 no_time_left s p kept ended =
-    sum_none time_of p.courses (λ worker course got. ended_time (ids_in s) s.cpus worker course (kept.courses worker course got) (ended worker course got))
+    sum_none time_of p.courses (λ worker course got. ended_time (ids_in s) worker (tree_of s) (seat_in s p worker course kept got) p.now course (kept.courses worker course got) (ended worker course got))
 
 -- where all workers are at their ends, no thread is in a hand
 pub hands_empty : (s : Setup) (p : Play) → IsUnderWay s p → ((worker : ℕ) → IsFinished p worker) → HasEmptyHands p.world

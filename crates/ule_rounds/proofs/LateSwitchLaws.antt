@@ -1,15 +1,18 @@
 -- A legal history in which an entry is earlier than the one before it, by computing.
-use Rattle.std.proofs.Common.{ℕ, zero, suc, ◌+◌, ◌<◌, List, [], ◌∷◌, Some, None, refl, arith}
+use Rattle.std.proofs.Common.{ℕ, zero, suc, ◌<◌, List, [], ◌∷◌, Some, None, refl, arith}
 use Rattle.std.proofs.lemmas.Bool.{false≢true}
 use Rattle.ule_history.specs.CpuUseUpdate.{updated_use, slid_use, ran_ticks}
 use Rattle.ule_score.specs.Score.{score_of}
 use Rattle.ule_score.specs.TimesharePriority.{timeshare_priority, priority_at, batch_priority, use_steps}
 use Rattle.ule_score.specs.declared.record.Why.TheVariants as why
 use Rattle.ule_types.specs.declared.command.Command.TheVariants.{Yield}
-use Rattle.ule_types.specs.declared.stage.Stage.TheVariants as stage
+use Rattle.ule_types.specs.declared.event.Event.TheVariants.{Switch}
+use Rattle.ule_program.specs.Courses.{Course, next_in}
+use Rattle.ule_program.specs.Program.{own_of_setup}
+use Rattle.ule_program.specs.declared.stage.Stage.TheVariants.{Gives}
+use Rattle.ule_program.specs.declared.stage.Next.TheVariants.{Ends}
 use Rattle.ule_model.specs.Conditions.{IsPossible}
 use Rattle.ule_model.specs.Legal.{BeginsProgram, IsEntryOf, IsInTime, IsReplayed, KeepsTime, Timed, acts, advances, opening_of, stays, with_locks}
-use Rattle.ule_model.specs.Program.{Course, next_in}
 use Rattle.ule_model.specs.Start.{world_at_start}
 use Rattle.ule_rounds.specs.LateSwitch.{LateSwitchIsLegal, between_switches, earlier_switch, late_lists, later_switch, two_cpus}
 
@@ -40,7 +43,7 @@ both_made = (later_made, (earlier_made, tt))
 abbrev course_at : ℕ → Course
 course_at worker = record {
   script = [];
-  own = record { worker = worker; cpus = 2; stage = stage.Switches why.Yield; looks = []; jitter = 1 + worker };
+  own = record (own_of_setup two_cpus worker) { stage = Gives (Switch worker why.Yield) Ends };
   last = None;
 }
 
@@ -58,11 +61,7 @@ first_begins = record {
 }
   where
     after_time : Course
-    after_time = record {
-      script = Yield ∷ [];
-      own = record { worker = 0; cpus = 2; stage = stage.Ended; looks = []; jitter = 1 };
-      last = None;
-    }
+    after_time = record { script = Yield ∷ []; own = own_of_setup two_cpus 0; last = None }
 
 -- the second worker yields
 second_begins : BeginsProgram two_cpus late_lists timed 1

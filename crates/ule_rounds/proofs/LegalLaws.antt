@@ -10,7 +10,7 @@ use Rattle.ule_types.specs.declared.event.Item.TheVariants as item
 use Rattle.ule_types.specs.declared.setup.Setup.{Setup}
 use Rattle.ule_model.specs.Events.{has_thread, is_ready, locks_of}
 use Rattle.ule_model.specs.Legal.{IsEntryOf, IsInTime, IsReplayed, Performs, Timed, after_entry, entries_of, opening_of, replayed, stays, with_locks}
-use Rattle.ule_model.specs.Program.{Course, next_step}
+use Rattle.ule_program.specs.Courses.{Course, next_step}
 use Rattle.ule_model.specs.Rounds.{Play, after_item, entry_of, opening, opening_courses, performed}
 use Rattle.ule_model.specs.Start.{starting_time, world_at_start}
 use Rattle.ule_model.specs.Step.{step}

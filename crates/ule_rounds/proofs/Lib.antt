@@ -1,5 +1,7 @@
 pub mod Bindings
-pub mod Stages
+pub mod LastCpus
+pub mod Parents
+pub mod Replies
 pub mod Courses
 pub mod Hands
 pub mod Histories
@@ -7,7 +9,6 @@ pub mod LegalLaws
 pub mod RoundsLaws
 pub mod Plays
 pub mod Forks
-pub mod Parents
 pub mod Keeping
 pub mod Finishing
 pub mod PromiseLaws

@@ -7,12 +7,15 @@ use Rattle.ule_score.specs.declared.record.Why.TheVariants as why
 use Rattle.ule_slice.specs.Slice.{slice_of}
 use Rattle.ule_types.specs.declared.command.Command.{Command}
 use Rattle.ule_types.specs.declared.command.Command.TheVariants as command
-use Rattle.ule_types.specs.declared.stage.Stage.{Stage}
-use Rattle.ule_types.specs.declared.stage.Stage.TheVariants as stage
+use Rattle.ule_types.specs.declared.event.Event.TheVariants.{Switch, Tick}
+use Rattle.ule_program.specs.Courses.{Course, next_in}
+use Rattle.ule_program.specs.Program.{own_of_setup}
+use Rattle.ule_program.specs.declared.stage.Stage.{Stage}
+use Rattle.ule_program.specs.declared.stage.Stage.TheVariants.{Gives}
+use Rattle.ule_program.specs.declared.stage.Next.TheVariants.{Balances, Ends}
 use Rattle.ule_model.specs.CalendarIndexes.{distance_of}
 use Rattle.ule_model.specs.CalendarPromise.{IsStretch, numbers_on}
 use Rattle.ule_model.specs.Legal.{BeginsProgram, IsInTime, IsReplayed, KeepsTime, Timed, acts, opening_of, replayed, stays, with_locks}
-use Rattle.ule_model.specs.Program.{Course, next_in}
 use Rattle.ule_model.specs.Start.{world_at_start}
 use Rattle.ule_rounds.specs.NearerThread.{ThreadComesNearer, one_cpu, ticked_entry, yield_and_tick, yielded_and_ticked, yielded_entry}
 
@@ -41,21 +44,21 @@ timed_entries = record { entry = yielded_entry; amount = 0 } ∷ record { entry 
 
 -- the worker at a stage, with the commands not begun
 abbrev at_stage : List Command → Stage → Course
-at_stage script s = record { script = script; own = record { worker = 0; cpus = 1; stage = s; looks = []; jitter = 1 }; last = None }
+at_stage script s = record { script = script; own = record (own_of_setup one_cpu 0) { stage = s }; last = None }
 
 -- the worker's program makes both entries
 program_begins : BeginsProgram one_cpu yield_and_tick timed_entries 0
 unfolding next_in timed_entries
 program_begins = record {
-  end = record (at_stage [] stage.Ticks) { last = Some (ticked_entry.reply, ticked_entry.now) };
+  end = record (at_stage [] (Gives (Tick 0) Balances)) { last = Some (ticked_entry.reply, ticked_entry.now) };
   total = 0;
   performs =
-      acts (opening_of one_cpu yield_and_tick 0) (at_stage (command.Tick ∷ []) (stage.Switches why.Yield))
-      (record (at_stage [] stage.Ticks) { last = Some (ticked_entry.reply, ticked_entry.now) }) 0 0 yielded_entry
+      acts (opening_of one_cpu yield_and_tick 0) (at_stage (command.Tick ∷ []) (Gives (Switch 0 why.Yield) Ends))
+      (record (at_stage [] (Gives (Tick 0) Balances)) { last = Some (ticked_entry.reply, ticked_entry.now) }) 0 0 yielded_entry
       (record { entry = ticked_entry; amount = 0 } ∷ []) refl
-      (acts (record (at_stage (command.Tick ∷ []) (stage.Switches why.Yield)) { last = Some (yielded_entry.reply, yielded_entry.now) }) (at_stage [] stage.Ticks)
-      (record (at_stage [] stage.Ticks) { last = Some (ticked_entry.reply, ticked_entry.now) }) 0 0 ticked_entry [] refl
-      (stays (record (at_stage [] stage.Ticks) { last = Some (ticked_entry.reply, ticked_entry.now) }) 0));
+      (acts (record (at_stage (command.Tick ∷ []) (Gives (Switch 0 why.Yield) Ends)) { last = Some (yielded_entry.reply, yielded_entry.now) }) (at_stage [] (Gives (Tick 0) Balances))
+      (record (at_stage [] (Gives (Tick 0) Balances)) { last = Some (ticked_entry.reply, ticked_entry.now) }) 0 0 ticked_entry [] refl
+      (stays (record (at_stage [] (Gives (Tick 0) Balances)) { last = Some (ticked_entry.reply, ticked_entry.now) }) 0));
 }
 
 -- so of each worker

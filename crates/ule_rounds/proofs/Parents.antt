@@ -1,10 +1,12 @@
--- The parents of threads at the start, where there are none; and that threads have the numbers of their list.
-use Rattle.std.proofs.Common.{◌≡◌, ℕ, ℤ, ◌==◌, Bool, true, false, List, [], ◌∷◌, ◌++◌, fold, Option, Some, None, IfSome, if◌then◌else◌, refl, sym, ap, subst, ⊎_elim}
+-- What each thread has at the start: no parent, and a last CPU that is there; and that threads have the numbers of their list.
+use Rattle.std.proofs.Common.{◌≡◌, ℕ, ℤ, ◌<◌, ◌==◌, nat_lt, arith, Bool, true, false, List, [], ◌∷◌, ◌++◌, fold, Option, Some, None, IfSome, if◌then◌else◌, ap, subst, ⊎_elim}
 use Rattle.std.specs.List.{AllByRecursion}
-use Rattle.std.proofs.lemmas.Bool.{eq-eqb, or_left, or_right}
+use Rattle.std.proofs.lemmas.Bool.{and_parts, eq-eqb, ltb-true, or_left, or_right}
 use Rattle.ule_score.specs.declared.place.Place.{Place}
+use Rattle.ule_score.specs.declared.record.Settings.{Settings}
 use Rattle.ule_score.specs.declared.record.ThreadRecord.{ThreadRecord}
 use Rattle.ule_types.specs.Commands.{is_among}
+use Rattle.ule_types.specs.Rules.{is_form, is_spec}
 use Rattle.ule_types.specs.declared.setup.Setup.{Setup}
 use Rattle.ule_types.specs.declared.setup.ThreadSpec.{ThreadSpec}
 use Rattle.ule_model.specs.declared.insertion.Insertion.TheVariants.{Ordinary}
@@ -13,8 +15,12 @@ use Rattle.ule_model.specs.Shows.{numbers_of}
 use Rattle.ule_model.specs.Start.{empty_world, laid, record_of, unborn_member, unborn_record, with_unborn, world_at_start}
 use Rattle.ule_model.specs.World.{Member, Side, World, is_numbered, moved_to, others, side_of, thread_of}
 use Rattle.ule_members.proofs.Membership.{Has, all_from_has}
+use Rattle.ule_members.proofs.Setups.{all_from_list_all, setup_scripts, setup_specs}
 use Rattle.ule_members.proofs.Within.{all-append, all_along}
-use Rattle.ule_rounds.proofs.Stages.{HasDeclaredParent}
+
+-- a parent, if there is one, among the declared threads
+abbrev pub HasDeclaredParent : List ℕ → Member → Type 0
+HasDeclaredParent ids m = IfSome m.thread.parent (λ p. is_among ids p ≡ true)
 
 -- ---- the numbers of threads
 
@@ -32,48 +38,63 @@ numbered_among ids ms is =
 
 -- ---- the start
 
--- threads without parents
-abbrev pub HaveNoParents : List Member → Type 0
-HaveNoParents ms = AllByRecursion (λ m. m.thread.parent ≡ None) ms
+module _ (P : ThreadRecord → Type 0) where
+  -- threads of which each record has the property
+  abbrev HaveEach : List Member → Type 0
+  HaveEach ms = AllByRecursion (λ m. P m.thread) ms
 
--- threads of which one is moved have no parents where they had none
-moved_no_parents : (t : ℕ) (place : Place) (order : ℤ) (ms : List Member) → HaveNoParents ms → HaveNoParents (moved_to t place order ms)
-moved_no_parents t place order [] none = tt
-moved_no_parents t place order (m ∷ ms) none = (by_test (is_numbered t m), moved_no_parents t place order ms none.1)
-  where
-    by_test : (b : Bool) → (if b then record m { place = place; order = order } else m).thread.parent ≡ None
-    by_test true = none.0
-    by_test false = none.0
+  -- threads of which one is moved have it where they had it
+  moved_each : (t : ℕ) (place : Place) (order : ℤ) (ms : List Member) → HaveEach ms → HaveEach (moved_to t place order ms)
+  moved_each t place order [] each = tt
+  moved_each t place order (m ∷ ms) each = (by_test (is_numbered t m), moved_each t place order ms each.1)
+    where
+      by_test : (b : Bool) → P (if b then record m { place = place; order = order } else m).thread
+      by_test true = each.0
+      by_test false = each.0
 
--- threads of which one is queued have no parents where they had none
-queued_no_parents : (c t : ℕ) (s : Side) → HaveNoParents s.members → HaveNoParents (queued Ordinary c t s).members
-queued_no_parents c t s none = split (thread_of t s.members)
-  where
-    split : (o : Option Member) → HaveNoParents (with_queued Ordinary c o s).members
-    split None = none
-    split (Some m) =
-        moved_no_parents m.thread.id (place_of_insertion Ordinary c s.line m.thread.priority) (order_of_insertion Ordinary c s.line m.thread.priority (others m.thread.id s.members)) s.members none
+  -- threads of which one is queued have it where they had it
+  queued_each : (c t : ℕ) (s : Side) → HaveEach s.members → HaveEach (queued Ordinary c t s).members
+  queued_each c t s each = split (thread_of t s.members)
+    where
+      split : (o : Option Member) → HaveEach (with_queued Ordinary c o s).members
+      split None = each
+      split (Some m) =
+          moved_each m.thread.id (place_of_insertion Ordinary c s.line m.thread.priority) (order_of_insertion Ordinary c s.line m.thread.priority (others m.thread.id s.members)) s.members each
 
--- with a new thread without a parent, threads have none where they had none
-more_no_parents : (r : ThreadRecord) (ms : List Member) → r.parent ≡ None → HaveNoParents ms → HaveNoParents (ms ++ unborn_member r ∷ [])
-more_no_parents r ms new none = all-append (λ m. m.thread.parent ≡ None) ms (unborn_member r ∷ []) none (new, tt)
+  -- with a new thread that has it, threads have it where they had it
+  more_each : (r : ThreadRecord) (ms : List Member) → P r → HaveEach ms → HaveEach (ms ++ unborn_member r ∷ [])
+  more_each r ms new each = all-append (λ m. P m.thread) ms (unborn_member r ∷ []) each (new, tt)
 
--- while declared threads are laid none has a parent
-laid_no_parents : (w : World) (specs : List ThreadSpec) → HaveNoParents w.members → HaveNoParents (fold laid w specs).members
-laid_no_parents w [] none = none
-laid_no_parents w (spec ∷ specs) none =
-    laid_no_parents (laid w spec) specs
-    (queued_no_parents spec.cpu spec.id (record (side_of spec.cpu w) { members = w.members ++ unborn_member (record_of w.settings spec) ∷ [] })
-    (more_no_parents (record_of w.settings spec) w.members refl none))
+  -- while declared threads are laid each has it
+  laid_each : (w : World) (specs : List ThreadSpec) → AllByRecursion (λ spec. (settings : Settings) → P (record_of settings spec)) specs → HaveEach w.members →
+      HaveEach (fold laid w specs).members
+  laid_each w [] new each = each
+  laid_each w (spec ∷ specs) new each =
+      laid_each (laid w spec) specs new.1
+      (queued_each spec.cpu spec.id (record (side_of spec.cpu w) { members = w.members ++ unborn_member (record_of w.settings spec) ∷ [] })
+      (more_each (record_of w.settings spec) w.members (new.0 w.settings) each))
 
--- while unborn threads come behind none has a parent
-unborn_no_parents : (w : World) (us : List ℕ) → HaveNoParents w.members → HaveNoParents (fold with_unborn w us).members
-unborn_no_parents w [] none = none
-unborn_no_parents w (u ∷ us) none = unborn_no_parents (with_unborn w u) us (more_no_parents (unborn_record u) w.members refl none)
+  -- while unborn threads come behind each has it
+  unborn_each : (w : World) (us : List ℕ) → ((u : ℕ) → P (unborn_record u)) → HaveEach w.members → HaveEach (fold with_unborn w us).members
+  unborn_each w [] new each = each
+  unborn_each w (u ∷ us) new each = unborn_each (with_unborn w u) us new (more_each (unborn_record u) w.members (new u) each)
+
+  -- at the start of a setup each thread has it, where each declared one and each unborn one has it
+  start_each : (s : Setup) → AllByRecursion (λ spec. (settings : Settings) → P (record_of settings spec)) s.threads → ((u : ℕ) → P (unborn_record u)) →
+      HaveEach (world_at_start s).members
+  start_each s declared unborn = unborn_each (fold laid (empty_world s) s.threads) s.unborn unborn (laid_each (empty_world s) s.threads declared tt)
 
 -- at the start of a setup each parent is declared, since there is none
 pub start_parents : (s : Setup) (ids : List ℕ) → AllByRecursion (HasDeclaredParent ids) (world_at_start s).members
 start_parents s ids =
-    all_along (λ (m : Member). m.thread.parent ≡ None) (HasDeclaredParent ids) (world_at_start s).members
-    (λ m none. subst (λ o. IfSome o (λ p. is_among ids p ≡ true)) (sym none) tt)
-    (unborn_no_parents (fold laid (empty_world s) s.threads) s.unborn (laid_no_parents (empty_world s) s.threads tt))
+    start_each (λ r. IfSome r.parent (λ p. is_among ids p ≡ true)) s
+    (all_from_has (λ spec. (settings : Settings) → IfSome (record_of settings spec).parent (λ p. is_among ids p ≡ true)) s.threads (λ spec has settings. tt)) (λ u. tt)
+
+-- at the start of a setup each last CPU is there
+pub start_lasts : (s : Setup) → AllByRecursion (λ m. m.thread.last < s.cpus) (world_at_start s).members
+start_lasts s =
+    start_each (λ r. r.last < s.cpus) s
+    (all_along (λ (spec : ThreadSpec). is_spec s.cpus spec ≡ true) (λ spec. (settings : Settings) → (record_of settings spec).last < s.cpus) s.threads
+    (λ spec valid settings. ltb-true spec.cpu s.cpus (and_parts (is_form spec.form) (nat_lt spec.cpu s.cpus) valid).1)
+    (all_from_list_all (is_spec s.cpus) s.threads (setup_specs s).specs))
+    (λ u. omega (arith, (setup_scripts s).some))

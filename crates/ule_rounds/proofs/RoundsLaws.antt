@@ -9,7 +9,7 @@ use Rattle.std.proofs.lemmas.Option.{none-some, same_Some}
 use Rattle.ule_types.specs.declared.event.Item.{Item}
 use Rattle.ule_types.specs.declared.event.Item.TheVariants as item
 use Rattle.ule_model.specs.Events.{is_ready}
-use Rattle.ule_model.specs.Program.{Course, next_step}
+use Rattle.ule_program.specs.Courses.{Course, next_step}
 use Rattle.ule_model.specs.Rounds.{Play, after_item, after_step, performed, round, rounds, turn}
 use Rattle.ule_model.specs.Step.{step}
 

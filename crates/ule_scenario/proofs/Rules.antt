@@ -13,7 +13,7 @@ use Rattle.ule_types.specs.Form.{is_bound_for, is_built_for, is_tick, has_few_ti
 use Rattle.ule_types.specs.Commands.{is_among, is_command, forked_by}
 use Rattle.ule_types.specs.Rules.{are_settings, are_numbers, are_turns, is_distinct, is_spec, budget_from, are_scripts, keeps_rules}
 use Rattle.ule_types.specs.declared.command.Command.{Command}
-use Rattle.ule_types.specs.declared.setup.GroupLine.{GroupLine}
+use Rattle.ule_topo.specs.declared.group.GroupLine.{GroupLine}
 use Rattle.ule_types.specs.declared.setup.ThreadSpec.{ThreadSpec}
 use Rattle.ule_scenario.specs.Scenario.{GivenSettings, settings_of, queued_by, unborn_in}
 use Rattle.ule_scenario.specs.Sections.{IsGivenWithin, AreGiven, is_in_range, is_thread, can_be_unborn, is_declaration, is_spellable, declared_by, ids_of, forked_in, AreScripts}

@@ -9,7 +9,7 @@ use Rattle.ule_types.specs.Form.{is_bound_for}
 use Rattle.ule_types.specs.Rules.{are_settings, is_distinct, keeps_rules}
 use Rattle.ule_types.specs.declared.command.Command.{Command}
 use Rattle.ule_types.specs.declared.fault.ScenarioFault.{ScenarioFault}
-use Rattle.ule_types.specs.declared.setup.GroupLine.{GroupLine}
+use Rattle.ule_topo.specs.declared.group.GroupLine.{GroupLine}
 use Rattle.ule_types.specs.declared.setup.Setup.{Setup}
 use Rattle.ule_types.specs.declared.setup.ThreadSpec.{ThreadSpec}
 use Rattle.ule_scenario.specs.Cut.{Line, cut, no_more, IsCut}

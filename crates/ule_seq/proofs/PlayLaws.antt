@@ -1,10 +1,9 @@
 -- How a player goes on: courses, and the plays that turns reach.
-use Rattle.std.proofs.Common.{◌≡◌, Bool, true, false, ◌==◌, ℕ, zero, suc, ◌+◌, ◌-◌, ◌^◌, ◌<◌, ◌≤◌, List, [], ◌∷◌, ◌++◌, length, take, drop, map, get_or, slice_get, slice_set, slice_index_or, Option, Some, None, option_and_then, if◌then◌else◌, refl, sym, ◌∙◌, ap, subst, arith}
-use Rattle.std.specs.List.{enumerate_from}
-use Rattle.std.proofs.lemmas.Bool.{false≢true}
-use Rattle.std.proofs.lemmas.List.{drop_all, length-map, length-take-le, length_push, take_more}
-use Rattle.std.proofs.lemmas.List.FromFn.{length-enumerate_from}
-use Rattle.std.proofs.lemmas.Option.{none-some, same_Some, slice_get-get_or}
+use Rattle.std.proofs.Common.{◌≡◌, Bool, true, false, ◌==◌, ℕ, zero, suc, ◌+◌, ◌-◌, ◌^◌, ◌<◌, ◌≤◌, List, [], ◌∷◌, ◌++◌, length, drop, get_or, is_some, slice_get, slice_set, Option, Some, None, option_and_then, if◌then◌else◌, refl, sym, ◌∙◌, ap, subst, ⊎_elim, arith}
+use Rattle.std.specs.Option.{option_map}
+use Rattle.std.proofs.lemmas.Bool.{cases_eq, false≢true, true≢false}
+use Rattle.std.proofs.lemmas.List.{drop_all, length-set, length_push}
+use Rattle.std.proofs.lemmas.Option.{none-some, same_Some, slice_get-get_or, slice_get_within}
 use Rattle.ule_types.specs.Form.{IsOfForm}
 use Rattle.ule_types.specs.Outcome.{OutcomeValue}
 use Rattle.ule_types.specs.declared.command.Command.{Command}
@@ -16,164 +15,128 @@ use Rattle.ule_types.specs.declared.event.Reply.{Reply}
 use Rattle.ule_types.specs.declared.outcome.ThreadLine.{ThreadLine}
 use Rattle.ule_types.specs.declared.setup.Setup.{Setup}
 use Rattle.ule_score.specs.declared.record.CpuLine.{CpuLine}
+use Rattle.ule_program.specs.Courses as program
+use Rattle.ule_program.specs.Courses.{course_of, next_in, next_step, or_else, stepped}
+use Rattle.ule_program.specs.Hearing.{CanHear}
+use Rattle.ule_program.specs.Program.{begun, next_of, own_of_setup}
+use Rattle.ule_program.specs.declared.own.Own.{Own}
 use Rattle.ule_model.specs.Conditions.{IsPossible}
 use Rattle.ule_model.specs.Ends.{end_time, outcome_at}
 use Rattle.ule_model.specs.Events.{holder_of, is_no_others, is_ready, sought_by}
 use Rattle.ule_model.specs.Finals.{thread_lines}
 use Rattle.ule_model.specs.History.{IsHistoryOf}
-use Rattle.ule_model.specs.Program as program
-use Rattle.ule_model.specs.Program.{Own, begun, course_of, next_in, next_of, next_step, or_else, own_of, stepped, told_last}
 use Rattle.ule_model.specs.Rounds.{Play, after_item, after_step, entry_of, greatest_rounds, opening, opening_courses, performed, play_of, turn}
 use Rattle.ule_model.specs.Start.{starting_time, world_at_start}
 use Rattle.ule_model.specs.Step.{step}
 use Rattle.ule_model.specs.World.{World}
-use Rattle.ule_model.specs.WorldValue.{CanStep, Shows, Steps, WorldValue, holder_in}
+use Rattle.ule_model.specs.WorldValue.{Shows, Steps, WorldValue, holder_in}
 use Rattle.ule_laws.proofs.TellLaws.{holder_shown}
 use Rattle.ule_rounds.proofs.HistoryLaws.{history_of_rounds}
-use Rattle.ule_rounds.proofs.Keeping.{IsUnderWay, advance_within, has_next, left_performed, possible, time_below, under_way_opening, under_way_turn}
-use Rattle.ule_rounds.proofs.Plays.{all_left}
+use Rattle.ule_rounds.proofs.Keeping.{IsUnderWay, advance_within, has_next, hears_reply, left_performed, possible, time_below, under_way_opening, under_way_turn}
+use Rattle.ule_rounds.proofs.Plays.{all_left, opening_count, opening_is}
 use Rattle.ule_rounds.proofs.RoundsLaws.{turn_finished}
-use Rattle.ule_members.proofs.Lists.{drop_at}
+use Rattle.ule_members.proofs.Lists.{drop_at, slice_get-set_other, slice_get-set_same}
 use Rattle.ule_seq.specs.Outcomes.{HasFinals, HasLines, IsOutcomeOf}
-use Rattle.ule_seq.specs.Playing.{IsAttempted, IsPerformed, IsPlay, IsReached, PlayerValue, opens, goes_on, advanced, course_at, courses_from, settled, settled_at, settled_in}
-use Rattle.ule_seq.specs.Programs.{own_of_program}
+use Rattle.ule_seq.specs.Playing.{AreAhead, CanPerform, GoesOn, HaveGoneOn, IsAdvanced, IsAttempted, IsOpening, IsPerformed, IsPlay, IsReached, PlayerValue, comes_next, course_at, goes_on, later_step, opens, script_of, waiting}
 use Rattle.ule_seq.specs.Readiness.{ready_by, ready_in}
-use Rattle.ule_seq.specs.declared.program.Program.{Program}
-use Rattle.ule_seq.specs.declared.rounds.Ahead.{Ahead}
 use Rattle.ule_seq.specs.declared.rounds.Course.{Course}
 use Rattle.ule_seq.specs.declared.world.Ready.TheVariants.{Yes, InHand}
 
 -- ---- the next item of a course
 
--- the course that a step leaves, with this script
-abbrev pub going_on : List Command → Own → Option (Reply × ℕ) → program.Course
-going_on script own last = record { script = script; own = own; last = last }
+-- of a step and nothing it is the first that there is
+or_nothing : (o : Option (Item × program.Course)) → or_else o None ≡ o
+or_nothing None = refl
+or_nothing (Some found) = refl
 
--- a command begun that has a further item gives that item next
-pub next_begun : (script : List Command) (own : Own) (last : Option (Reply × ℕ)) (i : Item) → (next_of last own).0 ≡ Some i →
-    next_in script own last ≡ Some (i, going_on script (next_of last own).1 None)
+-- the next step of a program is that of the command begun, or of the commands not begun
+next_step_is : (script : List Command) (own : Own) (last : Option (Reply × ℕ)) →
+    next_in script own last ≡ or_else (stepped script (next_of last own).0 (next_of last own).1) (later_step script (next_of last own).1)
 unfolding next_in
-next_begun [] own last i has = ap (λ (o : Option Item). stepped [] o (next_of last own).1) has
-next_begun (c ∷ cs) own last i has =
-    ap (λ (o : Option Item). or_else (stepped (c ∷ cs) o (next_of last own).1) (next_in cs (begun c (next_of last own).1) None)) has
+next_step_is [] own last = sym (or_nothing (stepped [] (next_of last own).0 (next_of last own).1))
+next_step_is (c ∷ cs) own last = refl
 
--- a command begun that has no further item gives none, where no further command is there
-pub next_ended : (own : Own) (last : Option (Reply × ℕ)) → (next_of last own).0 ≡ None → next_in [] own last ≡ None
-unfolding next_in
-next_ended own last has = ap (λ (o : Option Item). stepped [] o (next_of last own).1) has
+-- an item with the course after it, if there is one
+stepped_is : (script : List Command) (o : Option Item) (own : Own) →
+    option_map (λ i. (i, record { script = script; own = own; last = None })) o ≡ stepped script o own
+stepped_is script None own = refl
+stepped_is script (Some i) own = refl
 
--- a command begun that has no further item gives way to the next command
-pub next_begins : (c : Command) (cs : List Command) (own : Own) (last : Option (Reply × ℕ)) → (next_of last own).0 ≡ None →
-    next_in (c ∷ cs) own last ≡ next_in cs (begun c (next_of last own).1) None
-unfolding next_in
-next_begins c cs own last has =
-    ap (λ (o : Option Item). or_else (stepped (c ∷ cs) o (next_of last own).1) (next_in cs (begun c (next_of last own).1) None)) has
+-- a course whose program was told something comes to what its program then gives
+pub told_comes : (s : Setup) (worker : ℕ) (c new : Course) (last : Option (Reply × ℕ)) → new.next ≡ c.next → new.item ≡ (next_of last c.program).0 →
+    new.program ≡ (next_of last c.program).1 → next_step (course_at s worker c last) ≡ comes_next s worker new
+told_comes s worker c new last same item own =
+    next_step_is (drop c.next (script_of s worker)) c.program last ∙
+    ap (λ (o : Option (Item × program.Course)). or_else o (later_step (drop c.next (script_of s worker)) (next_of last c.program).1))
+    (sym (stepped_is (drop c.next (script_of s worker)) (next_of last c.program).0 (next_of last c.program).1)) ∙
+    ap (λ (x : Course). comes_next s worker x) (sym (course_is new c.next (next_of last c.program).1 (next_of last c.program).0 same own item))
+  where
+    course_is : (x : Course) (n : ℕ) (o : Own) (i : Option Item) → x.next ≡ n → x.program ≡ o → x.item ≡ i → x ≡ record { next = n; program = o; item = i }
+    course_is x n o i first second third =
+        ap (λ (k : ℕ). record { next = k; program = x.program; item = x.item }) first ∙ ap (λ (q : Own). record { next = n; program = q; item = x.item }) second ∙
+        ap (λ (j : Option Item). record { next = n; program = o; item = j }) third
 
--- a worker's script
-abbrev pub script_of : Setup → ℕ → List Command
-script_of s worker = slice_index_or s.scripts worker []
+-- a course with an item has come to its next step
+pub item_waits : (s : Setup) (worker : ℕ) (c : Course) → is_some c.item ≡ true → comes_next s worker c ≡ waiting s worker c
+item_waits s worker c some = at_item c.item some
+  where
+    at_item : (o : Option Item) → is_some o ≡ true →
+        or_else (option_map (λ i. (i, course_at s worker c None)) o) (later_step (drop c.next (script_of s worker)) c.program) ≡ option_map (λ i. (i, course_at s worker c None)) o
+    at_item None none = absurd (false≢true none)
+    at_item (Some i) some = refl
 
--- what a program gives next that heard what its last event told
-abbrev pub given_next : Program → Option Item × Own
-given_next p = next_of None (own_of_program p)
+-- so has one that has no command left
+pub none_waits : (s : Setup) (worker : ℕ) (c : Course) → length (script_of s worker) ≤ c.next → comes_next s worker c ≡ waiting s worker c
+none_waits s worker c past =
+    ap (λ (script : List Command). or_else (waiting s worker c) (later_step script c.program)) (drop_all c.next (script_of s worker) past) ∙ or_nothing (waiting s worker c)
 
--- a worker at this command of its script, whose program heard what its last event told
-abbrev pub standing_at : ℕ → Program → Course
-standing_at n p = record { next = n; program = p; last = None }
-
--- what is next of a program that is told something is what is next of it once it heard that
-pub next_once_told : (script : List Command) (own : Own) (last : Option (Reply × ℕ)) → next_in script own last ≡ next_in script (told_last last own) None
-unfolding next_in
-next_once_told [] own last = refl
-next_once_told (c ∷ cs) own last = refl
-
--- what is next of a course is what is next of it once its program heard what its last event told
-pub step_told : (s : Setup) (worker : ℕ) (c : Course) (p : Program) → own_of_program p ≡ told_last c.last (own_of_program c.program) →
-    next_step (course_at s worker c) ≡ next_step (course_at s worker (standing_at c.next p))
-step_told s worker c p told =
-    next_once_told (drop c.next (script_of s worker)) (own_of_program c.program) c.last ∙
-    ap (λ (q : Own). next_in (drop c.next (script_of s worker)) q None) (sym told)
-
--- a course whose command has a further item gives it, and its program goes on
-pub step_some : (s : Setup) (worker n : ℕ) (p new : Program) (i : Item) → Some i ≡ (given_next p).0 → own_of_program new ≡ (given_next p).1 →
-    next_step (course_at s worker (standing_at n p)) ≡ Some (i, course_at s worker (standing_at n new))
-step_some s worker n p new i has after =
-    next_begun (drop n (script_of s worker)) (own_of_program p) None i (sym has) ∙
-    ap (λ (q : Own). Some (i, going_on (drop n (script_of s worker)) q None)) (sym after)
-
--- a course at the end of its last command gives none
-pub step_none : (s : Setup) (worker n : ℕ) (p : Program) → length (script_of s worker) ≤ n → (given_next p).0 ≡ None →
-    next_step (course_at s worker (standing_at n p)) ≡ None
-step_none s worker n p past none =
-    ap (λ (script : List Command). next_in script (own_of_program p) None) (drop_all n (script_of s worker) past) ∙
-    next_ended (own_of_program p) None none
-
--- a course at the end of a command that isn't its last gives what it gives with the next command begun
-pub step_more : (s : Setup) (worker n : ℕ) (p mid new : Program) (command : Command) →
-    slice_get (script_of s worker) n ≡ Some command → (given_next p).0 ≡ None →
-    own_of_program mid ≡ (given_next p).1 → own_of_program new ≡ begun command (own_of_program mid) →
-    next_step (course_at s worker (standing_at n p)) ≡ next_step (course_at s worker (standing_at (n + 1) new))
-step_more s worker n p mid new command got none after begins =
-    ap (λ (script : List Command). next_in script (own_of_program p) None) (drop_at (script_of s worker) n command got) ∙
-    next_begins command (drop (n + 1) (script_of s worker)) (own_of_program p) None none ∙
-    ap (λ (q : Own). next_in (drop (n + 1) (script_of s worker)) q None) (ap (begun command) (sym after) ∙ sym begins)
-
--- ---- numbered lists
-
--- a numbered list with one more, after a map
-pub numbered_push : {X Y : Type 0} (f : ℕ → X → Y) (n : ℕ) (xs : List X) (x : X) →
-    map (λ e. f e.0 e.1) (enumerate_from n (xs ++ x ∷ [])) ≡ map (λ e. f e.0 e.1) (enumerate_from n xs) ++ f (n + length xs) x ∷ []
-numbered_push f n [] x = let e : n ≡ n + 0 = omega arith in ap (λ (k : ℕ). f k x ∷ []) e
-numbered_push {X} {Y} f n (y ∷ ys) x =
-    let e : n + 1 + length ys ≡ n + suc (length ys) = omega arith in
-    ap (λ (zs : List Y). f n y ∷ zs) (numbered_push f (n + 1) ys x ∙ ap (λ (k : ℕ). map (λ e. f e.0 e.1) (enumerate_from (n + 1) ys) ++ f k x ∷ []) e)
-
--- one place of a numbered list, after a map
-pub numbered_get : {X Y : Type 0} (f : ℕ → X → Y) (n : ℕ) (xs : List X) (i : ℕ) (x : X) → slice_get xs i ≡ Some x →
-    slice_get (map (λ e. f e.0 e.1) (enumerate_from n xs)) i ≡ Some (f (n + i) x)
-numbered_get f n [] i x got = absurd (none-some x got)
-numbered_get f n (y ∷ ys) zero x got = let e : n ≡ n + 0 = omega arith in ap (λ (k : ℕ). Some (f k y)) e ∙ ap (λ (z : _). Some (f (n + 0) z)) (same_Some y x got)
-numbered_get f n (y ∷ ys) (suc i) x got = let e : n + 1 + i ≡ n + suc i = omega arith in numbered_get f (n + 1) ys i x got ∙ ap (λ (k : ℕ). Some (f k x)) e
-
--- a numbered list with one place changed, after a map
-pub numbered_set : {X Y : Type 0} (f : ℕ → X → Y) (n : ℕ) (xs : List X) (i : ℕ) (x : X) →
-    map (λ e. f e.0 e.1) (enumerate_from n (slice_set xs i x)) ≡ slice_set (map (λ e. f e.0 e.1) (enumerate_from n xs)) i (f (n + i) x)
-numbered_set f n [] i x = refl
-numbered_set {X} {Y} f n (y ∷ ys) zero x = let e : n ≡ n + 0 = omega arith in ap (λ (k : ℕ). f k x ∷ map (λ e. f e.0 e.1) (enumerate_from (n + 1) ys)) e
-numbered_set {X} {Y} f n (y ∷ ys) (suc i) x =
-    let e : n + 1 + i ≡ n + suc i = omega arith in
-    ap (λ (zs : List Y). f n y ∷ zs) (numbered_set f (n + 1) ys i x ∙ ap (λ (k : ℕ). slice_set (map (λ e. f e.0 e.1) (enumerate_from (n + 1) ys)) i (f k x)) e)
+-- a course without an item comes to what its next command, once begun, gives
+pub begins_next : (s : Setup) (worker : ℕ) (c new : Course) (mid : Own) (command : Command) → is_some c.item ≡ false → slice_get (script_of s worker) c.next ≡ Some command →
+    mid ≡ begun command c.program → new.next ≡ c.next + 1 → new.item ≡ (next_of None mid).0 → new.program ≡ (next_of None mid).1 → comes_next s worker c ≡ comes_next s worker new
+begins_next s worker c new mid command none got begins same item own =
+    ap (λ (o : Option Item). or_else (option_map (λ i. (i, course_at s worker c None)) o) (later_step (drop c.next (script_of s worker)) c.program)) (none_is c.item none) ∙
+    ap (λ (script : List Command). later_step script c.program) (drop_at (script_of s worker) c.next command got) ∙
+    ap (λ (q : Own). next_in (drop (c.next + 1) (script_of s worker)) q None) (sym begins) ∙
+    told_comes s worker (record { next = c.next + 1; program = mid; item = None }) new None same item own
+  where
+    none_is : (o : Option Item) → is_some o ≡ false → o ≡ None
+    none_is None is = refl
+    none_is (Some i) is = absurd (true≢false is)
 
 -- ---- the opening courses
 
--- a worker before the first command of this list
-abbrev pub fresh_course : Setup → ℕ → List Command → program.Course
-fresh_course s worker script = course_of (own_of s.jitter s.cpus worker) script
+-- a worker before the first command of its script
+abbrev pub fresh_course : Setup → ℕ → program.Course
+fresh_course s worker = course_of (own_of_setup s worker) (script_of s worker)
 
--- the first workers before their first commands
-abbrev pub opening_to : Setup → ℕ → List program.Course
-opening_to s n = map (λ e. fresh_course s e.0 e.1) (enumerate_from 0 (take n s.scripts))
+-- each worker's course is ahead of that of the opening
+pub opening_ahead : (s : Setup) (cs : List Course) → length cs ≡ s.cpus → ((worker : ℕ) (c : Course) → slice_get cs worker ≡ Some c → IsOpening s worker c) →
+    AreAhead s (opening_courses s) cs
+opening_ahead s cs count each = record {
+  count = count ∙ sym (opening_count s);
+  each = λ worker course c found got. ap next_step (sym (opening_is s worker course found)) ∙ each worker c got;
+}
 
--- the opening courses with one worker more
-pub opening_more : (s : Setup) (n : ℕ) → n < length s.scripts → opening_to s (n + 1) ≡ opening_to s n ++ fresh_course s n (script_of s n) ∷ []
-opening_more s n below =
-    ap (λ scripts. map (λ e. fresh_course s e.0 e.1) (enumerate_from 0 scripts)) (take_more s.scripts n [] below) ∙
-    numbered_push (fresh_course s) 0 (take n s.scripts) (script_of s n) ∙
-    ap (λ (k : ℕ). opening_to s n ++ fresh_course s k (script_of s n) ∷ []) place
-  where
-    place : 0 + length (take n s.scripts) ≡ n
-    place = let taken : length (take n s.scripts) ≡ n = length-take-le n s.scripts (omega (arith, below)) in omega (arith, taken)
+-- what holds of each element by its place, and of one more behind them, holds of each then
+each_push : {X : Type 0} (P : ℕ → X → Type 0) (n : ℕ) (xs : List X) (x : X) → ((i : ℕ) (y : X) → slice_get xs i ≡ Some y → P (n + i) y) → P (n + length xs) x →
+    (i : ℕ) (y : X) → slice_get (xs ++ x ∷ []) i ≡ Some y → P (n + i) y
+each_push P n [] x each last zero y got = subst (P (n + 0)) (same_Some x y got) last
+each_push P n [] x each last (suc i) y got = absurd (none-some y got)
+each_push P n (z ∷ zs) x each last zero y got = each zero y got
+each_push P n (z ∷ zs) x each last (suc i) y got =
+    let place : n + 1 + i ≡ n + suc i = omega arith in
+    let behind : n + suc (length zs) ≡ n + 1 + length zs = omega arith in
+    subst (λ k. P k y) place
+    (each_push P (n + 1) zs x (λ j w found. (let e : n + suc j ≡ n + 1 + j = omega arith in subst (λ k. P k w) e (each (suc j) w found))) (subst (λ k. P k x) behind last) i y got)
 
--- courses that open, with one more that is that of the next worker before its first command
-pub course_more : (s : Setup) (n : ℕ) (cs : List Course) (c : Course) → length cs ≡ n → n < length s.scripts →
-    course_at s n c ≡ fresh_course s n (script_of s n) → courses_from s 0 cs ≡ opening_to s n → courses_from s 0 (cs ++ c ∷ []) ≡ opening_to s (n + 1)
-course_more s n cs c count below fresh same =
-    let place : 0 + length cs ≡ n = omega (arith, count) in
-    numbered_push (course_at s) 0 cs c ∙
-    ap (λ (k : ℕ). courses_from s 0 cs ++ course_at s k c ∷ []) place ∙
-    ap (λ (ds : List program.Course). ds ++ course_at s n c ∷ []) same ∙
-    ap (λ (d : program.Course). opening_to s n ++ d ∷ []) fresh ∙
-    sym (opening_more s n below)
+-- with one more course that opens, courses that open do so
+pub opening_more : (s : Setup) (cs : List Course) (c : Course) → ((worker : ℕ) (d : Course) → slice_get cs worker ≡ Some d → IsOpening s worker d) → IsOpening s (length cs) c →
+    (worker : ℕ) (d : Course) → slice_get (cs ++ c ∷ []) worker ≡ Some d → IsOpening s worker d
+opening_more s cs c each last worker d got =
+    let first : 0 + worker ≡ worker = omega arith in
+    let behind : length cs ≡ 0 + length cs = omega arith in
+    subst (λ k. IsOpening s k d) first
+    (each_push (IsOpening s) 0 cs c (λ i e found. (let at : i ≡ 0 + i = omega arith in subst (λ k. IsOpening s k e) at (each i e found))) (subst (λ k. IsOpening s k c) behind last) worker d got)
 
 -- ---- what turns keep
 
@@ -192,28 +155,47 @@ play_count s v p form play = (reached_kept s form p play.reached).legal.count
 
 -- a player has a course for each worker
 pub courses_count : (s : Setup) (v : PlayerValue) (p : Play) → IsOfForm s → IsPlay s v p → length v.courses ≡ s.cpus
-courses_count s v p form play =
-    sym (length-map (enumerate_from 0 v.courses) (λ e. course_at s e.0 e.1) ∙ length-enumerate_from 0 v.courses) ∙
-    ap (λ (cs : List program.Course). length cs) (sym play.courses) ∙ play_count s v p form play
+courses_count s v p form play = play.courses.count ∙ play_count s v p form play
 
--- the course that a player has of a worker is that of its play
-pub course_got : (s : Setup) (v : PlayerValue) (p : Play) (worker : ℕ) (c : Course) → IsPlay s v p → slice_get v.courses worker ≡ Some c →
-    slice_get p.courses worker ≡ Some (course_at s worker c)
-course_got s v p worker c play got =
-    let e : 0 + worker ≡ worker = omega arith in
-    ap (λ cs. slice_get cs worker) play.courses ∙ numbered_get (course_at s) 0 v.courses worker c got ∙ ap (λ (k : ℕ). Some (course_at s k c)) e
+-- a course that a player has of a worker is ahead of that of its play
+pub course_ahead : (s : Setup) (v : PlayerValue) (p : Play) (worker : ℕ) (c : Course) → IsPlay s v p → slice_get v.courses worker ≡ Some c →
+    (course : program.Course) × (slice_get p.courses worker ≡ Some course) × (next_step course ≡ waiting s worker c)
+course_ahead s v p worker c play got = at_course (slice_get p.courses worker) refl
+  where
+    at_course : (o : Option program.Course) → slice_get p.courses worker ≡ o →
+        (course : program.Course) × (slice_get p.courses worker ≡ Some course) × (next_step course ≡ waiting s worker c)
+    at_course None none =
+        absurd (none-some (get_or p.courses worker (fresh_course s worker))
+        (sym none ∙ slice_get-get_or p.courses worker (fresh_course s worker) (subst (λ n. worker < n) play.courses.count (slice_get_within v.courses worker c got))))
+    at_course (Some course) found = (course, found, play.courses.each worker course c found got)
 
--- the course of a worker settled among those of a player
-pub courses_settled : (s : Setup) (v : PlayerValue) (p : Play) (worker : ℕ) (c : Course) (ahead : Ahead) (last : Option (Reply × ℕ)) → IsPlay s v p →
-    slice_get v.courses worker ≡ Some c →
-    slice_set p.courses worker (course_at s worker (settled c ahead last)) ≡ courses_from s 0 (settled_at v.courses worker ahead last)
-courses_settled s v p worker c ahead last play got =
-    let at : 0 + worker ≡ worker = omega arith in
-    let new : Course = settled c ahead last in
-    ap (λ (cs : List program.Course). slice_set cs worker (course_at s worker new)) play.courses ∙
-    ap (λ (k : ℕ). slice_set (courses_from s 0 v.courses) worker (course_at s k new)) (sym at) ∙
-    sym (numbered_set (course_at s) 0 v.courses worker new) ∙
-    ap (λ (o : Option Course). courses_from s 0 (settled_in v.courses worker ahead last o)) (sym got)
+-- where a worker of a play and its course both go on, the courses are ahead again
+pub ahead_after : (s : Setup) (courses : List program.Course) (cs new : List Course) (worker : ℕ) (c : Course) (reached : program.Course) (last : Option (Reply × ℕ)) →
+    AreAhead s courses cs → slice_get cs worker ≡ Some c → reached ≡ course_at s worker c last → HaveGoneOn s cs worker last new → AreAhead s (slice_set courses worker reached) new
+ahead_after s courses cs new worker c reached last ahead got is gone = record {
+  count = ap (λ (ds : List Course). length ds) gone.courses ∙ length-set cs worker gone.reached ∙ ahead.count ∙ sym (length-set courses worker reached);
+  each = λ w d e found_d found_e. each w d e found_d (sym (ap (λ ds. slice_get ds w) gone.courses) ∙ found_e);
+}
+  where
+    same : gone.course ≡ c
+    same = same_Some gone.course c (sym gone.got ∙ got)
+
+    within : worker < length courses
+    within = subst (λ n. worker < n) ahead.count (slice_get_within cs worker c got)
+
+    each : (w : ℕ) (d : program.Course) (e : Course) → slice_get (slice_set courses worker reached) w ≡ Some d → slice_get (slice_set cs worker gone.reached) w ≡ Some e →
+        next_step d ≡ waiting s w e
+    each w d e found_d found_e =
+        ⊎_elim
+        (λ (here : w ≡ worker).
+        let at_d : slice_get (slice_set courses worker reached) worker ≡ Some d = subst (λ k. slice_get (slice_set courses worker reached) k ≡ Some d) here found_d in
+        let at_e : slice_get (slice_set cs worker gone.reached) worker ≡ Some e = subst (λ k. slice_get (slice_set cs worker gone.reached) k ≡ Some e) here found_e in
+        let d_is : reached ≡ d = same_Some reached d (sym (slice_get-set_same courses worker reached within) ∙ at_d) in
+        let e_is : gone.reached ≡ e = same_Some gone.reached e (sym (slice_get-set_same cs worker gone.reached (slice_get_within cs worker c got)) ∙ at_e) in
+        subst (λ k. next_step d ≡ waiting s k e) (sym here)
+        (ap next_step (sym d_is ∙ is ∙ ap (λ x. course_at s worker x last) (sym same)) ∙ gone.goes ∙ ap (waiting s worker) e_is))
+        (λ (other : w ≡ worker → ⊥). ahead.each w d e (sym (slice_get-set_other courses worker w reached other) ∙ found_d) (sym (slice_get-set_other cs worker w gone.reached other) ∙ found_e))
+        (cases_eq w worker)
 
 -- ---- whether an event is ready
 
@@ -241,132 +223,153 @@ own_is_yes worker (Some holder) own = ap (λ (b : Bool). if b then Yes else InHa
 
 -- ---- a turn of the player
 
--- where a worker stands that went so far ahead from a course
-abbrev pub course_ahead : Setup → ℕ → Course → Ahead → program.Course
-course_ahead s worker c ahead = course_at s worker (settled c ahead None)
-
--- a player of a play reads where a worker stands, which has this item next and goes so far ahead
-pub record IsAtTurn (s : Setup) (v : PlayerValue) (p : Play) (worker : ℕ) (i : Item) (ahead : Ahead) : Type 0 where
+-- a player of a play with a worker's course, which has this item waiting, and where the play has the worker
+pub record IsAtTurn (s : Setup) (v : PlayerValue) (p : Play) (worker : ℕ) (i : Item) : Type 0 where
   pub form : IsOfForm s
   pub play : IsPlay s v p
   pub course : Course
   pub got : slice_get v.courses worker ≡ Some course
-  pub next : next_step (course_at s worker course) ≡ Some (i, course_ahead s worker course ahead)
+  pub stands : program.Course
+  pub at : slice_get p.courses worker ≡ Some stands
+  pub next : next_step stands ≡ Some (i, course_at s worker course None)
 
--- what a player reads and finds is its turn
-pub turn_found : {s : Setup} {v : PlayerValue} {p : Play} {worker : ℕ} {i j : Item} {c : Course} {ahead : Ahead} → IsOfForm s → IsPlay s v p →
-    slice_get v.courses worker ≡ Some c →
-    Some (i, course_ahead s worker c ahead) ≡ next_step (course_at s worker c) → i ≡ j → IsAtTurn s v p worker j ahead
-turn_found {s} {v} {p} {worker} {i} {j} {c} {ahead} form play got found is = record {
-  form = form;
-  play = play;
-  course = c;
-  got = got;
-  next = sym found ∙ ap (λ (x : Item). Some (x, course_ahead s worker c ahead)) is;
-}
+-- what a player finds waiting is its turn
+pub turn_found : (s : Setup) (v : PlayerValue) (p : Play) (worker : ℕ) (i : Item) → IsOfForm s → IsPlay s v p →
+    option_and_then (λ (c : Course). c.item) (slice_get v.courses worker) ≡ Some i → IsAtTurn s v p worker i
+turn_found s v p worker i form play found = at_course (slice_get v.courses worker) refl found
+  where
+    at_course : (o : Option Course) → slice_get v.courses worker ≡ o → option_and_then (λ (c : Course). c.item) o ≡ Some i → IsAtTurn s v p worker i
+    at_course None none is = absurd (none-some i is)
+    at_course (Some c) got is =
+        let ahead = course_ahead s v p worker c play got in
+        record {
+          form = form;
+          play = play;
+          course = c;
+          got = got;
+          stands = ahead.0;
+          at = ahead.1;
+          next = ahead.2 ∙ ap (option_map (λ j. (j, course_at s worker c None))) is;
+        }
 
 -- the play at a turn is under way
-pub turn_kept : (s : Setup) (v : PlayerValue) (p : Play) (worker : ℕ) (i : Item) (ahead : Ahead) → IsAtTurn s v p worker i ahead → IsUnderWay s p
-turn_kept s v p worker i ahead at = reached_kept s at.form p at.play.reached
+pub turn_kept : (s : Setup) (v : PlayerValue) (p : Play) (worker : ℕ) (i : Item) → IsAtTurn s v p worker i → IsUnderWay s p
+turn_kept s v p worker i at = reached_kept s at.form p at.play.reached
 
--- the course of the play at a turn
-pub turn_got : (s : Setup) (v : PlayerValue) (p : Play) (worker : ℕ) (i : Item) (ahead : Ahead) (at : IsAtTurn s v p worker i ahead) →
-    slice_get p.courses worker ≡ Some (course_at s worker at.course)
-turn_got s v p worker i ahead at = course_got s v p worker at.course at.play at.got
+-- where the worker stands once the item is given
+abbrev pub given_course : Setup → ℕ → Course → program.Course
+given_course s worker c = course_at s worker c None
 
 -- an event that the world finds ready is possible
-pub turn_possible : (s : Setup) (v : PlayerValue) (p : Play) (worker : ℕ) (e : Event) (ahead : Ahead) → IsAtTurn s v p worker (item.Event e) ahead →
+pub turn_possible : (s : Setup) (v : PlayerValue) (p : Play) (worker : ℕ) (e : Event) → IsAtTurn s v p worker (item.Event e) →
     is_ready p.world worker e ≡ true → IsPossible p.world worker e v.now
-turn_possible s v p worker e ahead at ready =
-    let kept = turn_kept s v p worker (item.Event e) ahead at in
-    let next = course_ahead s worker at.course ahead in
-    let has = has_next s p worker (course_at s worker at.course) next e kept (turn_got s v p worker (item.Event e) ahead at) at.next in
-    subst (IsPossible p.world worker e) at.play.now (possible s p worker (course_at s worker at.course) next e kept has ready)
+turn_possible s v p worker e at ready =
+    let kept = turn_kept s v p worker (item.Event e) at in
+    let after = given_course s worker at.course in
+    let has = has_next s p worker at.stands after e kept at.at at.next in
+    subst (IsPossible p.world worker e) at.play.now (possible s p worker at.stands after e kept has ready)
 
 -- a player that finds an event ready can perform it
-pub can_attempt : (s : Setup) (v : PlayerValue) (p : Play) (worker : ℕ) (e : Event) (ahead : Ahead) → IsAtTurn s v p worker (item.Event e) ahead →
-    ready_in v.world worker e ≡ Yes → CanStep v.world worker e v.now
-can_attempt s v p worker e ahead at found = (
-  p.world,
-  at.play.world,
-  turn_possible s v p worker e ahead at
-      (yes_is_own worker (option_and_then (holder_of p.world.members) (sought_by e)) (sym (ready_shown v.world p.world worker e at.play.world) ∙ found)),
-)
+pub can_attempt : (s : Setup) (v : PlayerValue) (p : Play) (worker : ℕ) (e : Event) → IsAtTurn s v p worker (item.Event e) →
+    ready_in v.world worker e ≡ Yes → CanPerform v worker e
+can_attempt s v p worker e at found = record {
+  world = p.world;
+  shows = at.play.world;
+  possible = turn_possible s v p worker e at
+      (yes_is_own worker (option_and_then (holder_of p.world.members) (sought_by e)) (sym (ready_shown v.world p.world worker e at.play.world) ∙ found));
+  hears = λ c got.
+      subst (λ (x : Course). CanHear (Some ((step p.world worker e v.now).1, v.now)) x.program) (same_Some at.course c (sym at.got ∙ got))
+      (subst (λ n. CanHear (Some ((step p.world worker e n).1, n)) at.course.program) at.play.now
+      (hears_reply s p worker at.stands (given_course s worker at.course) e (turn_kept s v p worker (item.Event e) at) at.at at.next));
+}
 
 -- a player has room for the entry of an event
-pub has_room : (s : Setup) (v : PlayerValue) (p : Play) (worker : ℕ) (e : Event) (ahead : Ahead) → IsAtTurn s v p worker (item.Event e) ahead → 0 < v.outcome.room
-has_room s v p worker e ahead at = omega (arith, kept.count, left_among, at.play.room, ap (λ (es : List Entry). length es) at.play.entries)
+pub has_room : (s : Setup) (v : PlayerValue) (p : Play) (worker : ℕ) (e : Event) → IsAtTurn s v p worker (item.Event e) → 0 < v.outcome.room
+has_room s v p worker e at = omega (arith, kept.count, left_among, at.play.room, ap (λ (es : List Entry). length es) at.play.entries)
   where
     kept : IsUnderWay s p
-    kept = turn_kept s v p worker (item.Event e) ahead at
+    kept = turn_kept s v p worker (item.Event e) at
 
-    left_among : all_left s.cpus (performed worker e (course_ahead s worker at.course ahead) p).courses + 1 ≤ all_left s.cpus p.courses
-    left_among =
-        left_performed s p worker e (course_at s worker at.course) (course_ahead s worker at.course ahead) kept
-        (turn_got s v p worker (item.Event e) ahead at) at.next
+    left_among : all_left s.cpus (performed worker e (given_course s worker at.course) p).courses + 1 ≤ all_left s.cpus p.courses
+    left_among = left_performed s p worker e at.stands (given_course s worker at.course) kept at.at at.next
 
 -- time stays within its type
-pub advance_fits : (s : Setup) (v : PlayerValue) (p : Play) (worker k : ℕ) (ahead : Ahead) → IsAtTurn s v p worker (item.Advance k) ahead → v.now + k < 2 ^ 64
-advance_fits s v p worker k ahead at =
-    let kept = turn_kept s v p worker (item.Advance k) ahead at in
-    let next = course_ahead s worker at.course ahead in
-    let within = advance_within s p worker k (course_at s worker at.course) next kept (turn_got s v p worker (item.Advance k) ahead at) at.next in
+pub advance_fits : (s : Setup) (v : PlayerValue) (p : Play) (worker k : ℕ) → IsAtTurn s v p worker (item.Advance k) → v.now + k < 2 ^ 64
+advance_fits s v p worker k at =
+    let kept = turn_kept s v p worker (item.Advance k) at in
+    let within = advance_within s p worker k at.stands (given_course s worker at.course) kept at.at at.next in
     omega (arith, at.play.now, time_below s p kept, within.1)
 
+-- a worker's course is found at its number
+pub course_found : (before old : PlayerValue) (worker i : ℕ) (course : Course) → before ≡ old → i ≡ worker → worker < length old.courses → course ≡ get_or before.courses i course →
+    slice_get before.courses worker ≡ Some course
+course_found before old worker i course view from within at =
+    slice_get-get_or before.courses worker course (subst (λ (v : PlayerValue). worker < length v.courses) (sym view) within) ∙
+    ap Some (sym (at ∙ ap (λ (n : ℕ). get_or before.courses n course) from))
+
+-- a course of a worker that isn't there
+abbrev spare_course : Setup → Course
+spare_course s = record { next = 0; program = own_of_setup s 0; item = None }
+
 -- the play after a turn in which the worker has no further item
-pub turn_ended : (s : Setup) (v : PlayerValue) (p : Play) (worker : ℕ) (c : Course) → IsPlay s v p → slice_get v.courses worker ≡ Some c →
-    next_step (course_at s worker c) ≡ None → turn p worker ≡ p
-turn_ended s v p worker c play got ended =
-    turn_finished p worker
-    (λ course found. subst (λ d. next_step d ≡ None) (same_Some (course_at s worker c) course (sym (course_got s v p worker c play got) ∙ found)) ended)
+pub turn_ended : (s : Setup) (v : PlayerValue) (p : Play) (worker : ℕ) → IsPlay s v p →
+    option_and_then (λ (c : Course). c.item) (slice_get v.courses worker) ≡ None → turn p worker ≡ p
+turn_ended s v p worker play none = turn_finished p worker (λ course found. at_course course found (slice_get v.courses worker) refl none)
+  where
+    at_course : (course : program.Course) → slice_get p.courses worker ≡ Some course → (o : Option Course) → slice_get v.courses worker ≡ o →
+        option_and_then (λ (c : Course). c.item) o ≡ None → next_step course ≡ None
+    at_course course found None got is =
+        absurd (none-some (get_or v.courses worker (spare_course s))
+        (sym got ∙ slice_get-get_or v.courses worker (spare_course s) (subst (λ n. worker < n) (sym play.courses.count) (slice_get_within p.courses worker course found))))
+    at_course course found (Some c) got is = play.courses.each worker course c found got ∙ ap (option_map (λ i. (i, course_at s worker c None))) is
 
 -- the play after a turn that gave this item
-pub turn_item : (s : Setup) (v : PlayerValue) (p : Play) (worker : ℕ) (i : Item) (ahead : Ahead) (at : IsAtTurn s v p worker i ahead) →
-    turn p worker ≡ after_item worker i (course_ahead s worker at.course ahead) p
-turn_item s v p worker i ahead at =
-    ap (λ (o : Option program.Course). after_step worker (option_and_then next_step o) p) (turn_got s v p worker i ahead at) ∙
+pub turn_item : (s : Setup) (v : PlayerValue) (p : Play) (worker : ℕ) (i : Item) (at : IsAtTurn s v p worker i) →
+    turn p worker ≡ after_item worker i (given_course s worker at.course) p
+turn_item s v p worker i at =
+    ap (λ (o : Option program.Course). after_step worker (option_and_then next_step o) p) at.at ∙
     ap (λ (o : Option (Item × program.Course)). after_step worker o p) at.next
 
--- a player whose world stepped, in which the worker's course was settled and the entry was noted, performed the event
-pub event_performed : (before old : PlayerValue) (world : WorldValue) (noted : OutcomeValue) (worker i : ℕ) (e : Event) (ahead : Ahead) (reply : Reply) (course made : Course) →
+-- a player whose world stepped, in which the worker's course went on and the entry was noted, performed the event
+pub event_performed : (s : Setup) (before old : PlayerValue) (world : WorldValue) (noted : OutcomeValue) (worker i : ℕ) (e : Event) (reply : Reply) (course made : Course) →
     before ≡ old → Steps before.world worker e before.now world reply → i ≡ worker → worker < length old.courses → course ≡ get_or before.courses i course →
-    made ≡ settled course ahead (Some (reply, before.now)) →
+    GoesOn s worker course (Some (reply, before.now)) made →
     noted ≡ record before.outcome {
       entries = before.outcome.entries ++ record { worker = worker; event = e; now = before.now; reply = reply } ∷ [];
       room = before.outcome.room - 1;
     } →
-    IsPerformed old worker e ahead (record { world = world; courses = slice_set before.courses i made; now = before.now; outcome = noted })
-event_performed before old world noted worker i e ahead reply course made view steps from within at is note =
-    subst (λ (v : PlayerValue). IsPerformed v worker e ahead (record { world = world; courses = slice_set before.courses i made; now = before.now; outcome = noted })) view
+    IsPerformed s old worker e (record { world = world; courses = slice_set before.courses i made; now = before.now; outcome = noted })
+event_performed s before old world noted worker i e reply course made view steps from within at goes note =
+    subst (λ (v : PlayerValue). IsPerformed s v worker e (record { world = world; courses = slice_set before.courses i made; now = before.now; outcome = noted })) view
     (record {
       reply = reply;
       steps = steps;
-      courses =
-          ap (λ (n : ℕ). slice_set before.courses n made) from ∙ ap (slice_set before.courses worker) is ∙
-          ap (settled_in before.courses worker ahead (Some (reply, before.now))) (sym there);
+      courses = record {
+        course = course;
+        reached = made;
+        got = course_found before old worker i course view from within at;
+        goes = goes;
+        courses = ap (λ (n : ℕ). slice_set before.courses n made) from;
+      };
       now = refl;
       outcome = note;
     })
-  where
-    there : slice_get before.courses worker ≡ Some course
-    there =
-        slice_get-get_or before.courses worker course (subst (λ (v : PlayerValue). worker < length v.courses) (sym view) within) ∙
-        ap Some (sym (at ∙ ap (λ (n : ℕ). get_or before.courses n course) from))
 
 -- the play after a turn in which the worker's event was performed
-pub turn_performed : (s : Setup) (v new : PlayerValue) (p : Play) (worker : ℕ) (e : Event) (ahead : Ahead) → IsAtTurn s v p worker (item.Event e) ahead →
-    is_ready p.world worker e ≡ true → IsPerformed v worker e ahead new → IsPlay s new (turn p worker)
-turn_performed s v new p worker e ahead at ready done =
+pub turn_performed : (s : Setup) (v new : PlayerValue) (p : Play) (worker : ℕ) (e : Event) → IsAtTurn s v p worker (item.Event e) →
+    is_ready p.world worker e ≡ true → IsPerformed s v worker e new → IsPlay s new (turn p worker)
+turn_performed s v new p worker e at ready done =
     subst (IsPlay s new) (sym turned) (record {
       reached = subst (IsReached s) turned (goes_on p worker at.play.reached);
       world = subst (λ (n : ℕ). Shows new.world (step p.world worker e n).0) (sym at.play.now) stepped_to.0;
-      courses = courses;
+      courses = ahead_after s p.courses v.courses new.courses worker at.course (record (given_course s worker at.course) { last = Some ((step p.world worker e p.now).1, p.now) })
+          (Some (done.reply, v.now)) at.play.courses at.got reached_course done.courses;
       now = at.play.now ∙ sym done.now;
       entries = entries;
       room = omega (
         arith,
         at.play.room,
-        has_room s v p worker e ahead at,
+        has_room s v p worker e at,
         ap (λ (o : OutcomeValue). length o.entries) done.outcome,
         ap (λ (o : OutcomeValue). o.room) done.outcome,
         length_push v.outcome.entries (record { worker = worker; event = e; now = v.now; reply = done.reply }),
@@ -379,28 +382,21 @@ turn_performed s v new p worker e ahead at ready done =
   where
     -- the new scheduler shows the world's step, and has its reply
     stepped_to : Shows new.world (step p.world worker e v.now).0 × (done.reply ≡ (step p.world worker e v.now).1)
-    stepped_to = done.steps p.world at.play.world (turn_possible s v p worker e ahead at ready)
+    stepped_to = done.steps p.world at.play.world (turn_possible s v p worker e at ready)
 
     reply : (step p.world worker e p.now).1 ≡ done.reply
     reply = ap (λ (n : ℕ). (step p.world worker e n).1) at.play.now ∙ sym stepped_to.1
 
     next : program.Course
-    next = course_ahead s worker at.course ahead
+    next = given_course s worker at.course
 
     turned : turn p worker ≡ performed worker e next p
-    turned = turn_item s v p worker (item.Event e) ahead at ∙ ap (λ (b : Bool). if b then performed worker e next p else p) ready
+    turned = turn_item s v p worker (item.Event e) at ∙ ap (λ (b : Bool). if b then performed worker e next p else p) ready
 
     -- the course that the worker stands at
-    reached_course : record next { last = Some ((step p.world worker e p.now).1, p.now) } ≡
-        course_at s worker (settled at.course ahead (Some (done.reply, v.now)))
+    reached_course : record (given_course s worker at.course) { last = Some ((step p.world worker e p.now).1, p.now) } ≡ course_at s worker at.course (Some (done.reply, v.now))
     reached_course =
-        ap (λ (r : Reply). record next { last = Some (r, p.now) }) reply ∙
-        ap (λ (n : ℕ). record next { last = Some (done.reply, n) }) at.play.now
-
-    courses : slice_set p.courses worker (record next { last = Some ((step p.world worker e p.now).1, p.now) }) ≡ courses_from s 0 new.courses
-    courses =
-        ap (slice_set p.courses worker) reached_course ∙
-        courses_settled s v p worker at.course ahead (Some (done.reply, v.now)) at.play at.got ∙ ap (courses_from s 0) (sym done.courses)
+        ap (λ (r : Reply). course_at s worker at.course (Some (r, p.now))) reply ∙ ap (λ (n : ℕ). course_at s worker at.course (Some (done.reply, n))) at.play.now
 
     entries : p.entries ++ entry_of p worker e ∷ [] ≡ new.outcome.entries
     entries =
@@ -410,19 +406,19 @@ turn_performed s v new p worker e ahead at ready done =
         sym (ap (λ (o : OutcomeValue). o.entries) done.outcome)
 
 -- the play after a turn that was lost is the play before it
-pub turn_lost : (s : Setup) (v : PlayerValue) (p : Play) (worker : ℕ) (e : Event) (ahead : Ahead) → IsAtTurn s v p worker (item.Event e) ahead →
+pub turn_lost : (s : Setup) (v : PlayerValue) (p : Play) (worker : ℕ) (e : Event) → IsAtTurn s v p worker (item.Event e) →
     is_ready p.world worker e ≡ false → IsPlay s v (turn p worker)
-turn_lost s v p worker e ahead at unready = subst (IsPlay s v) (sym same) at.play
+turn_lost s v p worker e at unready = subst (IsPlay s v) (sym same) at.play
   where
     same : turn p worker ≡ p
     same =
-        turn_item s v p worker (item.Event e) ahead at ∙
-        ap (λ (b : Bool). if b then performed worker e (course_ahead s worker at.course ahead) p else p) unready
+        turn_item s v p worker (item.Event e) at ∙
+        ap (λ (b : Bool). if b then performed worker e (given_course s worker at.course) p else p) unready
 
 -- the play after a turn whose item was an event
-pub turn_attempted : (s : Setup) (v new : PlayerValue) (p : Play) (worker : ℕ) (e : Event) (ahead : Ahead) → IsAtTurn s v p worker (item.Event e) ahead →
-    IsAttempted v worker e ahead new → IsPlay s new (turn p worker)
-turn_attempted s v new p worker e ahead at tried = split (is_ready p.world worker e) refl
+pub turn_attempted : (s : Setup) (v new : PlayerValue) (p : Play) (worker : ℕ) (e : Event) → IsAtTurn s v p worker (item.Event e) →
+    IsAttempted s v worker e new → IsPlay s new (turn p worker)
+turn_attempted s v new p worker e at tried = split (is_ready p.world worker e) refl
   where
     holder : Option ℕ
     holder = option_and_then (holder_of p.world.members) (sought_by e)
@@ -431,37 +427,53 @@ turn_attempted s v new p worker e ahead at tried = split (is_ready p.world worke
     shown = ready_shown v.world p.world worker e at.play.world
 
     split : (b : Bool) → is_ready p.world worker e ≡ b → IsPlay s new (turn p worker)
-    split true ready = turn_performed s v new p worker e ahead at ready (tried.performed (shown ∙ own_is_yes worker holder ready))
+    split true ready = turn_performed s v new p worker e at ready (tried.performed (shown ∙ own_is_yes worker holder ready))
     split false unready =
         let same : new ≡ v = tried.lost (λ found. false≢true (sym unready ∙ yes_is_own worker holder (sym shown ∙ found))) in
-        subst (λ (u : PlayerValue). IsPlay s u (turn p worker)) (sym same) (turn_lost s v p worker e ahead at unready)
+        subst (λ (u : PlayerValue). IsPlay s u (turn p worker)) (sym same) (turn_lost s v p worker e at unready)
+
+-- a player whose worker's course went on let time go on
+pub time_advanced : (s : Setup) (before old : PlayerValue) (worker i k : ℕ) (course made : Course) → before ≡ old → i ≡ worker → worker < length old.courses →
+    course ≡ get_or before.courses i course → GoesOn s worker course None made → IsAdvanced s old worker k (record before { now = before.now + k; courses = slice_set before.courses i made })
+time_advanced s before old worker i k course made view from within at goes =
+    subst (λ (v : PlayerValue). IsAdvanced s v worker k (record before { now = before.now + k; courses = slice_set before.courses i made })) view
+    (record {
+      courses = record {
+        course = course;
+        reached = made;
+        got = course_found before old worker i course view from within at;
+        goes = goes;
+        courses = ap (λ (n : ℕ). slice_set before.courses n made) from;
+      };
+      rest = refl;
+    })
 
 -- the play after a turn that let time go on
-pub turn_advanced : (s : Setup) (v new : PlayerValue) (p : Play) (worker k : ℕ) (ahead : Ahead) → IsAtTurn s v p worker (item.Advance k) ahead →
-    new ≡ advanced v worker k ahead → IsPlay s new (turn p worker)
-turn_advanced s v new p worker k ahead at is =
-    subst (λ (u : PlayerValue). IsPlay s u (turn p worker)) (sym is) (subst (IsPlay s (advanced v worker k ahead)) (sym turned) (record {
+pub turn_advanced : (s : Setup) (v new : PlayerValue) (p : Play) (worker k : ℕ) → IsAtTurn s v p worker (item.Advance k) →
+    IsAdvanced s v worker k new → IsPlay s new (turn p worker)
+turn_advanced s v new p worker k at done =
+    subst (λ (u : PlayerValue). IsPlay s u (turn p worker)) (sym done.rest) (subst (IsPlay s (record v { now = v.now + k; courses = new.courses })) (sym turned) (record {
       reached = subst (IsReached s) turned (goes_on p worker at.play.reached);
       world = at.play.world;
-      courses = courses_settled s v p worker at.course ahead None at.play at.got;
+      courses = ahead_after s p.courses v.courses new.courses worker at.course (given_course s worker at.course) None at.play.courses at.got refl done.courses;
       now = ap (λ (n : ℕ). n + k) at.play.now;
       entries = at.play.entries;
       room = at.play.room;
       bare = at.play.bare;
     }))
   where
-    turned : turn p worker ≡ record p { now = p.now + k; courses = slice_set p.courses worker (course_ahead s worker at.course ahead) }
-    turned = turn_item s v p worker (item.Advance k) ahead at
+    turned : turn p worker ≡ record p { now = p.now + k; courses = slice_set p.courses worker (given_course s worker at.course) }
+    turned = turn_item s v p worker (item.Advance k) at
 
 -- ---- the opening and the end
 
 -- a player at the start
-pub opening_play : (s : Setup) (v : PlayerValue) → Shows v.world (world_at_start s) → courses_from s 0 v.courses ≡ opening_courses s → v.now ≡ starting_time →
+pub opening_play : (s : Setup) (v : PlayerValue) → Shows v.world (world_at_start s) → AreAhead s (opening_courses s) v.courses → v.now ≡ starting_time →
     v.outcome ≡ record { entries = []; threads = []; cpus = []; now = 0; room = greatest_rounds } → IsPlay s v (opening s)
 opening_play s v shows courses now outcome = record {
   reached = opens;
   world = shows;
-  courses = sym courses;
+  courses = courses;
   now = sym now;
   entries = sym (ap (λ (o : OutcomeValue). o.entries) outcome);
   room = omega (arith, ap (λ (o : OutcomeValue). length o.entries) outcome, ap (λ (o : OutcomeValue). o.room) outcome);

@@ -3,5 +3,4 @@ pub mod Locks
 pub mod Worlds
 pub mod Readiness
 pub mod Outcomes
-pub mod Programs
 pub mod Playing

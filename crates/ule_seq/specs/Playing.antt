@@ -1,17 +1,24 @@
 -- A play as the code has it, and of which play of the rounds it is the value.
-use Rattle.std.specs.Prelude.{◌≡◌, ◌≢◌, ℕ, ◌+◌, ◌-◌, List, [], ◌∷◌, ◌++◌, drop, length, map, slice_get, slice_index_or, slice_set, Option, Some, None}
-use Rattle.std.specs.List.{enumerate_from}
+use Rattle.std.specs.Prelude.{◌≡◌, ◌≢◌, ℕ, ◌+◌, ◌-◌, List, [], ◌∷◌, ◌++◌, drop, length, slice_get, slice_index_or, slice_set, Option, Some, None}
+use Rattle.std.specs.Option.{option_map}
 use Rattle.ule_types.specs.Outcome.{OutcomeValue}
+use Rattle.ule_types.specs.declared.command.Command.{Command}
 use Rattle.ule_types.specs.declared.event.Event.{Event}
+use Rattle.ule_types.specs.declared.event.Item.{Item}
 use Rattle.ule_types.specs.declared.event.Reply.{Reply}
 use Rattle.ule_types.specs.declared.setup.Setup.{Setup}
-use Rattle.ule_model.specs.Program as program
+use Rattle.ule_program.specs.Courses as program
+use Rattle.ule_program.specs.Courses.{course_of, next_in, next_step, or_else}
+use Rattle.ule_program.specs.Hearing.{CanHear}
+use Rattle.ule_program.specs.Program.{begun, own_of_setup}
+use Rattle.ule_program.specs.declared.own.Own.{Own}
+use Rattle.ule_model.specs.Conditions.{IsPossible}
 use Rattle.ule_model.specs.Rounds.{Play, greatest_rounds, opening, turn}
+use Rattle.ule_model.specs.Step.{step}
+use Rattle.ule_model.specs.World.{World}
 use Rattle.ule_model.specs.WorldValue.{Shows, Steps, WorldValue}
 use Rattle.ule_seq.specs.Outcomes.{IsBare}
-use Rattle.ule_seq.specs.Programs.{gone_on, own_of_program}
 use Rattle.ule_seq.specs.Readiness.{ready_in}
-use Rattle.ule_seq.specs.declared.rounds.Ahead.{Ahead}
 use Rattle.ule_seq.specs.declared.rounds.Course.{Course}
 use Rattle.ule_seq.specs.declared.world.Ready.TheVariants.{Yes}
 
@@ -22,17 +29,52 @@ pub record PlayerValue : Type 0 where
   pub now : ℕ
   pub outcome : OutcomeValue
 
--- where a worker stands in its script
-abbrev pub course_at : Setup → ℕ → Course → program.Course
-course_at s worker c = record {
-  script = drop c.next (slice_index_or s.scripts worker []);
-  own = own_of_program c.program;
-  last = c.last;
-}
+-- ---- courses
 
--- where each worker stands, the first of them being this one
-abbrev pub courses_from : Setup → ℕ → List Course → List program.Course
-courses_from s worker cs = map (λ e. course_at s e.0 e.1) (enumerate_from worker cs)
+-- a worker's script
+abbrev pub script_of : Setup → ℕ → List Command
+script_of s worker = slice_index_or s.scripts worker []
+
+-- where a worker stands in its script, told this of its last event
+abbrev pub course_at : Setup → ℕ → Course → Option (Reply × ℕ) → program.Course
+course_at s worker c last = record { script = drop c.next (script_of s worker); own = c.program; last = last }
+
+-- the step of a worker's program that waits for its turn: the item that it gave, and where the worker stands then
+abbrev pub waiting : Setup → ℕ → Course → Option (Item × program.Course)
+waiting s worker c = option_map (λ i. (i, course_at s worker c None)) c.item
+
+-- the next step of the commands not begun
+abbrev pub later_step : List Command → Own → Option (Item × program.Course)
+later_step [] own = None
+later_step (c ∷ cs) own = next_in cs (begun c own) None
+
+-- the step that a course comes to: the one that waits, or else one of the commands not begun
+abbrev pub comes_next : Setup → ℕ → Course → Option (Item × program.Course)
+comes_next s worker c = or_else (waiting s worker c) (later_step (drop c.next (script_of s worker)) c.program)
+
+-- a course has gone on to the next step of another one that was told this
+abbrev pub GoesOn : Setup → ℕ → Course → Option (Reply × ℕ) → Course → Type 0
+GoesOn s worker c last new = next_step (course_at s worker c last) ≡ waiting s worker new
+
+-- a course has gone on to the first step of its worker's program
+abbrev pub IsOpening : Setup → ℕ → Course → Type 0
+IsOpening s worker c = next_step (course_of (own_of_setup s worker) (script_of s worker)) ≡ waiting s worker c
+
+-- each of a player's courses has gone on to the next step of that of a play
+pub record AreAhead (s : Setup) (courses : List program.Course) (cs : List Course) : Type 0 where
+  pub count : length cs ≡ length courses
+  pub each : (worker : ℕ) (course : program.Course) (c : Course) → slice_get courses worker ≡ Some course → slice_get cs worker ≡ Some c →
+      next_step course ≡ waiting s worker c
+
+-- a worker's course has gone on, told this, and the others stand where they stood
+pub record HaveGoneOn (s : Setup) (old : List Course) (worker : ℕ) (last : Option (Reply × ℕ)) (new : List Course) : Type 0 where
+  pub course : Course
+  pub reached : Course
+  pub got : slice_get old worker ≡ Some course
+  pub goes : GoesOn s worker course last reached
+  pub courses : new ≡ slice_set old worker reached
+
+-- ---- plays
 
 -- the plays that turns make of the opening of a setup
 pub data IsReached (s : Setup) : Play → Type 0 where
@@ -43,30 +85,26 @@ pub data IsReached (s : Setup) : Play → Type 0 where
 pub record IsPlay (s : Setup) (v : PlayerValue) (p : Play) : Type 0 where
   pub reached : IsReached s p
   pub world : Shows v.world p.world
-  pub courses : p.courses ≡ courses_from s 0 v.courses
+  pub courses : AreAhead s p.courses v.courses
   pub now : p.now ≡ v.now
   pub entries : p.entries ≡ v.outcome.entries
   pub room : length v.outcome.entries + v.outcome.room ≡ greatest_rounds
   pub bare : IsBare v.outcome
 
--- a course after a turn, with what the event of the turn told, if the turn had one
-abbrev pub settled : Course → Ahead → Option (Reply × ℕ) → Course
-settled c ahead last = record { next = ahead.next; program = gone_on c.program ahead.progress; last = last }
+-- ---- turns
 
--- courses with this one of a worker settled, if the worker has one
-abbrev pub settled_in : List Course → ℕ → Ahead → Option (Reply × ℕ) → Option Course → List Course
-settled_in cs worker ahead last None = cs
-settled_in cs worker ahead last (Some c) = slice_set cs worker (settled c ahead last)
+-- a worker's event is possible in a world that the scheduler shows, and its program can hear the reply
+pub record CanPerform (v : PlayerValue) (worker : ℕ) (e : Event) : Type 0 where
+  pub world : World
+  pub shows : Shows v.world world
+  pub possible : IsPossible world worker e v.now
+  pub hears : (c : Course) → slice_get v.courses worker ≡ Some c → CanHear (Some ((step world worker e v.now).1, v.now)) c.program
 
--- courses with that of a worker settled
-abbrev pub settled_at : List Course → ℕ → Ahead → Option (Reply × ℕ) → List Course
-settled_at cs worker ahead last = settled_in cs worker ahead last (slice_get cs worker)
-
--- the new player is the old one after an event of a worker, whose course went ahead
-pub record IsPerformed (old : PlayerValue) (worker : ℕ) (e : Event) (ahead : Ahead) (new : PlayerValue) : Type 0 where
+-- the new player is the old one after an event of a worker
+pub record IsPerformed (s : Setup) (old : PlayerValue) (worker : ℕ) (e : Event) (new : PlayerValue) : Type 0 where
   pub reply : Reply
   pub steps : Steps old.world worker e old.now new.world reply
-  pub courses : new.courses ≡ settled_at old.courses worker ahead (Some (reply, old.now))
+  pub courses : HaveGoneOn s old.courses worker (Some (reply, old.now)) new.courses
   pub now : new.now ≡ old.now
   pub outcome : new.outcome ≡ record old.outcome {
     entries = old.outcome.entries ++ record { worker = worker; event = e; now = old.now; reply = reply } ∷ [];
@@ -74,10 +112,11 @@ pub record IsPerformed (old : PlayerValue) (worker : ℕ) (e : Event) (ahead : A
   }
 
 -- an event of a worker was performed, or the turn was lost
-pub record IsAttempted (old : PlayerValue) (worker : ℕ) (e : Event) (ahead : Ahead) (new : PlayerValue) : Type 0 where
-  pub performed : ready_in old.world worker e ≡ Yes → IsPerformed old worker e ahead new
+pub record IsAttempted (s : Setup) (old : PlayerValue) (worker : ℕ) (e : Event) (new : PlayerValue) : Type 0 where
+  pub performed : ready_in old.world worker e ≡ Yes → IsPerformed s old worker e new
   pub lost : ready_in old.world worker e ≢ Yes → new ≡ old
 
--- the player after a worker let time go on
-abbrev pub advanced : PlayerValue → ℕ → ℕ → Ahead → PlayerValue
-advanced v worker k ahead = record v { now = v.now + k; courses = settled_at v.courses worker ahead None }
+-- the new player is the old one after a worker let time go on
+pub record IsAdvanced (s : Setup) (old : PlayerValue) (worker k : ℕ) (new : PlayerValue) : Type 0 where
+  pub courses : HaveGoneOn s old.courses worker None new.courses
+  pub rest : new ≡ record old { now = old.now + k; courses = new.courses }

@@ -2,16 +2,15 @@
 //! a setup in rounds.
 #![tactic(auto)]
 
-pub use program::Program;
 pub use records::{STARTING_TIME, record_of};
 pub use rounds::{GREATEST_ROUNDS, play};
+pub use ule_program::Program;
 pub use world::{Ready, World};
 
 pub mod finals;
 pub mod hand;
 pub mod lock;
 pub mod opening;
-pub mod program;
 pub mod records;
 pub mod rounds;
 pub mod start;

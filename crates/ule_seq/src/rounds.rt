@@ -1,33 +1,27 @@
-ghost use Rattle.std.specs.Prelude.{◌≡◌, ◌+◌, ◌^◌, ◌<◌, ◌≤◌, length, slice_get, false, IfOk, None, Some};
+ghost use Rattle.std.specs.Prelude.{◌≡◌, ◌+◌, ◌^◌, ◌<◌, ◌≤◌, length, slice_get, false, IfOk, None, Some, option_and_then};
 ghost use Rattle.ule_types.specs.Form.{IsOfForm};
 ghost use Rattle.ule_model.specs.Rounds.{opening_courses};
 ghost use Rattle.ule_seq.specs.Outcomes.{IsOutcomeOf};
-ghost use Rattle.ule_seq.specs.Playing.{courses_from};
+ghost use Rattle.ule_seq.specs.Playing.{AreAhead};
 
-use crate::program::{Program, Progress};
 use crate::records::STARTING_TIME;
 use crate::world::{Ready, World};
 use std::alloc::Global;
 use std::marker::Model;
 use ule_io::Memory;
+use ule_program::Program;
 use ule_types::{Entry, Event, Item, Outcome, Reply, Setup};
 
 /// The greatest number of items of all scripts, and so of rounds.
 pub const GREATEST_ROUNDS: u32 = 65_536;
 
-/// Where a worker stands: its next command, the command begun, what the last event told.
+/// Where a worker stands: its next command, the command begun, and the item that it gave and that
+/// waits for its turn; none where the worker is at its end.
 #[derive(Drop)]
 struct Course {
     next: u32,
     program: Program,
-    last: Option<(Reply, u64)>,
-}
-
-/// What a turn changes of a course: the next command, and how the program goes on.
-#[derive(Clone, Copy)]
-struct Ahead {
-    next: u32,
-    progress: Progress,
+    item: Option<Item>,
 }
 
 /// A play: the world, where each worker stands, the time, and what was noted so far.
@@ -53,47 +47,58 @@ impl Model for Player {
 }
 
 impl Course {
-    ghost use Rattle.std.specs.Option.{option_map};
-    ghost use Rattle.ule_model.specs.Program.{next_step};
-    ghost use Rattle.ule_seq.specs.Playing.{course_at, settled};
+    ghost use Rattle.ule_program.specs.Hearing.{CanHear};
+    ghost use Rattle.ule_seq.specs.Playing.{GoesOn, IsOpening, comes_next, waiting};
 
-    /// The next item of a worker's program with what giving it changes; none at its end.
-    fn ahead(&self, s: &Setup, worker: u8) -> Option<(Item, Ahead)>
-        requires { worker < 16 }
-        ensures { option_map (λ found. (found.0, course_at s.now worker (settled self.now found.1 None))) result
-            ≡ next_step (course_at s.now worker self.now) }
+    /// A worker before its first command.
+    fn start(s: &Setup, worker: u8) -> Course
+        requires workers { worker < 16 }
+        requires worker { worker < s.now.cpus }
+        ensures { IsOpening s.now worker result }
     {
-        let mut ahead = Ahead {
-            next: self.next,
-            progress: self.program.hear(&self.last),
+        let mut course = Course {
+            next: 0,
+            program: Program::start(s, worker),
+            item: None,
         };
-        loop {
-            if let Some(item) = self.program.give(&mut ahead.progress) {
-                return Some((item, ahead));
-            }
-            if ahead.next >= s.scripts.len(worker) {
-                return None;
-            }
-            ahead.progress.begin(s.scripts.at(worker, ahead.next));
-            ahead.next += 1;
-        }
+        course.go_on(s, worker, None);
+        course
     }
 
-    /// Goes ahead in place, with the reply and the time of the event that was given, if one was.
-    fn settle(&mut self, ahead: &Ahead, last: Option<(Reply, u64)>)
-        ensures { self.new ≡ settled self.old ahead.now last }
+    /// Goes on to the next item of the worker's program. `last` is the reply and the time of the
+    /// event that was given, if one was.
+    fn go_on(&mut self, s: &Setup, worker: u8, last: Option<(Reply, u64)>)
+        requires worker { worker < 16 }
+        requires hears { CanHear last self.old.program }
+        ensures { GoesOn s.now worker self.old last self.new }
     {
-        self.next = ahead.next;
-        self.program.go_on(&ahead.progress);
-        self.last = last;
+        self.item = self.program.next(last);
+        self.begin_further(s, worker);
+    }
+
+    /// Begins the commands that come next, until one gives an item or none is left.
+    fn begin_further(&mut self, s: &Setup, worker: u8)
+        requires { worker < 16 }
+        ensures { comes_next s.now worker self.old ≡ waiting s.now worker self.new }
+    {
+        loop {
+            if self.item.is_some() {
+                return;
+            }
+            if self.next >= s.scripts.len(worker) {
+                return;
+            }
+            self.program.begin(s.scripts.at(worker, self.next));
+            self.next += 1;
+            self.item = self.program.next(None);
+        }
     }
 }
 
 impl Player {
     ghost use Rattle.ule_model.specs.Rounds.{Play, opening, round, rounds, turn};
-    ghost use Rattle.ule_model.specs.WorldValue.{CanStep};
     ghost use Rattle.ule_seq.specs.Outcomes.{HasFinals, IsBare};
-    ghost use Rattle.ule_seq.specs.Playing.{IsAttempted, IsPerformed, IsPlay, advanced};
+    ghost use Rattle.ule_seq.specs.Playing.{CanPerform, IsAdvanced, IsAttempted, IsPerformed, IsPlay};
     ghost use Rattle.ule_seq.specs.Readiness.{ready_in};
     ghost use Rattle.ule_seq.specs.declared.world.Ready.TheVariants.{Yes};
 
@@ -121,58 +126,61 @@ impl Player {
         ensures turned { (p : Play) → IsPlay s.now self.old p → IsPlay s.now self.new (turn p worker) }
         ensures ended { result ≡ false → (p : Play) → IsPlay s.now self.old p → turn p worker ≡ p }
     {
-        let Some((item, ahead)) = self.course_of(worker).ahead(s, worker) else {
+        let Some(item) = self.item_of(worker) else {
             return false;
         };
         match item {
-            Item::Event(event) => self.attempt(worker, &event, &ahead),
-            Item::Advance(ticks) => self.advance(worker, ticks, &ahead),
+            Item::Event(event) => self.attempt(s, worker, &event),
+            Item::Advance(ticks) => self.advance(s, worker, ticks),
         }
         true
     }
 
-    /// Where a worker stands.
-    fn course_of(&self, worker: u8) -> &Course
+    /// The item that a worker gave and that waits for its turn.
+    fn item_of(&self, worker: u8) -> Option<Item>
         requires { worker < length self.now.courses }
-        ensures { slice_get self.entry.now.courses worker ≡ Some result.now }
+        ensures { option_and_then (λ c. c.item) (slice_get self.entry.now.courses worker) ≡ result }
     {
-        &self.courses[usize::from(worker)]
+        self.courses[usize::from(worker)].item
     }
 
     /// The turn of a worker whose next item is an event. It is lost where the thread that the event
     /// seeks is in another worker's hand.
-    fn attempt(&mut self, worker: u8, event: &Event, ahead: &Ahead)
-        requires step { ready_in self.old.world worker event.now ≡ Yes → CanStep self.old.world worker event.now self.old.now }
+    fn attempt(&mut self, s: &Setup, worker: u8, event: &Event)
+        requires step { ready_in self.old.world worker event.now ≡ Yes → CanPerform self.old worker event.now }
+        requires workers { worker < 16 }
         requires worker { worker < length self.old.courses }
         requires room { 0 < self.old.outcome.room }
-        ensures { IsAttempted self.old worker event.now ahead.now self.new }
+        ensures { IsAttempted s.now self.old worker event.now self.new }
     {
         match self.world.ready(worker, event) {
-            Ready::Yes => self.perform(worker, event, ahead),
+            Ready::Yes => self.perform(s, worker, event),
             Ready::InHand(_) => {}
         }
     }
 
     /// The turn of a worker whose next item lets time go on.
-    fn advance(&mut self, worker: u8, ticks: u32, ahead: &Ahead)
+    fn advance(&mut self, s: &Setup, worker: u8, ticks: u32)
+        requires workers { worker < 16 }
         requires worker { worker < length self.old.courses }
         requires fits { self.old.now + ticks < 2 ^ 64 }
-        ensures { self.new ≡ advanced self.old worker ticks ahead.now }
+        ensures { IsAdvanced s.now self.old worker ticks self.new }
     {
         self.now += u64::from(ticks);
-        self.courses[usize::from(worker)].settle(ahead, None);
+        self.courses[usize::from(worker)].go_on(s, worker, None);
     }
 
-    /// An event of a worker, whose course goes ahead with the reply.
-    fn perform(&mut self, worker: u8, event: &Event, ahead: &Ahead)
-        requires step { CanStep self.old.world worker event.now self.old.now }
+    /// An event of a worker, whose program is told the reply.
+    fn perform(&mut self, s: &Setup, worker: u8, event: &Event)
+        requires step { CanPerform self.old worker event.now }
+        requires workers { worker < 16 }
         requires worker { worker < length self.old.courses }
         requires room { 0 < self.old.outcome.room }
-        ensures { IsPerformed self.old worker event.now ahead.now self.new }
+        ensures { IsPerformed s.now self.old worker event.now self.new }
     {
         let now = self.now;
         let reply = &self.world.step(worker, event, now);
-        self.courses[usize::from(worker)].settle(ahead, Some((*reply, now)));
+        self.courses[usize::from(worker)].go_on(s, worker, Some((*reply, now)));
         self.outcome.note(Entry {
             worker,
             event: *event,
@@ -229,16 +237,11 @@ impl Player {
 /// Each worker before its first command.
 fn opening_courses(alloc: Global, s: &Setup) -> Result<Vec<Course>, Memory>
     requires { s.now.cpus ≤ 16 }
-    ensures { IfOk result (λ courses. courses_from s.now 0 courses.items ≡ opening_courses s.now) }
+    ensures { IfOk result (λ courses. AreAhead s.now (opening_courses s.now) courses.items) }
 {
     let mut courses = Vec::new(alloc);
     for worker in 0..s.cpus {
-        let course = Course {
-            next: 0,
-            program: Program::start(s, worker),
-            last: None,
-        };
-        let Ok(()) = courses.push(course) else {
+        let Ok(()) = courses.push(Course::start(s, worker)) else {
             return Err(Memory);
         };
     }

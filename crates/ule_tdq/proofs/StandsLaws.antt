@@ -16,7 +16,7 @@ use Rattle.ule_score.specs.declared.record.ThreadRecord.{ThreadRecord}
 use Rattle.ule_score.specs.declared.record.Why.{Why}
 use Rattle.ule_types.specs.declared.event.Reply.{Reply}
 use Rattle.ule_types.specs.declared.event.Reply.TheVariants.{Landed}
-use Rattle.ule_types.specs.declared.look.Summary.{Summary}
+use Rattle.ule_topo.specs.declared.look.Summary.{Summary}
 use Rattle.ule_types.specs.declared.outcome.ThreadLine.{ThreadLine}
 use Rattle.ule_model.specs.CpuChange.{forked_reply, kind_queued, value_changed, value_forked, value_removed, value_removed_from}
 use Rattle.ule_model.specs.CpuNumbers.{summary_of, value_summary}

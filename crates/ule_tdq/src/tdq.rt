@@ -41,7 +41,8 @@ use ule_score::{
     Change, Changed, CpuLine, Place, Settings, ThreadRecord, Why, after_change, after_fork,
     after_running, after_tick, before_running, child_of, placed_on,
 };
-use ule_types::{Summary, ThreadLine};
+use ule_topo::Summary;
+use ule_types::ThreadLine;
 
 /// What a switch came to.
 #[derive(Clone, Copy)]

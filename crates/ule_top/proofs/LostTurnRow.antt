@@ -4,7 +4,7 @@ use Rattle.std.specs.Fmt.{digits}
 use Rattle.ule_history.specs.CpuUseUpdate.{updated_use, slid_use, ran_ticks}
 use Rattle.ule_model.specs.Ends.{outcome_of}
 use Rattle.ule_model.specs.Legal.{replayed}
-use Rattle.ule_model.specs.Program.{next_in}
+use Rattle.ule_program.specs.Courses.{next_in}
 use Rattle.ule_model.specs.Rounds.{Play, opening, round, rounds}
 use Rattle.ule_prio.specs.declared.class.Class.TheVariants.{Ts}
 use Rattle.ule_prio.specs.declared.kind.Kind.TheVariants.{Batch}

@@ -4,7 +4,7 @@ use Rattle.std.specs.Fmt.{digits}
 use Rattle.ule_history.specs.CpuUseUpdate.{updated_use, slid_use, ran_ticks}
 use Rattle.ule_model.specs.Ends.{outcome_of}
 use Rattle.ule_model.specs.Legal.{replayed}
-use Rattle.ule_model.specs.Program.{next_in}
+use Rattle.ule_program.specs.Courses.{next_in}
 use Rattle.ule_model.specs.Rounds.{Play, opening, round, rounds}
 use Rattle.ule_score.specs.Score.{score_of}
 use Rattle.ule_score.specs.TimesharePriority.{timeshare_priority, priority_at, batch_priority, use_steps}

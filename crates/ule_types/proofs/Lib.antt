@@ -1,3 +1,4 @@
 pub mod Placed
 pub mod Repeats
 pub mod Rows
+pub mod Numbers

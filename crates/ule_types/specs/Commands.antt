@@ -68,3 +68,20 @@ forked_by Exit = []
 forked_by Idle = []
 forked_by Balance = []
 forked_by (Look c) = []
+
+-- the time that a command adds
+abbrev pub amount_of : Command → ℕ
+amount_of (Time k) = k
+amount_of Tick = 0
+amount_of Yield = 0
+amount_of Resched = 0
+amount_of (Sleep channel) = 0
+amount_of (Wake t) = 0
+amount_of (Lend t p) = 0
+amount_of (Unlend t) = 0
+amount_of (Renice t n) = 0
+amount_of (Fork t) = 0
+amount_of Exit = 0
+amount_of Idle = 0
+amount_of Balance = 0
+amount_of (Look c) = 0

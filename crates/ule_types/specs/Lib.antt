@@ -2,4 +2,5 @@ pub mod Commands
 pub mod Rules
 pub mod Form
 pub mod Outcome
-pub mod Looks
+pub mod Needs
+pub mod Words

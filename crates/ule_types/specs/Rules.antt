@@ -11,7 +11,7 @@ use Rattle.ule_types.specs.declared.command.Command.{Command}
 use Rattle.ule_types.specs.declared.setup.Form.{Form}
 use Rattle.ule_types.specs.declared.setup.Form.TheVariants.{Ts, Ithd, Rt, Fifo, Idle}
 use Rattle.ule_types.specs.declared.setup.ThreadSpec.{ThreadSpec}
-use Rattle.ule_types.specs.declared.setup.GroupLine.{GroupLine}
+use Rattle.ule_topo.specs.declared.group.GroupLine.{GroupLine}
 
 -- whether no number stands twice
 abbrev pub is_distinct : List ℕ → Bool

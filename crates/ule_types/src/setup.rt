@@ -5,17 +5,7 @@ use crate::items::Items;
 use crate::scripts::Scripts;
 use ule_prio::{Cpu, Nice, Priority, ThreadId};
 use ule_score::Settings;
-
-/// One group of CPUs.
-#[derive(Clone, Copy)]
-pub struct GroupLine {
-    /// The group's number, 0..=14.
-    pub id: u8,
-    /// The group that it lies in; none for the root.
-    pub parent: Option<u8>,
-    /// Its CPUs: bit c for CPU c.
-    pub cpus: u16,
-}
+use ule_topo::GroupLine;
 
 /// The class of a declared thread, with its nice value or its base priority.
 #[derive(Clone, Copy)]

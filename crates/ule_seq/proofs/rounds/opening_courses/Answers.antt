@@ -1,22 +1,22 @@
 -- One worker more has its course, and at the end all have.
-use Rattle.std.proofs.Common.{◌+◌, ◌<◌, length, None, ◌∙◌, ap, arith}
+use Rattle.std.proofs.Common.{◌≡◌, ℕ, ◌+◌, List, length, slice_get, Some, sym, ◌∙◌, ap, subst, arith}
 use Rattle.std.proofs.lemmas.List.{length_push}
-use Rattle.ule_model.specs.Program.{Own}
-use Rattle.ule_members.proofs.Setups.{HasScripts, setup_scripts}
-use Rattle.ule_seq.specs.Playing.{courses_from}
+use Rattle.ule_seq.specs.Playing.{IsOpening}
 use Rattle.ule_seq.specs.declared.rounds.Course.{Course}
-use Rattle.ule_seq.proofs.PlayLaws.{course_more, going_on, script_of}
+use Rattle.ule_seq.proofs.PlayLaws.{opening_ahead, opening_more}
 use Rattle.ule_seq.proofs.rounds.opening_courses.Goals as goal
 
 pub loop-worker-preserved : goal.loop-worker-preserved
 loop-worker-preserved c =
-    let kept : HasScripts c.args.s.now = setup_scripts c.args.s.now in
-    let below : c.loop-worker.worker < length c.args.s.now.scripts = omega (arith, kept.count, kept.cpus) in
-    let course : Course = record { next = 0; program = c.start.result; last = None } in
+    let course : Course = c.start.result in
+    let first : IsOpening c.args.s.now (length c.loop-worker.courses.items) course = subst (λ k. IsOpening c.args.s.now k course) (sym c.loop-worker.invariant.count) c.start.ensures in
     record {
       count = ap length c.in-Ok.ensures.items ∙ length_push c.loop-worker.courses.items course ∙ ap (λ n. n + 1) c.loop-worker.invariant.count;
-      courses = ap (courses_from c.args.s.now 0) c.in-Ok.ensures.items ∙
-          course_more c.args.s.now c.loop-worker.worker c.loop-worker.courses.items course c.loop-worker.invariant.count below
-          (ap (λ (own : Own). going_on (script_of c.args.s.now c.loop-worker.worker) own None) c.start.ensures)
-          c.loop-worker.invariant.courses;
+      each = subst (λ (cs : List Course). (worker : ℕ) (d : Course) → slice_get cs worker ≡ Some d → IsOpening c.args.s.now worker d) (sym c.in-Ok.ensures.items)
+          (opening_more c.args.s.now c.loop-worker.courses.items course c.loop-worker.invariant.each first);
     }
+
+pub returns : goal.returns
+returns c =
+    let all : c.loop-worker.worker ≡ c.args.s.now.cpus = omega arith in
+    opening_ahead c.args.s.now c.loop-worker.courses.items (c.loop-worker.invariant.count ∙ all) c.loop-worker.invariant.each

@@ -1,11 +1,11 @@
--- The courses made so far are those of the first workers.
-use Rattle.std.proofs.Common.{◌≡◌, length}
-use Rattle.ule_seq.specs.Playing.{courses_from}
-use Rattle.ule_seq.proofs.PlayLaws.{opening_to}
+-- The courses made so far are those of the first workers, each at its first step.
+use Rattle.std.proofs.Common.{◌≡◌, ℕ, length, slice_get, Some}
+use Rattle.ule_seq.specs.Playing.{IsOpening}
+use Rattle.ule_seq.specs.declared.rounds.Course.{Course}
 use Rattle.ule_seq.proofs.rounds.opening_courses.Given as goal
 
 abbrev pub invariant-loop-worker : goal.invariant-loop-worker
 invariant-loop-worker l = record {
   count : length l.courses.items ≡ l.worker;
-  courses : courses_from l.s 0 l.courses.items ≡ opening_to l.s l.worker;
+  each : (worker : ℕ) (c : Course) → slice_get l.courses.items worker ≡ Some c → IsOpening l.s worker c;
 }

@@ -1,11 +1,11 @@
--- The course of the worker was settled, and the entry was noted.
+-- The course of the worker went on, told the reply, and the entry was noted.
 use Rattle.ule_seq.proofs.PlayLaws.{event_performed}
 use Rattle.ule_seq.proofs.rounds.Player.perform.Goals as goal
 
 pub returns : goal.returns
 returns c =
-    event_performed
+    event_performed c.args.s.now
     (record { world = c.self.inside.world; courses = c.self.inside.courses.items; now = c.self.inside.now; outcome = c.self.inside.outcome })
-    c.args.self.now c.step.new.self c.note.new.self c.args.worker c.from.result c.args.event.now c.args.ahead.now c.step.result
-    c.index_mut.result.now c.settle.new.self c.self.view_is c.step.ensures.steps c.from.ensures c.requires.worker c.index_mut.ensures.value
-    c.settle.ensures c.note.ensures
+    c.args.self.now c.step.new.self c.note.new.self c.args.worker c.from.result c.args.event.now c.step.result
+    c.index_mut.result.now c.go_on.new.self c.self.view_is c.step.ensures.steps c.from.ensures c.requires.worker c.index_mut.ensures.value
+    c.go_on.ensures c.note.ensures

@@ -1,49 +1,43 @@
--- A turn with no further item changes nothing; any other is the turn of the item that the worker's
--- course gives.
-use Rattle.std.proofs.Common.{sym, subst, arith}
+-- A turn with no further item changes nothing; any other is the turn of the item that waits.
+use Rattle.std.proofs.Common.{sym, ◌∙◌, ap, subst, Some, arith}
 use Rattle.ule_seq.specs.Playing.{IsPlay}
 use Rattle.ule_seq.proofs.PlayLaws.{advance_fits, can_attempt, courses_count, has_room, turn_advanced, turn_attempted, turn_ended, turn_found}
 use Rattle.ule_seq.proofs.rounds.Player.turn.Goals as goal
 
-pub course_of-requires : goal.course_of-requires
-course_of-requires c = omega (arith, c.requires.worker, courses_count c.args.s.now c.args.self.now c.requires.play.0 c.requires.form c.requires.play.1)
+pub item_of-requires : goal.item_of-requires
+item_of-requires c = omega (arith, c.requires.worker, courses_count c.args.s.now c.args.self.now c.requires.play.0 c.requires.form c.requires.play.1)
 
 pub returns-in_default-clause-turned : goal.returns-in_default-clause-turned
 returns-in_default-clause-turned c p play =
-    subst (IsPlay c.args.s.now c.args.self.now)
-    (sym (turn_ended c.args.s.now c.args.self.now p c.args.worker c.course_of.result.now play c.course_of.ensures (sym c.in_default.ensures))) play
+    subst (IsPlay c.args.s.now c.args.self.now) (sym (turn_ended c.args.s.now c.args.self.now p c.args.worker play (c.item_of.ensures ∙ c.in_default.is))) play
 
 pub returns-in_default-clause-ended : goal.returns-in_default-clause-ended
-returns-in_default-clause-ended c still p play =
-    turn_ended c.args.s.now c.args.self.now p c.args.worker c.course_of.result.now play c.course_of.ensures (sym c.in_default.ensures)
+returns-in_default-clause-ended c still p play = turn_ended c.args.s.now c.args.self.now p c.args.worker play (c.item_of.ensures ∙ c.in_default.is)
 
 pub attempt-requires-clause-step : goal.attempt-requires-clause-step
 attempt-requires-clause-step c ready =
-    can_attempt c.args.s.now c.args.self.now c.requires.play.0 c.args.worker c.in-Event.event c.in-Some.ahead
-    (turn_found c.requires.form c.requires.play.1 c.course_of.ensures c.in-Some.ensures c.in-Event.is) ready
-
-pub attempt-requires-clause-worker : goal.attempt-requires-clause-worker
-attempt-requires-clause-worker c = omega (arith, c.requires.worker, courses_count c.args.s.now c.args.self.now c.requires.play.0 c.requires.form c.requires.play.1)
+    can_attempt c.args.s.now c.args.self.now c.requires.play.0 c.args.worker c.in-Event.event
+    (turn_found c.args.s.now c.args.self.now c.requires.play.0 c.args.worker _ c.requires.form c.requires.play.1 (c.item_of.ensures ∙ c.in-Some.is ∙ ap Some c.in-Event.is)) ready
 
 pub attempt-requires-clause-room : goal.attempt-requires-clause-room
 attempt-requires-clause-room c =
-    has_room c.args.s.now c.args.self.now c.requires.play.0 c.args.worker c.in-Event.event c.in-Some.ahead
-    (turn_found c.requires.form c.requires.play.1 c.course_of.ensures c.in-Some.ensures c.in-Event.is)
+    has_room c.args.s.now c.args.self.now c.requires.play.0 c.args.worker c.in-Event.event
+    (turn_found c.args.s.now c.args.self.now c.requires.play.0 c.args.worker _ c.requires.form c.requires.play.1 (c.item_of.ensures ∙ c.in-Some.is ∙ ap Some c.in-Event.is))
 
 pub advance-requires-clause-worker : goal.advance-requires-clause-worker
 advance-requires-clause-worker c = omega (arith, c.requires.worker, courses_count c.args.s.now c.args.self.now c.requires.play.0 c.requires.form c.requires.play.1)
 
 pub advance-requires-clause-fits : goal.advance-requires-clause-fits
 advance-requires-clause-fits c =
-    advance_fits c.args.s.now c.args.self.now c.requires.play.0 c.args.worker c.in-Advance.ticks c.in-Some.ahead
-    (turn_found c.requires.form c.requires.play.1 c.course_of.ensures c.in-Some.ensures c.in-Advance.is)
+    advance_fits c.args.s.now c.args.self.now c.requires.play.0 c.args.worker c.in-Advance.ticks
+    (turn_found c.args.s.now c.args.self.now c.requires.play.0 c.args.worker _ c.requires.form c.requires.play.1 (c.item_of.ensures ∙ c.in-Some.is ∙ ap Some c.in-Advance.is))
 
 pub returns-in-Event-clause-turned : goal.returns-in-Event-clause-turned
 returns-in-Event-clause-turned c p play =
-    turn_attempted c.args.s.now c.args.self.now c.attempt.new.self p c.args.worker c.in-Event.event c.in-Some.ahead
-    (turn_found c.requires.form play c.course_of.ensures c.in-Some.ensures c.in-Event.is) c.attempt.ensures
+    turn_attempted c.args.s.now c.args.self.now c.attempt.new.self p c.args.worker c.in-Event.event
+    (turn_found c.args.s.now c.args.self.now p c.args.worker _ c.requires.form play (c.item_of.ensures ∙ c.in-Some.is ∙ ap Some c.in-Event.is)) c.attempt.ensures
 
 pub returns-in-Advance-clause-turned : goal.returns-in-Advance-clause-turned
 returns-in-Advance-clause-turned c p play =
-    turn_advanced c.args.s.now c.args.self.now c.advance.new.self p c.args.worker c.in-Advance.ticks c.in-Some.ahead
-    (turn_found c.requires.form play c.course_of.ensures c.in-Some.ensures c.in-Advance.is) c.advance.ensures
+    turn_advanced c.args.s.now c.args.self.now c.advance.new.self p c.args.worker c.in-Advance.ticks
+    (turn_found c.args.s.now c.args.self.now p c.args.worker _ c.requires.form play (c.item_of.ensures ∙ c.in-Some.is ∙ ap Some c.in-Advance.is)) c.advance.ensures

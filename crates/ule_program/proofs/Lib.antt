@@ -1,0 +1,6 @@
+pub mod FoundLaws
+pub mod GroupLaws
+pub mod ProgramLaws
+pub mod SoundLaws
+pub mod StealLaws
+pub mod Rows
