@@ -6,7 +6,7 @@ use Rattle.ule_types.specs.Commands.{is_among}
 use Rattle.ule_types.specs.declared.event.Reply.{Reply}
 use Rattle.ule_types.specs.declared.setup.Setup.{Setup}
 use Rattle.ule_model.specs.Events.{Locking, queue, queues, chain, limbo, place_of, locking, are_cpus, sought_in}
-use Rattle.ule_model.specs.Program.{next_of}
+use Rattle.ule_program.specs.Program.{next_of}
 use Rattle.ule_model.specs.WorldValue.{if_thread}
 use Rattle.ule_micro.specs.Means.{lock_of}
 use Rattle.ule_micro.specs.Laws.{AreRising, AsksSoundly, KeepsHands}

@@ -8,7 +8,7 @@ use Rattle.ule_types.specs.declared.event.Reply.{Reply}
 use Rattle.ule_types.specs.declared.setup.Setup.{Setup}
 use Rattle.ule_model.specs.Legal.{BeginsProgram, IsInTime, IsLegal, Timed, amount_in, amount_in_all, opening_of, with_locks}
 use Rattle.ule_model.specs.LockValue.{LockValue}
-use Rattle.ule_model.specs.Program.{next_step}
+use Rattle.ule_program.specs.Courses.{next_step}
 use Rattle.ule_model.specs.Start.{starting_time, world_at_start}
 use Rattle.ule_members.proofs.Within.{all_along}
 use Rattle.ule_rounds.proofs.Courses.{time_of}

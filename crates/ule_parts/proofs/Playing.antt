@@ -10,7 +10,8 @@ use Rattle.ule_types.specs.declared.event.Reply.{Reply}
 use Rattle.ule_types.specs.declared.setup.Setup.{Setup}
 use Rattle.ule_model.specs.Legal.{Performs, Timed, entries_of, opening_of, stays}
 use Rattle.ule_model.specs.LockValue.{LockValue}
-use Rattle.ule_model.specs.Program.{Course, Own, begun, course_of, next_in, next_of, next_step, or_else, own_of, stepped}
+use Rattle.ule_program.specs.Courses.{Course, course_of, next_in, next_step, or_else, stepped}
+use Rattle.ule_program.specs.Program.{Own, begun, next_of, own_of_setup}
 use Rattle.ule_model.specs.Start.{starting_time}
 use Rattle.ule_members.proofs.Within.{all-append, all_along}
 use Rattle.ule_rounds.proofs.Courses.{performs_acted, performs_advanced}
@@ -139,10 +140,10 @@ module _ (s : Setup) (lists : List (List Command)) where
   unfolding next_in
   first_course w o at = record { course = opening_of s lists w; performs = stays (opening_of s lists w) 0; next = by (list_of lists w) ∙ ap (λ (p : Worker). next_of_rest (list_of lists w) p.program) (sym is) }
     where
-      is : o ≡ record { program = own_of s.jitter s.cpus w; hand = None }
-      is = (first_own s 0 s.cpus w o at).1 ∙ ap (λ u. record { program = own_of s.jitter s.cpus u; hand = None }) (let a : 0 + w ≡ w = omega arith in a)
+      is : o ≡ record { program = own_of_setup s w; hand = None }
+      is = (first_own s 0 s.cpus w o at).1 ∙ ap (λ u. record { program = own_of_setup s u; hand = None }) (let a : 0 + w ≡ w = omega arith in a)
 
-      by : (script : List Command) → next_in script (own_of s.jitter s.cpus w) None ≡ next_of_rest script (own_of s.jitter s.cpus w)
+      by : (script : List Command) → next_in script (own_of_setup s w) None ≡ next_of_rest script (own_of_setup s w)
       by [] = refl
       by (c ∷ cs) = refl
 

@@ -6,17 +6,17 @@ use Rattle.ule_types.specs.declared.event.Event.{Event}
 use Rattle.ule_types.specs.declared.event.Item.{Item}
 use Rattle.ule_types.specs.declared.event.Item.TheVariants as item
 use Rattle.ule_types.specs.declared.event.Reply.{Reply}
-use Rattle.ule_types.specs.declared.stage.Stage.TheVariants as stage
 use Rattle.ule_model.specs.Legal.{Performs, Timed, acts, advances, amount_in, amount_of, stays}
-use Rattle.ule_model.specs.Program.{Course, Own, after_giving, begun, item_at, next_step, stage_after}
+use Rattle.ule_program.specs.Courses.{Course, next_step}
+use Rattle.ule_program.specs.Laws.{time_at}
+use Rattle.ule_program.specs.Program.{Own, Stage, Ended, Advances, Gives, after_giving, begun, item_at}
 use Rattle.ule_rounds.proofs.Courses.{IsFound, next_found, time_from, time_of}
-use Rattle.ule_rounds.proofs.Stages.{at_advance, at_event, ended_stage, first_time, given_stage, item_time, reply_time, time_at}
 
 -- what is left to add at a course, where its next item is found
 found : (course after : Course) (i : Item) → next_step course ≡ Some (i, after) → IsFound (λ script own. time_from script own ≡ time_of course) i after
 found course after i next = next_found (λ script own. time_from script own ≡ time_of course) kept course i after refl next
   where
-    kept : (c : Command) (cs : List Command) (own : Own) → item_at own.worker own.stage ≡ None → time_from (c ∷ cs) own ≡ time_of course → time_from cs (begun c own) ≡ time_of course
+    kept : (c : Command) (cs : List Command) (own : Own) → item_at own.stage ≡ None → time_from (c ∷ cs) own ≡ time_of course → time_from cs (begun c own) ≡ time_of course
     kept c cs own none was = let ended : time_at own.stage ≡ 0 = ap time_at (ended_stage own.worker own.stage none) in let first = first_time c in let more : amount_in (c ∷ cs) ≡ amount_of c + amount_in cs = sum_by-cons amount_of c cs in omega arith
 
 -- an advance adds its amount

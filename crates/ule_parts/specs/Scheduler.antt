@@ -13,14 +13,14 @@ use Rattle.ule_model.specs.History.{KeepsRecords}
 use Rattle.ule_model.specs.LockValue.{LockValue, has_under}
 use Rattle.ule_model.specs.OpeningValues.{opening_scheduler}
 use Rattle.ule_model.specs.Places.{lock_of}
-use Rattle.ule_model.specs.Program.{begun, next_of}
+use Rattle.ule_program.specs.Program.{begun, next_of}
 use Rattle.ule_model.specs.Shows.{numbers_of}
 use Rattle.ule_model.specs.Start.{world_at_start}
 use Rattle.ule_model.specs.WellMade.{IsWellMadeWorld}
 use Rattle.ule_model.specs.Words.{change_of}
 use Rattle.ule_model.specs.World.{World, thread_of}
 use Rattle.ule_model.specs.WorldValue.{Shows, WorldValue, held_by, if_thread}
-use Rattle.ule_rounds.proofs.Stages.{HasDeclaredParent}
+use Rattle.ule_rounds.proofs.Parents.{HasDeclaredParent}
 use Rattle.ule_micro.specs.declared.locks.TheConstants.{LIMBO}
 use Rattle.ule_micro.specs.Means.{Means}
 use Rattle.ule_micro.specs.Laws.{total_charge}

@@ -9,13 +9,13 @@ use Rattle.ule_types.specs.declared.event.Event.{Event}
 use Rattle.ule_types.specs.declared.event.Item.TheVariants as item
 use Rattle.ule_types.specs.declared.event.Reply.{Reply}
 use Rattle.ule_types.specs.declared.setup.Setup.{Setup}
-use Rattle.ule_types.specs.declared.stage.Stage.TheVariants as stage
+use Rattle.ule_types.specs.Needs.{hatched_by}
 use Rattle.ule_model.specs.Events.{locking, Handling, any, empty, unborn, has, handling}
 use Rattle.ule_model.specs.Places.{is_number}
-use Rattle.ule_model.specs.Program.{Own, Stage, in_hand, item_at, most_from, own_of, told_last}
+use Rattle.ule_program.specs.Groups.{topology_of}
+use Rattle.ule_program.specs.Laws.{LeadsTo, NamesWhatIs, hatching, time_at}
+use Rattle.ule_program.specs.Program.{Own, Ended, in_hand, item_at, most, own_of_setup, told_last}
 use Rattle.ule_model.specs.WorldValue.{if_thread}
-use Rattle.ule_members.proofs.Unborn.{hatched_by}
-use Rattle.ule_rounds.proofs.Stages.{IsSoundStage, NamesWhatIs, hatching}
 use Rattle.ule_micro.specs.declared.entry.Entry.{Entry}
 use Rattle.ule_micro.specs.declared.todo.Todo.TheVariants as todo
 use Rattle.ule_micro.specs.Standings.{Journal, Standing, asks, rests}
@@ -35,25 +35,25 @@ threads_hatched mine = flat_map (λ x. hatched_by x.event) mine
 abbrev pub threads_forked : List Command → List ℕ
 threads_forked given = flat_map forked_by given
 
--- stage at: the stage at which a worker's next item is found
-abbrev pub stage_at : Own → Standing Event Reply → Stage
-stage_at own (asks told) = (told_last told own).stage
-stage_at own (standing.has x) = own.stage
-stage_at own rests = own.stage
+-- own at: a worker's program where its next item is found
+abbrev pub own_at : Own → Standing Event Reply → Own
+own_at own (asks told) = told_last told own
+own_at own (standing.has x) = own
+own_at own rests = own
 
 -- left at: the greatest number of items that are left of the command
 abbrev pub left_at : Own → Standing Event Reply → ℕ
-left_at own (asks told) = most_from (told_last told own).stage
-left_at own (standing.has (todo.Event e)) = most_from own.stage
+left_at own (asks told) = most (told_last told own)
+left_at own (standing.has (todo.Event e)) = most own
 left_at own (standing.has (todo.Advance k)) = 1
 left_at own rests = 0
 
 -- is item: the item that a worker was given is that of its stage
 abbrev pub IsItem : Own → Standing Event Reply → Type 0
 IsItem own (asks told) = Unit {0}
-IsItem own (standing.has (todo.Event e)) = item_at own.worker own.stage ≡ Some (item.Event e)
-IsItem own (standing.has (todo.Advance k)) = (own.stage ≡ stage.Ended) × (is_within 1 1000000 k ≡ true)
-IsItem own rests = own.stage ≡ stage.Ended
+IsItem own (standing.has (todo.Event e)) = item_at own.stage ≡ Some (item.Event e)
+IsItem own (standing.has (todo.Advance k)) = (own.stage ≡ Ended) × (is_within 1 1000000 k ≡ true)
+IsItem own rests = own.stage ≡ Ended
 
 module _ (s : Setup) where
   -- declared ids of: the numbers of the declared threads
@@ -75,21 +75,26 @@ module _ (s : Setup) where
   pub record AsksFor (w : ℕ) (mine : List (Entry Event Reply)) (hand : Option ThreadRecord) (e : Event) : Type 0 where
     pub below : w < s.cpus
     pub alone : IsUnderOne (locking e)
-    pub names : NamesWhatIs declared_ids_of s.cpus e
+    pub names : NamesWhatIs (is_among declared_ids_of) s.cpus e
     pub fits : HandFits w mine hand (handling e)
 
-  -- stands at: what a worker keeps at a stage, with the commands begun and the entries made so far
-  pub record StandsAt (j : Journal Event Reply Command) (o : Worker) (st : Stage) : Type 0 where
+  -- latest in: the latest time of these entries, the newest first, or the start
+  abbrev pub latest_in : List (Entry Event Reply) → ℕ
+  latest_in [] = 20000
+  latest_in (x ∷ xs) = x.now
+
+  -- stands at: what a worker keeps where its next item is found, with the commands begun and the entries made so far
+  pub record StandsAt (j : Journal Event Reply Command) (o : Worker) (own : Own) : Type 0 where
     pub below : o.program.worker < s.cpus
-    pub hand : (t : ℕ) → is_some (if_thread t o.hand) ≡ is_number t (in_hand st)
-    pub sound : IsSoundStage declared_ids_of s.cpus st
-    pub forks : (t : ℕ) → is_among (hatching st) t ≡ true
+    pub hand : (t : ℕ) → is_some (if_thread t o.hand) ≡ is_number t (in_hand own.stage)
+    pub leads : LeadsTo (is_among declared_ids_of) o.program.worker (topology_of s.cpus s.groups) (latest_in j.mine) (most own) (time_at own.stage) (hatching own.stage) (in_hand own.stage) own
+    pub forks : (t : ℕ) → is_among (hatching own.stage) t ≡ true
         → (is_among (forks_of o.program.worker) t ≡ true) × (is_among (threads_forked j.given) t ≡ true) × (is_among (threads_hatched j.mine) t ≡ false)
     pub given : (t : ℕ) → is_among (threads_hatched j.mine) t ≡ true → is_among (threads_forked j.given) t ≡ true
 
   -- stands: what a worker keeps where it stands
   abbrev pub Stands : Journal Event Reply Command → Worker → Standing Event Reply → Type 0
-  Stands j o at = StandsAt j o (stage_at o.program at) × IsItem o.program at
+  Stands j o at = StandsAt j o (own_at o.program at) × IsItem o.program at
 
   -- is valid: the command is one of the setup's, and a thread that it forks is one that the worker's script forks, and was not forked before
   pub record IsValid (w : ℕ) (given : List Command) (c : Command) : Type 0 where
@@ -99,4 +104,4 @@ module _ (s : Setup) where
   -- owns from: the own parts of so many workers at the start, the first being of this number
   abbrev pub owns_from : ℕ → ℕ → List Worker
   owns_from w zero = []
-  owns_from w (suc n) = record { program = own_of s.jitter s.cpus w; hand = None } ∷ owns_from (suc w) n
+  owns_from w (suc n) = record { program = own_of_setup s w; hand = None } ∷ owns_from (suc w) n
