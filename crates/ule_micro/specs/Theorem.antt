@@ -54,7 +54,7 @@ module _ {H O G E R C : Type 0} (m : Means H O G E R C) where
 
     -- lock agreement of a step state: a worker holds just the locks that the steps of its present item took and did not give back, and what the workers share agrees
     pub record LockAgreement (s : State O G E R) : Type 0 where
-      -- the history, stamped with what each entry's worker had advanced before it
+      -- the history, each entry stamped with an amount that its time is behind the start by at least; the legal play tells what its worker had advanced
       pub history : List (Stamped E R)
       pub same_entries : unstamped history ≡ s.history
       pub shared : Agrees m (shared_of m s history)
