@@ -24,6 +24,7 @@ pub mod WellMade
 pub mod CpuValue
 pub mod CpuChange
 pub mod CpuNumbers
+pub mod Steal
 pub mod CpuStart
 pub mod Conditions
 pub mod Frames

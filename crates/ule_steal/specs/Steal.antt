@@ -4,23 +4,11 @@ use Rattle.std.specs.List.{concat}
 use Rattle.std.specs.Option.{option_map}
 use Rattle.ule_runq.specs.Runq.{times, first_from, threads_from}
 use Rattle.ule_calendar.specs.Calendar.{Dial}
-
--- the first of these threads that is movable
-abbrev pub first_movable : (ℕ → Bool) → List ℕ → Option ℕ
-first_movable movable line = slice_get (filter movable line) 0
-
--- a real or an idle queue gives the first movable thread, bucket by bucket
-abbrev pub plain_pick : (ℕ → Bool) → List (List ℕ) → Option ℕ
-plain_pick movable q = first_movable movable (concat q)
-
--- a line with its first thread behind all others
-abbrev pub with_first_last : List ℕ → List ℕ
-with_first_last [] = []
-with_first_last (t ∷ line) = line ++ t ∷ []
+pub use Rattle.ule_model.specs.Steal.{calendar_pick, first_movable, plain_pick, with_first_last}
 
 -- a calendar gives the first movable thread, where the thread that its own CPU would choose comes last
 abbrev pub batch_pick : (ℕ → Bool) → Dial → Option ℕ
-batch_pick movable d = first_movable movable (with_first_last (threads_from d.lists d.ridx))
+batch_pick movable d = calendar_pick movable d.lists d.ridx
 
 -- the thread that the calendar's own CPU would choose
 abbrev pub first_thread : Dial → Option ℕ
