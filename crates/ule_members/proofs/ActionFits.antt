@@ -261,7 +261,7 @@ module _ (w : World) (worker now : ℕ) (made : IsWellMadeWorld w) where
       let s = sought_under w t l among in
       named_is t s.member (λ o. IsFit (Wake t) l (wake_action t (option_map standing_of o) (seen_under w worker now (Wake t) l))) s.found
       (wake_fits t l s.member s.member.place among (record { member = s.member; found = s.found; place_is = refl }) s.under)
-  event_fits (Look c) possible l among = answer_fits (Look c) l Nothing refl
+  event_fits (Look c) possible l among = answer_fits (Look c) l ((action_of (Look c) (seen_under w worker now (Look c) l)).reply None) refl
   event_fits (Land t c) possible l among = under_own (Land t c) c l among (land_fits t c (ltb-true c (length w.lines) possible.cpus) (held_stands t (held_found w.members t worker possible.hand)))
   event_fits (Move a b why) possible l among = answer_fits (Move a b why) l Nothing refl
   event_fits (Lend t p) possible l among = changes_fit (Lend t p) t (change.Lend p) possible.numbers (λ r. refl) l among among

@@ -203,7 +203,7 @@ module _ (w : World) (worker now : ℕ) (calm : IsCalm w) where
       let s = sought_under w t l among in
       subst (λ (o : Option Member). Comes (Wake t) l (wake_action t (option_map standing_of o) (seen_under w worker now (Wake t) l))) (sym s.found)
       (wake_comes t l s.member s.member.place (record { member = s.member; found = s.found; place_is = refl }))
-  event_comes (Look c) has l among = answer_comes (Look c) l Nothing refl
+  event_comes (Look c) has l among = answer_comes (Look c) l ((action_of (Look c) (seen_under w worker now (Look c) l)).reply None) refl
   event_comes (Land t c) has l among = under_own (Land t c) c l among (land_comes t c (held_stands t has))
   event_comes (Move a b why) has l among = answer_comes (Move a b why) l Nothing refl
   event_comes (Lend t p) has l among = changes_come (Lend t p) t (change.Lend p) refl l (sought_under w t l among)

@@ -36,9 +36,20 @@ pub record Action : Type 0 where
   pub parts : List Part
   pub reply : Option ℕ → Reply
 
+-- what an event under two locks does: these parts under the first lock that it names, and then those under the second, and
+-- what it replies. A thread that goes from one to the other is in the worker's hand between them
+pub record PairAction : Type 0 where
+  pub from : List Part
+  pub to : List Part
+  pub reply : Reply
+
 -- nothing is done, and this is replied
 abbrev pub answers : Reply → Action
 answers r = record { parts = []; reply = λ into. r }
+
+-- under two locks
+abbrev pub pair_answers : Reply → PairAction
+pair_answers r = record { from = []; to = []; reply = r }
 
 -- ---- on the side of a lock
 

@@ -12,10 +12,12 @@ use Rattle.ule_types.specs.declared.event.Event.{Event}
 use Rattle.ule_types.specs.declared.event.Reply.{Reply}
 use Rattle.ule_model.specs.Actions.{Seen}
 use Rattle.ule_model.specs.ActionValue.{HandAndCpu, HandAndSlots}
+use Rattle.ule_model.specs.CpuNumbers.{low_priority_in, low_priority_of, movable_in, movable_of}
 use Rattle.ule_model.specs.CpuValue.{CpuValue, current_in}
 use Rattle.ule_model.specs.Events.{Handling, Locking, any, empty, handling, has, locking, place_of, unborn}
 use Rattle.ule_model.specs.Landing.{current_record}
 use Rattle.ule_model.specs.LockValue.{LockValue, queue, chain, limbo, found_in}
+use Rattle.ule_model.specs.Steal.{given_by, given_in}
 use Rattle.ule_model.specs.Tick.{load_of}
 use Rattle.ule_model.specs.World.{Member, Side, World, fresh_line, side_of, standing_of, thread_of}
 
@@ -43,7 +45,10 @@ seen_on c worker now named s = record {
   settings = s.settings;
   line = s.line;
   load = load_of c s.members;
+  movable = movable_of c s.members;
+  lowpri = low_priority_of c s.line.ridx s.members;
   current = current_record c s.members;
+  given = option_map standing_of (given_by c s);
   named = option_map standing_of named;
 }
 
@@ -75,7 +80,10 @@ seen_in worker now named v = record {
   settings = v.settings;
   line = v.line;
   load = v.load;
+  movable = movable_in v;
+  lowpri = low_priority_in v;
   current = current_in v;
+  given = given_in v;
   named = named;
 }
 
@@ -89,7 +97,10 @@ seen_off worker now settings named = record {
   settings = settings;
   line = fresh_line;
   load = 0;
+  movable = 0;
+  lowpri = 255;
   current = None;
+  given = None;
   named = named;
 }
 
@@ -97,6 +108,13 @@ seen_off worker now settings named = record {
 pub record Stepped : Type 0 where
   pub hand : Option ThreadRecord
   pub value : LockValue
+  pub reply : Reply
+
+-- what an event under two locks makes of the hand, of the values under the first lock and the second that it names, and the reply
+pub record PairStepped : Type 0 where
+  pub hand : Option ThreadRecord
+  pub from : LockValue
+  pub to : LockValue
   pub reply : Reply
 
 -- nothing changes

@@ -1,5 +1,5 @@
 -- What each event does, as an action by what the event sees under its lock and in the worker's hand: one page.
-use Rattle.std.specs.Prelude.{ℕ, Bool, true, false, nat_lt, [], ◌∷◌, Option, Some, None, if◌then◌else◌}
+use Rattle.std.specs.Prelude.{ℕ, Bool, true, false, nat_le, nat_lt, ◌==◌, ◌||◌, [], ◌∷◌, Option, Some, None, if◌then◌else◌}
 use Rattle.ule_prio.specs.Kind.{kind_at}
 use Rattle.ule_prio.specs.Preemption.{takes_over}
 use Rattle.ule_score.specs.Changes.{RecordChange, after_change, after_sleep, after_tick, changed, forked, forks, placed, ran, record_after, sleeps, ticked, woken}
@@ -14,16 +14,20 @@ use Rattle.ule_score.specs.declared.record.Why.{Why}
 use Rattle.ule_threads.specs.declared.standing.Standing.{Standing}
 use Rattle.ule_types.specs.declared.event.Event.{Event}
 use Rattle.ule_types.specs.declared.event.Event.TheVariants.{Tick, Switch, Drop, Bed, Wake, Look, Land, Move, Lend, Unlend, Renice, Hatch, Fork, Return, Exit, Bury, Inherit}
+use Rattle.ule_types.specs.declared.event.MoveWhy.{MoveWhy}
+use Rattle.ule_types.specs.declared.event.MoveWhy.TheVariants.{Steal, Balance}
 use Rattle.ule_types.specs.declared.event.Reply.{Reply}
-use Rattle.ule_types.specs.declared.event.Reply.TheVariants.{Ticked, Unmarked, Nothing, Switched, Dropped, Bedded, NotAsleep, Woken, Landed, Changed, NotAllowed, Hatched, Forked, Returned, Exited, Buried, ParentGone}
-use Rattle.ule_model.specs.Action.{Action, answers, choose, clear_marks, clock, count_switch, end_slice_if, insert, mark_if, move, note}
+use Rattle.ule_types.specs.declared.event.Reply.TheVariants as answer
+use Rattle.ule_types.specs.declared.event.Reply.TheVariants.{Ticked, Unmarked, Nothing, Switched, Dropped, Bedded, NotAsleep, Woken, Landed, Moved, NoneMovable, Changed, NotAllowed, Hatched, Forked, Returned, Exited, Buried, ParentGone}
+use Rattle.ule_model.specs.Action.{Action, PairAction, answers, choose, clear_marks, clock, count_switch, end_slice_if, insert, mark_if, move, note, pair_answers}
 use Rattle.ule_model.specs.Insertion.{Ordinary, Borrowing, bucket_of}
 use Rattle.ule_model.specs.Landing.{current_priority}
 use Rattle.ule_model.specs.Switch.{insertion_of, is_preemption, is_unasked, started_reply}
 use Rattle.ule_model.specs.Tick.{is_due}
 
--- what an event of a worker sees under its lock: the numbers of the CPU, its load and its current thread, whether the
--- worker is another CPU's, and the thread that the event names, which is there or in the worker's hand
+-- what an event of a worker sees under its lock: the numbers of the CPU, its load, its movable count and its low priority, its
+-- current thread and the one that it gives to another CPU, whether the worker is another CPU's, and the thread that the event
+-- names, which is there or in the worker's hand
 pub record Seen : Type 0 where
   pub cpu : ℕ
   pub worker : ℕ
@@ -32,7 +36,10 @@ pub record Seen : Type 0 where
   pub settings : Settings
   pub line : CpuLine
   pub load : ℕ
+  pub movable : ℕ
+  pub lowpri : ℕ
   pub current : Option ThreadRecord
+  pub given : Option Standing
   pub named : Option Standing
 
 -- whether a thread of priority p takes over from the current thread
@@ -121,6 +128,31 @@ land_action t (Some s) at =
       reply = λ into. Landed (kind_at p) (bucket_of (kind_at p) Ordinary at.line p) takes;
     }
 
+-- ---- a move between two CPUs, after tdq_move and sched_balance_pair
+
+-- whether a move is refused: a steal is one from a CPU with enough threads to an empty one, a balance one from a greater load to
+-- a smaller, and each needs a movable thread
+abbrev pub is_refused : MoveWhy → Seen → Seen → Bool
+is_refused Steal from to = nat_lt 0 to.load || (nat_lt from.load from.settings.steal || (from.movable == 0))
+is_refused Balance from to = (from.movable == 0) || nat_le from.load to.load
+
+-- what a refused move tells: nothing changes
+abbrev pub refused_action : Seen → Seen → PairAction
+refused_action from to = pair_answers (NoneMovable from.load from.movable to.load)
+
+-- this thread leaves its place on the first CPU, and lands on the second
+abbrev pub given_action : Option Standing → Seen → Seen → PairAction
+given_action None from to = refused_action from to
+given_action (Some s) from to =
+    let t = s.thread.id in let p = s.thread.priority in let takes = takes_over_seen p to in record {
+      from = move t s.place (Hand from.worker) ∷ [];
+      to = note t (Hand to.worker) (placed to.cpu) ∷ insert t (Hand to.worker) Ordinary ∷ mark_if takes ∷ [];
+      reply = Moved t (kind_at p) (bucket_of (kind_at p) Ordinary to.line p) takes;
+    }
+
+abbrev pub move_action : MoveWhy → Seen → Seen → PairAction
+move_action why from to = if is_refused why from to then refused_action from to else given_action from.given from to
+
 -- ---- a change that can move a priority, after sched_thread_priority
 
 -- what a change answers of a thread that is gone: none is made
@@ -182,15 +214,16 @@ fork_action t (Some r) (Some child) at =
 
 -- ---- the page
 
--- the action of each event. A bed is after sleepq_add, a loan sched_lend_prio, its end sched_unlend_prio, a nice value
--- sched_nice, a burial thread_exit, a charge sched_exit; a hatch and a return are this scheduler's own
+-- the action of each event under one lock. A bed is after sleepq_add, a loan sched_lend_prio, its end sched_unlend_prio, a nice value
+-- sched_nice, a burial thread_exit, a charge sched_exit; a look reads what
+-- cpu_search does; a hatch and a return are this scheduler's own
 abbrev pub action_of : Event → Seen → Action
 action_of (Tick c) at = tick_action at.current at
 action_of (Switch c why) at = switch_action why at
 action_of (Drop c channel) at = drop_action at
 action_of (Bed t channel) at = go_action t (Asleep channel) Bedded at.named
 action_of (Wake t) at = wake_action t at.named at
-action_of (Look c) at = answers Nothing
+action_of (Look c) at = answers (answer.Seen at.load at.movable at.lowpri)
 action_of (Land t c) at = land_action t at.named at
 action_of (Move a b why) at = answers Nothing
 action_of (Lend t p) at = change_action (change.Lend p) t at.named at
@@ -202,3 +235,8 @@ action_of (Return t) at = go_action t Unborn Returned at.named
 action_of (Exit c) at = exit_action at
 action_of (Bury t) at = go_action t Gone Buried at.named
 action_of (Inherit t run) at = change_action (change.Inherit run) t at.named at
+
+-- the action of an event under two locks, by what it sees under each: a move
+abbrev pub pair_action_of : Event → Seen → Seen → PairAction
+pair_action_of (Move a b why) from to = move_action why from to
+pair_action_of e from to = pair_answers Nothing

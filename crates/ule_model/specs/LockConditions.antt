@@ -127,6 +127,16 @@ pub record CanStepLimbo (v : LimboValue) (hand : Option ThreadRecord) (e : Event
   pub lock : MayTakeLimbo (locking e)
   pub sought : IfSome (sought_by e) (HasStill v)
 
+-- on two CPUs: the hand is empty, and no thread is on both
+pub record CanStepQueues (v u : CpuValue) (hand : Option ThreadRecord) : Type 0 where
+  pub empty : hand ≡ None
+  pub apart : (t : ℕ) → IfSome (thread_in v t) (λ r. thread_in u t ≡ None)
+
+-- what the step under two locks needs
+abbrev pub CanStepPair : LockValue → LockValue → Option ThreadRecord → Type 0
+CanStepPair (queue v) (queue u) hand = CanStepQueues v u hand
+CanStepPair from to hand = Unit {0}
+
 -- what the step under one lock needs
 abbrev pub CanStepAt : LockValue → Option ThreadRecord → Event → ℕ → Type 0
 CanStepAt (queue v) hand e now = CanStepQueue v hand e now

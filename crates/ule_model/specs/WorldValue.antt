@@ -20,7 +20,7 @@ use Rattle.ule_model.specs.Events as events
 use Rattle.ule_model.specs.Finals.{line_of}
 use Rattle.ule_model.specs.Frames.{thread_in_hand, thread_under}
 use Rattle.ule_model.specs.LockValue.{LockValue, chain, has_under, limbo, line_under, nothing, queue}
-use Rattle.ule_model.specs.Step.{Stepped, lock_step}
+use Rattle.ule_model.specs.Step.{PairStepped, Stepped, lock_step, pair_step}
 use Rattle.ule_model.specs.Step.{step}
 use Rattle.ule_model.specs.WellMade.{HaveIndexes, IsWellMade}
 use Rattle.ule_model.specs.World.{World, side_of}
@@ -47,7 +47,7 @@ if_thread t (Some r) = if r.id == t then Some r else None
 abbrev pub lock_with : ℕ → List LockValue → Option ℕ
 lock_with t values = position (λ value. has_under value t) values
 
--- the lock of an event's value; an event under two has none of its own
+-- the lock of an event's value, where the event is under one
 abbrev pub lock_for : List LockValue → Locking → Option ℕ
 lock_for values (events.queue c) = Some c
 lock_for values (queues a b) = None
@@ -80,6 +80,23 @@ abbrev pub value_step_at : Option ℕ → ℕ → Event → ℕ → WorldValue �
 value_step_at None worker e now v = (v, Nothing)
 value_step_at (Some l) worker e now v =
     put_back l worker (option_map (lock_step v.settings worker e now (held_by v worker)) (slice_get v.values l)) v
+
+-- the scheduler with what an event made of the values of locks a and b and of the worker's hand
+abbrev pub put_back_pair : ℕ → ℕ → ℕ → Option PairStepped → WorldValue → WorldValue × Reply
+put_back_pair a b worker None v = (v, Nothing)
+put_back_pair a b worker (Some made) v =
+    (record v { values = slice_set (slice_set v.values a made.from) b made.to; hands = slice_set v.hands worker made.hand }, made.reply)
+
+-- the step of the scheduler under locks a and b
+abbrev pub value_pair_step : ℕ → ℕ → ℕ → Event → ℕ → WorldValue → WorldValue × Reply
+value_pair_step a b worker e now v =
+    put_back_pair a b worker
+    (option_and_then (λ from. option_map (pair_step worker e now (held_by v worker) from) (slice_get v.values b)) (slice_get v.values a)) v
+
+-- the step of the scheduler for an event with these locks
+abbrev pub value_step_with : Locking → ℕ → Event → ℕ → WorldValue → WorldValue × Reply
+value_step_with (queues a b) worker e now v = value_pair_step a b worker e now v
+value_step_with locks worker e now v = value_step_at (lock_for v.values locks) worker e now v
 
 abbrev pub value_step : WorldValue → ℕ → Event → ℕ → WorldValue × Reply
 value_step v worker e now = value_step_at (lock_for v.values (locking e)) worker e now v

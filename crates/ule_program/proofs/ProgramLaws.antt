@@ -2,12 +2,13 @@
 -- needs, and further items are few.
 use Rattle.std.proofs.Common.{◌≡◌, ℕ, ◌+◌, ◌-◌, ◌*◌, ◌<◌, ◌≤◌, ◌==◌, ◌&&◌, Bool, true, false, not, nat_lt, List, [], ◌∷◌, length, Option, Some, None, IfSome, IsTrue, if◌then◌else◌, refl, sym, ◌∙◌, ap, subst, lt-ltb, arith, eq-eqb}
 use Rattle.std.specs.List.{AllByRecursion}
+use Rattle.std.specs.Option.{option_map}
 use Rattle.std.proofs.lemmas.Bool.{and_parts, cond_both, eqb-false, false≢true, ltb-false, ltb-true, ne_eqb}
 use Rattle.std.proofs.lemmas.List.{length_push}
 use Rattle.ule_prio.specs.Class.{is_within}
 use Rattle.ule_types.specs.Commands.{greatest_of, greatest_of_tick, is_among, is_nice}
 use Rattle.ule_types.specs.Needs.{FitsHand, Handling, any, empty, handling, has, hatched_by, sought_by, unborn}
-use Rattle.ule_types.specs.Words.{blocks, change_of, taken_by}
+use Rattle.ule_types.specs.Words.{blocks, change_of, moved_by, point, taken_by}
 use Rattle.ule_types.proofs.Numbers.{nice_is, within_byte}
 use Rattle.ule_types.specs.declared.command.Command.TheVariants as command
 use Rattle.ule_types.specs.declared.event.Event.{Event}
@@ -51,7 +52,6 @@ pub item_seeks : (e : Event) (next : Next) → IfSome (hand_for next (handling e
 item_seeks (Tick c) next = each (hand_in next)
 item_seeks (Switch c why) next = each (hand_in next)
 item_seeks (Look c) next = each (hand_in next)
-item_seeks (Move a b why) next = each (hand_in next)
 item_seeks (Bed t channel) next = refl
 item_seeks (Land t c) next = refl
 item_seeks (Fork c t) next = refl
@@ -60,6 +60,11 @@ item_seeks (Bury t) next = refl
 item_seeks _ next = tt
 
 -- ---- the hand after a reply
+
+-- a hand that was empty is empty after a move
+moved_hand : (b : ℕ) (moved : Option ℕ) → hand_by_word empty (option_map (λ t. point t b) moved) None ≡ None
+moved_hand b None = refl
+moved_hand b (Some t) = refl
 
 -- what a taken thread leaves in the hand
 blocks_left : (taken : Option ℕ) → hand_by_word empty (blocks taken) None ≡ taken
@@ -177,7 +182,7 @@ module _ (declared : ℕ → Bool) (now : ℕ) where
           (record {
             names = (move_names own.topology.cpus v own.worker (there, seat.within, λ same. false≢true (sym out ∙ ap (has_cpu mask) (sym same) ∙ of.1)), tt, tt);
             charges = tt;
-            hand = λ r time is. refl;
+            hand = λ r time is. moved_hand own.worker (moved_by r);
             allows = λ r time is by. tt;
           })
           tt few
@@ -202,7 +207,7 @@ module _ (declared : ℕ → Bool) (now : ℕ) where
       at_pair None is = to_end after_plan n
       at_pair (Some pair) is =
           to_event after_plan (Move pair.0 pair.1 Balance) (Moves new_plan pair.1 left) n (record { all = all; there = is.0.1; sound = is.1 })
-          (record { names = (move_names own.topology.cpus pair.0 pair.1 is.0, tt, tt); charges = tt; hand = λ r time told. refl; allows = λ r time told by. tt })
+          (record { names = (move_names own.topology.cpus pair.0 pair.1 is.0, tt, tt); charges = tt; hand = λ r time told. moved_hand pair.1 (moved_by r); allows = λ r time told by. tt })
           tt few
 
   -- a balance, if there are several CPUs
