@@ -1,6 +1,7 @@
 pub mod Bindings
 pub mod LastCpus
 pub mod Parents
+pub mod Looks
 pub mod Replies
 pub mod Courses
 pub mod Hands

@@ -1,7 +1,6 @@
-//! The laws of the rounds: what holds of the history of rounds of every setup that a scenario can
-//! spell so far; what every legal history keeps of the batch calendars, with an example; and an
-//! example of a legal history that no rounds make. Each law is the contract of a function that does
-//! nothing.
+//! The laws of the rounds: what holds of the history of rounds of every setup; what every legal
+//! history keeps of the batch calendars, with an example; and an example of a legal history that no
+//! rounds make. Each law is the contract of a function that does nothing.
 #![tactic(auto)]
 
 pub use history::{rounds_are_legal, rounds_go_on};
