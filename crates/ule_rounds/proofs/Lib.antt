@@ -4,6 +4,7 @@ pub mod Parents
 pub mod Looks
 pub mod Replies
 pub mod Courses
+pub mod ChargeLaws
 pub mod Hands
 pub mod Histories
 pub mod LegalLaws
