@@ -23,7 +23,7 @@ use Rattle.ule_model.specs.WellMade.{IsWellMade}
 use Rattle.ule_model.specs.World.{Member, Side, standing_of, thread_of, with_change}
 use Rattle.ule_laws.proofs.Beside.{StandsBeside, absent_lifted}
 use Rattle.ule_laws.proofs.ChoosingLaws.{changed_stands}
-use Rattle.ule_laws.proofs.EventStands.{current_in_is}
+use Rattle.ule_laws.proofs.CpuNumbers.{current_in_is}
 use Rattle.ule_laws.proofs.CpuLines.{with_line_stands}
 use Rattle.ule_laws.proofs.Queueing.{IsJoined, inserted_stands}
 use Rattle.ule_laws.proofs.WellMade.{well_made-with_change}

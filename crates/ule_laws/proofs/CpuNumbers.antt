@@ -3,7 +3,7 @@ use Rattle.std.proofs.Common.{◌≡◌, ℕ, ◌+◌, ◌<◌, Bool, true, fals
 use Rattle.std.specs.Prelude.{count_by, is_none, min, option_and_then, suc}
 use Rattle.std.specs.List.{AllByRecursion, find}
 use Rattle.std.specs.Option.{option_map}
-use Rattle.std.proofs.lemmas.Bool.{both_ways, cases_eq, eq-eqb, ne_eqb, or_right}
+use Rattle.std.proofs.lemmas.Bool.{both_ways, cases_eq, eq-eqb, ne_eqb, or_left, or_right}
 use Rattle.std.proofs.lemmas.List.Sums.{sum_by-cons, sum_by-set}
 use Rattle.ule_prio.specs.declared.kind.Kind.{Kind}
 use Rattle.ule_score.specs.declared.place.Place.{Place}
@@ -11,18 +11,17 @@ use Rattle.ule_score.specs.declared.record.ThreadRecord.{ThreadRecord}
 use Rattle.ule_topo.specs.declared.look.Summary.{Summary}
 use Rattle.ule_model.specs.Choice.{choice_of}
 use Rattle.ule_model.specs.CpuNumbers.{is_unbound, low_priority_in, low_priority_of, movable_in, movable_of, next_record, queued_records, records_but, summary_of, value_summary}
-use Rattle.ule_model.specs.CpuValue.{CpuValue, StandsFor, first_in, thread_in}
+use Rattle.ule_model.specs.CpuValue.{CpuValue, StandsFor, current_in, first_in, thread_in}
 use Rattle.ule_model.specs.Landing.{current_priority, current_record}
 use Rattle.ule_model.specs.Places.{is_on, runs_on, waits_on}
 use Rattle.ule_model.specs.Tick.{load_of}
 use Rattle.ule_model.specs.WellMade.{AllApart, AreApart, IsMade, IsWellMade}
 use Rattle.ule_model.specs.World.{Member, Side, current_of, is_numbered, thread_of}
 use Rattle.ule_laws.proofs.ChoiceLaws.{Agrees, choices_agree}
-use Rattle.ule_laws.proofs.EventStands.{current_in_is}
 use Rattle.ule_laws.proofs.CpuPlaces.{runner_of_current}
 use Rattle.ule_laws.proofs.PlaceLaws.{place_from_runs_on, waits_on_place}
 use Rattle.ule_members.proofs.Membership.{all_has, has_within, same_from_number}
-use Rattle.ule_members.proofs.Threads.{find_nowhere, find_only, no_other_runs, none_passes, thread_on_within}
+use Rattle.ule_members.proofs.Threads.{current_runs, find_nowhere, find_only, no_other_runs, none_passes, thread_on_within, within_current}
 use Rattle.ule_members.proofs.Within.{Lacks, Within, all_along, lacks_from_apart, within_thread}
 
 -- ---- a table of records counts the threads that it is of
@@ -32,12 +31,12 @@ abbrev pub thread_where : (Member → Bool) → ℕ → List Member → Option M
 thread_where p t ms = find (λ m. is_numbered t m && p m) ms
 
 -- threads that lack a number have none of that number that passes a test
-lacks_where : (p : Member → Bool) (t : ℕ) (ms : List Member) → Lacks t ms → AllByRecursion (λ n. (is_numbered t n && p n) ≡ false) ms
+pub lacks_where : (p : Member → Bool) (t : ℕ) (ms : List Member) → Lacks t ms → AllByRecursion (λ n. (is_numbered t n && p n) ≡ false) ms
 lacks_where p t ms lacks =
     all_along (λ n. is_numbered t n ≡ false) (λ n. (is_numbered t n && p n) ≡ false) ms (λ n fails. ap (λ d. d && p n) fails) lacks
 
 -- the thread of a number passes the test or is not found
-found_where : (p : Member → Bool) (t : ℕ) (m : Member) (ms : List Member) → Within t m ms → thread_where p t ms ≡ (if p m then Some m else None)
+pub found_where : (p : Member → Bool) (t : ℕ) (m : Member) (ms : List Member) → Within t m ms → thread_where p t ms ≡ (if p m then Some m else None)
 found_where p t m ms w =
     ap (thread_where p t) w.whole ∙
     find_only (λ n. is_numbered t n && p n) w.before m w.after (lacks_where p t w.before w.lacks_before) (lacks_where p t w.after w.lacks_after) ∙
@@ -196,6 +195,20 @@ pub movable_stands : (v : CpuValue) (s : Side) → StandsFor v s → IsWellMade 
 movable_stands v s stands made =
     table_counts (λ m. waits_on v.cpu m.place) (queued_records v) s.members made.each made.apart (records_but-length v.current v.threads ∙ stands.slots)
     (queued_table v s stands made)
+
+-- ---- the current thread
+
+-- the record that the value has of its current thread is that thread's
+pub current_in_is : (v : CpuValue) (s : Side) → StandsFor v s → IsWellMade s.members → current_in v ≡ current_record v.cpu s.members
+current_in_is v s stands made =
+    ap (λ (o : Option ℕ). option_and_then (thread_in v) o) stands.current ∙ split (current_of v.cpu s.members) refl
+  where
+    split : (o : Option Member) → current_of v.cpu s.members ≡ o → option_and_then (thread_in v) (option_map (λ m. m.thread.id) o) ≡ option_map (λ m. m.thread) o
+    split None found = refl
+    split (Some m) found =
+        stands.threads m.thread.id ∙ ap (option_map (λ (n : Member). n.thread))
+        (thread_on_within v.cpu m.thread.id m s.members (within_current v.cpu s.members m made found) ∙
+        ap (λ d. if d then Some m else None) (or_left (runs_on v.cpu m.place) (waits_on v.cpu m.place) (current_runs v.cpu s.members m found)))
 
 -- ---- the low priority
 

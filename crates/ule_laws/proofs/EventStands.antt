@@ -1,9 +1,9 @@
 -- An event on the value under its lock and on the worker's hand is its action on the world that they stand for: one theorem
 -- for all events, and a line or two for each.
-use Rattle.std.proofs.Common.{◌≡◌, ℕ, ◌+◌, ◌%◌, ◌<◌, Bool, true, false, ◌⊎◌, inl, inr, List, [], ◌∷◌, length, Option, Some, None, if◌then◌else◌, option_and_then, refl, sym, ◌∙◌, ap, subst, arith}
+use Rattle.std.proofs.Common.{◌≡◌, ℕ, ◌+◌, ◌%◌, ◌<◌, Bool, true, false, ◌⊎◌, inl, inr, List, [], ◌∷◌, length, Option, Some, None, if◌then◌else◌, refl, sym, ◌∙◌, ap, subst, arith}
 use Rattle.std.specs.Option.{option_map}
 use Rattle.std.specs.Prelude.{max, min, nat_lt}
-use Rattle.std.proofs.lemmas.Bool.{cond-true, eq-eqb, ltb-true, or_left}
+use Rattle.std.proofs.lemmas.Bool.{cond-true, eq-eqb, ltb-true}
 use Rattle.std.proofs.lemmas.List.{get_or-set_same, length-set}
 use Rattle.std.proofs.lemmas.Option.{none-some, same_Some}
 use Rattle.ule_score.specs.Changes.{RecordChange, after_change}
@@ -27,14 +27,16 @@ use Rattle.ule_model.specs.Actions.{Seen, action_of, change_action, change_actio
 use Rattle.ule_model.specs.ActionStep.{named_by, named_held, on_chain, on_limbo, on_queue, seen_in, seen_off, seen_on}
 use Rattle.ule_model.specs.ActionValue.{HandAndCpu, HandAndSlots, action_in_slots, action_on_cpu, parts_in_slots, parts_on_cpu}
 use Rattle.ule_model.specs.Conditions.{HasEmptyHand, IsPossible}
-use Rattle.ule_model.specs.CpuValue.{CpuValue, StandsFor, current_in, thread_in}
+use Rattle.ule_model.specs.CpuNumbers.{low_priority_in}
+use Rattle.ule_model.specs.CpuValue.{CpuValue, StandsFor, current_in}
 use Rattle.ule_model.specs.Events.{handling, lock_of_thread, locking, locks_of}
 use Rattle.ule_model.specs.Landing.{current_record}
 use Rattle.ule_model.specs.LockConditions.{IsOnCpu}
 use Rattle.ule_model.specs.LockValue.{LockValue, chain, found_in, limbo, nothing, queue}
-use Rattle.ule_model.specs.Places.{is_hand_of, is_number, is_under, lock_of, runs_on, waits_on}
+use Rattle.ule_model.specs.Places.{is_hand_of, is_number, is_under, lock_of}
 use Rattle.ule_model.specs.Actions.{unborn_answer}
 use Rattle.ule_model.specs.Step.{Stepped, lock_step, step, step_under_locks}
+use Rattle.ule_model.specs.Steal.{given_in}
 use Rattle.ule_model.specs.Switch.{is_preemption, is_unasked}
 use Rattle.ule_model.specs.WellMade.{IsWellMade, IsWellMadeWorld}
 use Rattle.ule_model.specs.World.{Member, Side, World, current_of, fresh_line, side_of, standing_of, thread_of, with_side}
@@ -45,8 +47,9 @@ use Rattle.ule_members.proofs.PartDone.{IsReady, Known, StandsAt, parts_follow}
 use Rattle.ule_members.proofs.PlaceFinds.{thread_at_within}
 use Rattle.ule_members.proofs.Reach.{IsHeld, held_found, place_from_hand, takes_itself, unborn_found}
 use Rattle.ule_members.proofs.Rest.{index_of}
-use Rattle.ule_members.proofs.Threads.{current_runs, thread_on_within, within_current}
 use Rattle.ule_members.proofs.Within.{Within, within_thread}
+use Rattle.ule_laws.proofs.CpuNumbers.{current_in_is, low_priority_stands, movable_stands}
+use Rattle.ule_laws.proofs.GivenStands.{given_stands}
 use Rattle.ule_laws.proofs.PartStands.{ArePartsAlike, FollowsHere, hand_is, parts_alike}
 use Rattle.ule_laws.proofs.SeekLaws.{found_stands}
 use Rattle.ule_laws.proofs.SlotStands.{AreAlikeUnder, AreHeldUnder, AreSlots, FollowsUnder, GoesUnder, IsStill, chain_slots, is_chain, is_limbo, limbo_slots, parts_under_alike}
@@ -55,27 +58,19 @@ use Rattle.ule_laws.proofs.WorldLaws.{IsMadeFor, at_some}
 
 -- ---- what is seen on a CPU
 
--- the record that the value has of its current thread is that thread's
-pub current_in_is : (v : CpuValue) (s : Side) → StandsFor v s → IsWellMade s.members → current_in v ≡ current_record v.cpu s.members
-current_in_is v s stands made =
-    ap (λ (o : Option ℕ). option_and_then (thread_in v) o) stands.current ∙ split (current_of v.cpu s.members) refl
-  where
-    split : (o : Option Member) → current_of v.cpu s.members ≡ o → option_and_then (thread_in v) (option_map (λ m. m.thread.id) o) ≡ option_map (λ m. m.thread) o
-    split None found = refl
-    split (Some m) found =
-        stands.threads m.thread.id ∙ ap (option_map (λ (n : Member). n.thread))
-        (thread_on_within v.cpu m.thread.id m s.members (within_current v.cpu s.members m made found) ∙
-        ap (λ d. if d then Some m else None) (or_left (runs_on v.cpu m.place) (waits_on v.cpu m.place) (current_runs v.cpu s.members m found)))
-
 -- an event sees on a value what it sees on the side that the value stands for
 pub seen_alike : (worker now : ℕ) (named : Option Member) (v : CpuValue) (s : Side) → StandsFor v s → IsWellMade s.members →
     seen_in worker now (option_map standing_of named) v ≡ seen_on v.cpu worker now named s
 seen_alike worker now named v s stands made =
     let of_value = seen_in worker now (option_map standing_of named) v in
+    let of_side = seen_on v.cpu worker now named s in
     ap (λ (x : Settings). record of_value { settings = x }) stands.settings ∙
     ap (λ (x : CpuLine). record of_value { settings = s.settings; line = x }) stands.line ∙
     ap (λ (x : ℕ). record of_value { settings = s.settings; line = s.line; load = x }) stands.load ∙
-    ap (λ (x : Option ThreadRecord). record (seen_on v.cpu worker now named s) { current = x }) (current_in_is v s stands made)
+    ap (λ (x : ℕ). record of_side { movable = x; lowpri = low_priority_in v; current = current_in v; given = given_in v }) (movable_stands v s stands made) ∙
+    ap (λ (x : ℕ). record of_side { lowpri = x; current = current_in v; given = given_in v }) (low_priority_stands v s stands made) ∙
+    ap (λ (x : Option ThreadRecord). record of_side { current = x; given = given_in v }) (current_in_is v s stands made) ∙
+    ap (λ (x : Option Standing). record of_side { given = x }) (given_stands v s stands made)
 
 -- ---- where a value stands
 

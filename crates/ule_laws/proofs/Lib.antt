@@ -17,14 +17,16 @@ pub mod LockLaws
 pub mod WorldLaws
 pub mod SeekLaws
 pub mod StepFrom
+pub mod CpuNumbers
+pub mod GivenStands
 pub mod SleepCallLaws
 pub mod EventStands
 pub mod SameValues
 pub mod PartStands
 pub mod SlotStands
 pub mod CpuEvents
-pub mod CpuNumbers
 pub mod CpuChanges
+pub mod PairStands
 pub mod StepLaws
 pub mod TellLaws
 pub mod SoughtLaws

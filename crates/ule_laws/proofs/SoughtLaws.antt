@@ -25,7 +25,8 @@ use Rattle.ule_members.proofs.Membership.{has_thread_of, has_within}
 use Rattle.ule_members.proofs.Threads.{current_runs, thread_of_within, thread_on_within, within_current}
 use Rattle.ule_members.proofs.Within.{Within, within_thread}
 use Rattle.ule_laws.proofs.CpuPlaces.{kind_running, kind_waiting}
-use Rattle.ule_laws.proofs.EventStands.{current_in_is, on_from_lock, same_lock, under_named}
+use Rattle.ule_laws.proofs.CpuNumbers.{current_in_is}
+use Rattle.ule_laws.proofs.EventStands.{on_from_lock, same_lock, under_named}
 use Rattle.ule_laws.proofs.PlaceLaws.{place_from_runs_on}
 use Rattle.ule_laws.proofs.SlotStands.{IsStill}
 use Rattle.ule_laws.proofs.SeekLaws.{cpu_finds}
