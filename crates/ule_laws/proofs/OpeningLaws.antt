@@ -240,25 +240,24 @@ module _ (s : Setup) where
 -- ---- what an opening value is, by its lock
 
 module _ (s : Setup) (l : ℕ) where
+  -- under the queue lock of a CPU that there is
+  pub opens_queue : l < s.cpus → queue (opening_queue s l) ≡ opening_value s l
+  opens_queue low = cond_both (nat_lt l s.cpus) (queue (opening_queue s l)) _ (λ v. queue (opening_queue s l) ≡ v) (λ within. refl) (λ past. absurd (let z = ltb-false l s.cpus past in omega arith))
 
--- under the queue lock of a CPU that there is
-pub opens_queue : l < s.cpus → queue (opening_queue s l) ≡ opening_value s l
-opens_queue low = cond_both (nat_lt l s.cpus) (queue (opening_queue s l)) _ (λ v. queue (opening_queue s l) ≡ v) (λ within. refl) (λ past. absurd (let z = ltb-false l s.cpus past in omega arith))
+  module _ (past : s.cpus ≤ l) where
+    past_queues : (v : LockValue) → v ≡ (if nat_lt l 16 then nothing else if nat_lt l 24 then chain (bare_chain (l - 16)) else limbo (opening_limbo s)) → v ≡ opening_value s l
+    past_queues v is = cond_both (nat_lt l s.cpus) (queue (opening_queue s l)) _ (λ u. v ≡ u) (λ within. absurd (let z = ltb-true l s.cpus within in omega arith)) (λ fails. is)
 
-module _ (past : s.cpus ≤ l) where
-  past_queues : (v : LockValue) → v ≡ (if nat_lt l 16 then nothing else if nat_lt l 24 then chain (bare_chain (l - 16)) else limbo (opening_limbo s)) → v ≡ opening_value s l
-  past_queues v is = cond_both (nat_lt l s.cpus) (queue (opening_queue s l)) _ (λ u. v ≡ u) (λ within. absurd (let z = ltb-true l s.cpus within in omega arith)) (λ fails. is)
+    -- under that of a CPU that there isn't
+    pub opens_nothing : l < 16 → nothing ≡ opening_value s l
+    opens_nothing low = past_queues nothing (cond_both (nat_lt l 16) nothing _ (λ u. nothing ≡ u) (λ within. refl) (λ fails. absurd (let z = ltb-false l 16 fails in omega arith)))
 
-  -- under that of a CPU that there isn't
-  pub opens_nothing : l < 16 → nothing ≡ opening_value s l
-  opens_nothing low = past_queues nothing (cond_both (nat_lt l 16) nothing _ (λ u. nothing ≡ u) (λ within. refl) (λ fails. absurd (let z = ltb-false l 16 fails in omega arith)))
+    -- under that of a sleep chain
+    pub opens_chain : 16 ≤ l → l < 24 → chain (bare_chain (l - 16)) ≡ opening_value s l
+    opens_chain from low = past_queues (chain (bare_chain (l - 16))) (cond_both (nat_lt l 16) nothing _ (λ u. chain (bare_chain (l - 16)) ≡ u) (λ within. absurd (let z = ltb-true l 16 within in omega arith))
+        (λ fails. cond_both (nat_lt l 24) (chain (bare_chain (l - 16))) _ (λ u. chain (bare_chain (l - 16)) ≡ u) (λ within. refl) (λ none. absurd (let z = ltb-false l 24 none in omega arith))))
 
-  -- under that of a sleep chain
-  pub opens_chain : 16 ≤ l → l < 24 → chain (bare_chain (l - 16)) ≡ opening_value s l
-  opens_chain from low = past_queues (chain (bare_chain (l - 16))) (cond_both (nat_lt l 16) nothing _ (λ u. chain (bare_chain (l - 16)) ≡ u) (λ within. absurd (let z = ltb-true l 16 within in omega arith))
-      (λ fails. cond_both (nat_lt l 24) (chain (bare_chain (l - 16))) _ (λ u. chain (bare_chain (l - 16)) ≡ u) (λ within. refl) (λ none. absurd (let z = ltb-false l 24 none in omega arith))))
-
-  -- under that of limbo
-  pub opens_limbo : 24 ≤ l → limbo (opening_limbo s) ≡ opening_value s l
-  opens_limbo from = past_queues (limbo (opening_limbo s)) (cond_both (nat_lt l 16) nothing _ (λ u. limbo (opening_limbo s) ≡ u) (λ within. absurd (let z = ltb-true l 16 within in omega arith))
-      (λ fails. cond_both (nat_lt l 24) (chain (bare_chain (l - 16))) _ (λ u. limbo (opening_limbo s) ≡ u) (λ within. absurd (let z = ltb-true l 24 within in omega arith)) (λ none. refl)))
+    -- under that of limbo
+    pub opens_limbo : 24 ≤ l → limbo (opening_limbo s) ≡ opening_value s l
+    opens_limbo from = past_queues (limbo (opening_limbo s)) (cond_both (nat_lt l 16) nothing _ (λ u. limbo (opening_limbo s) ≡ u) (λ within. absurd (let z = ltb-true l 16 within in omega arith))
+        (λ fails. cond_both (nat_lt l 24) (chain (bare_chain (l - 16))) _ (λ u. limbo (opening_limbo s) ≡ u) (λ within. absurd (let z = ltb-true l 24 within in omega arith)) (λ none. refl)))
