@@ -20,8 +20,9 @@ use Rattle.ule_model.specs.Shows.{ShowsQueue, bucket_ids}
 use Rattle.ule_model.specs.Steal.{buckets_of, calendar_pick, first_movable, given_by, given_in, is_movable_on, plain_pick, queues_pick, stolen_in, with_first_last}
 use Rattle.ule_model.specs.WellMade.{AllApart, IsWellMade}
 use Rattle.ule_model.specs.World.{Member, Side, is_numbered, standing_of, thread_of}
+use Rattle.ule_members.proofs.Membership.{has_thread_of}
 use Rattle.ule_members.proofs.Threads.{find_nowhere, none_passes, thread_on_within}
-use Rattle.ule_members.proofs.Within.{Lacks, Within, lacks_from_apart, within_thread}
+use Rattle.ule_members.proofs.Within.{Lacks, lacks_from_apart, within_thread}
 use Rattle.ule_laws.proofs.CpuNumbers.{found_where, lacks_where, queued_table, thread_where}
 use Rattle.ule_laws.proofs.SeekLaws.{cpu_finds}
 
@@ -93,26 +94,42 @@ pub movable_thread_stands : (v : CpuValue) (s : Side) → StandsFor v s → IsWe
 movable_thread_stands v s stands made t =
     ap is_unbound (queued_table v s stands made t) ∙ unbound_where (λ m. waits_on v.cpu m.place) t s.members made.apart
 
--- a movable thread is found on its CPU
-pub movable_on : (c t : ℕ) (ms : List Member) → IsWellMade ms → is_movable_on c ms t ≡ true → thread_on c t ms ≡ thread_of t ms
-movable_on c t ms made movable = split (thread_of t ms) refl
+-- a movable thread waits on its CPU
+movable_waits : (c t : ℕ) (m : Member) (ms : List Member) → IsWellMade ms → is_movable_on c ms t ≡ true → thread_of t ms ≡ Some m → waits_on c m.place ≡ true
+movable_waits c t m ms made movable found = at (waits_on c m.place) refl
+  where
+    waits : Member → Bool
+    waits n = waits_on c n.place
+
+    unbound : is_unbound (option_map (λ n. n.thread) (if waits m then Some m else None)) ≡ true
+    unbound =
+        ap (λ o. is_unbound (option_map (λ (n : Member). n.thread) o)) (sym (found_where waits t m ms (within_thread t ms m made found))) ∙
+        unbound_where waits t ms made.apart ∙ movable
+
+    at : (d : Bool) → waits m ≡ d → d ≡ true
+    at true is = refl
+    at false is = ap (λ d. is_unbound (option_map (λ (n : Member). n.thread) (if d then Some m else None))) (sym is) ∙ unbound
+
+-- a movable thread is there
+movable_there : (c t : ℕ) (ms : List Member) → AllApart ms → is_movable_on c ms t ≡ true → thread_of t ms ≡ None → ⊥
+movable_there c t ms apart movable none =
+    true≢false (
+    sym (unbound_where waits t ms apart ∙ movable) ∙
+    ap (λ o. is_unbound (option_map (λ (m : Member). m.thread) o))
+    (find_nowhere (λ m. is_numbered t m && waits m) ms (lacks_where waits t ms (none_passes (is_numbered t) ms none))))
   where
     waits : Member → Bool
     waits m = waits_on c m.place
 
-    free : is_unbound (option_map (λ m. m.thread) (thread_where waits t ms)) ≡ true
-    free = unbound_where waits t ms made.apart ∙ movable
-
-    none_free : thread_where waits t ms ≡ None → ⊥
-    none_free none = true≢false (sym free ∙ ap (λ o. is_unbound (option_map (λ (m : Member). m.thread) o)) none)
-
-    at : (m : Member) → Within t m ms → (d : Bool) → waits m ≡ d → thread_on c t ms ≡ Some m
-    at m w true here = thread_on_within c t m ms w ∙ ap (λ d. if d then Some m else None) (or_right (runs_on c m.place) (waits_on c m.place) here)
-    at m w false away = absurd (none_free (found_where waits t m ms w ∙ ap (λ d. if d then Some m else None) away))
-
+-- a movable thread is found on its CPU
+movable_on : (c t : ℕ) (ms : List Member) → IsWellMade ms → is_movable_on c ms t ≡ true → thread_on c t ms ≡ thread_of t ms
+movable_on c t ms made movable = split (thread_of t ms) refl
+  where
     split : (o : Option Member) → thread_of t ms ≡ o → thread_on c t ms ≡ o
-    split None none = absurd (none_free (find_nowhere (λ m. is_numbered t m && waits m) ms (lacks_where waits t ms (none_passes (is_numbered t) ms none))))
-    split (Some m) found = at m (within_thread t ms m made found) (waits m) refl
+    split None none = absurd (movable_there c t ms made.apart movable none)
+    split (Some m) found =
+        thread_on_within c t m ms (within_thread t ms m made found) ∙
+        ap (λ d. if d then Some m else None) (or_right (runs_on c m.place) (waits_on c m.place) (movable_waits c t m ms made movable found))
 
 -- ---- the thread
 
@@ -140,3 +157,18 @@ given_stands v s stands made = ap (option_and_then (found_on v)) picks ∙ split
     split (Some t) given =
         cpu_finds v s t stands made ∙
         ap (option_map standing_of) (movable_on v.cpu t s.members made (pick_is_movable (is_movable_on v.cpu s.members) s.line.ridx (of_side Real) (of_side Batch) (of_side Idle) t given))
+
+-- it is a thread of the side that waits on the CPU
+pub given_waits : (c : ℕ) (s : Side) (m : Member) → IsWellMade s.members → given_by c s ≡ Some m → (thread_of m.thread.id s.members ≡ Some m) × (waits_on c m.place ≡ true)
+given_waits c s m made given = split (queues_pick (is_movable_on c s.members) s.line.ridx (of_side Real) (of_side Batch) (of_side Idle)) refl given
+  where
+    of_side : Kind → List (List ℕ)
+    of_side k = buckets_of c k s.members
+
+    split : (o : Option ℕ) → queues_pick (is_movable_on c s.members) s.line.ridx (of_side Real) (of_side Batch) (of_side Idle) ≡ o →
+        option_and_then (λ t. thread_of t s.members) o ≡ Some m → (thread_of m.thread.id s.members ≡ Some m) × (waits_on c m.place ≡ true)
+    split None none found = absurd (none-some m found)
+    split (Some t) pick found = (
+      ap (λ u. thread_of u s.members) (has_thread_of t m s.members found).1 ∙ found,
+      movable_waits c t m s.members made (pick_is_movable (is_movable_on c s.members) s.line.ridx (of_side Real) (of_side Batch) (of_side Idle) t pick) found,
+    )

@@ -26,6 +26,7 @@ pub mod PartStands
 pub mod SlotStands
 pub mod CpuEvents
 pub mod CpuChanges
+pub mod PairStands
 pub mod StepLaws
 pub mod TellLaws
 pub mod SoughtLaws

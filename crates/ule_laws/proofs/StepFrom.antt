@@ -23,9 +23,8 @@ use Rattle.ule_model.specs.World.{Member, World, thread_of}
 use Rattle.ule_model.specs.WorldValue.{IsChainOf, IsHandOf, IsLimboOf, IsQueueOf, Shows, StandsUnder, WorldValue, held_by, lock_for, put_back, standing_of, value_step, value_step_at}
 use Rattle.ule_members.proofs.PlaceFinds.{thread_at_is, thread_at_stands, thread_at_within}
 use Rattle.ule_members.proofs.Within.{within_thread}
-use Rattle.ule_laws.proofs.FrameLaws.{elsewhere_stands}
-use Rattle.ule_members.proofs.Steps.{step_leaves_rest, step_is_made}
-use Rattle.ule_members.proofs.Untouched.{step_in_hand, step_under}
+use Rattle.ule_laws.proofs.FrameLaws.{touched_frame}
+use Rattle.ule_members.proofs.Steps.{step_leaves_rest, step_is_made, step_touches}
 use Rattle.ule_laws.proofs.LockLaws.{AreThese}
 use Rattle.ule_laws.proofs.WorldLaws.{HasValue, IsFrame, IsMadeFor, put_back_shows, value_at}
 
@@ -122,14 +121,8 @@ shown_made v w shows = record { members = shows.made; indexes = shows.indexes }
 -- what the step of an event leaves
 pub step_frame : (v : WorldValue) (w : World) (worker : ℕ) (e : Event) (now : ℕ) → IsAtEvent v w worker e now → IsFrame w worker e (step w worker e now).0
 step_frame v w worker e now at =
-    let made : IsWellMadeWorld w = shown_made v w at.shows in record {
-      rest = step_leaves_rest w worker e now;
-      made = (step_is_made w worker e now made at.possible).members;
-      indexes = (step_is_made w worker e now made at.possible).indexes;
-      under = step_under w worker e now made at.possible;
-      in_hand = step_in_hand w worker e now made at.possible;
-      elsewhere = elsewhere_stands w worker e now made at.possible;
-    }
+    let made : IsWellMadeWorld w = shown_made v w at.shows in
+    touched_frame w worker e now (step w worker e now).0 (step_touches w worker e now made at.possible) (step_leaves_rest w worker e now) (step_is_made w worker e now made at.possible)
 
 -- what a step makes shows a world, and is answered so
 abbrev pub ShowsWithReply : World → Reply → WorldValue × Reply → Type 0

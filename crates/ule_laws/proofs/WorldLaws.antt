@@ -87,7 +87,7 @@ pub record IsMadeFor (n : World) (worker l : ℕ) (reply : Reply) (made : Steppe
   pub answer : made.reply ≡ reply
 
 -- a lock that is another than the event's one is not among its locks
-other_lock : (locks : List ℕ) (l k : ℕ) → locks ≡ l ∷ [] → k ≢ l → is_among locks k ≡ false
+pub other_lock : (locks : List ℕ) (l k : ℕ) → locks ≡ l ∷ [] → k ≢ l → is_among locks k ≡ false
 other_lock locks l k one other = ap (λ (ls : List ℕ). is_among ls k) one ∙ ap (λ (b : Bool). b || false) (ne_eqb l k (λ e. other (sym e)))
 
 -- the scheduler with both put back shows the world after the event
