@@ -37,7 +37,7 @@ use Rattle.ule_members.proofs.CalendarPlaces.{filing_of}
 use Rattle.ule_members.proofs.CalendarRules.{turning_by_one}
 use Rattle.ule_members.proofs.PartDone.{StandsAt}
 use Rattle.ule_members.proofs.Reach.{held_found, is_number_itself, place_from_hand, unborn_found}
-use Rattle.ule_members.proofs.Steps.{first_among}
+use Rattle.ule_members.proofs.Steps.{first_among, step_by_locks}
 use Rattle.ule_members.proofs.Threads.{current_runs}
 
 -- a thread in this worker's hand has it for a holder
@@ -223,7 +223,7 @@ module _ (w : World) (worker now : ℕ) (calm : IsCalm w) where
 
 -- what the step of an event makes of the calendars
 pub step_passes : (w : World) (worker : ℕ) (e : Event) (now : ℕ) → IsCalm w → has_thread w worker e ≡ true → StepPasses w worker e now (step w worker e now)
-step_passes w worker e now calm has = split (locks_of w e) refl
+step_passes w worker e now calm has = step_by_locks (StepPasses w worker e now) w worker e now (split (locks_of w e) refl) (λ a b is. ?)
   where
     split : (ls : List ℕ) → locks_of w e ≡ ls → StepPasses w worker e now (step_under_locks ls w worker e now)
     split [] is = nothing_passes w worker e now calm ((action_of e (seen_on 0 worker now (named_by w e) (bare_side w))).reply None)
@@ -244,7 +244,11 @@ StepPicks c b w worker e now r =
 -- no step chooses from farther away than the bucket of a thread that stands in the calendar
 pub step_picks : (c t b : ℕ) (w : World) → IsCalm w → filing_of c w.members t ≡ Some b → (worker : ℕ) (e : Event) (now : ℕ) → has_thread w worker e ≡ true →
     StepPicks c b w worker e now (step w worker e now).1
-step_picks c t b w calm stands worker e now has s u a = split (locks_of w e) refl
+step_picks c t b w calm stands worker e now has s u a =
+    step_by_locks
+    (λ done. if_first c (locks_of w e) (choosing_from c now (action_of e (seen_under w worker now e c)).parts (side_of c w, None)) ≡ Some s →
+    chosen_by done.1 ≡ Some u → IsInBucket c a u s.members → distance_of s.line.ridx a ≤ distance_of s.line.ridx b) w worker e now
+    (split (locks_of w e) refl) (λ a b is. ?)
   where
     here : (l : ℕ) → is_among (locks_of w e) l ≡ true → c ≡ l → choosing_from c now (action_of e (seen_under w worker now e c)).parts (side_of c w, None) ≡ Some s →
         chosen_by (action_done l now (action_of e (seen_under w worker now e l)) (side_of l w)).1 ≡ Some u → IsInBucket c a u s.members → distance_of s.line.ridx a ≤ distance_of s.line.ridx b

@@ -47,7 +47,7 @@ use Rattle.ule_members.proofs.Reach.{held_found, place_from_hand}
 use Rattle.ule_members.proofs.Rest.{index_of}
 use Rattle.ule_members.proofs.Setups.{setup_specs}
 use Rattle.ule_members.proofs.Starts.{declared_laid, queued_numbers}
-use Rattle.ule_members.proofs.Steps.{first_among}
+use Rattle.ule_members.proofs.Steps.{first_among, step_by_locks}
 use Rattle.ule_members.proofs.Threads.{thread_of-moved_other, thread_of-queued_other, thread_of_within}
 
 -- thread t is there and unborn
@@ -247,7 +247,8 @@ event_spares w worker (event.Inherit u run) now l t possible other = change_spar
 -- an unborn thread stays so through every event but its own hatch
 pub unborn_stays : (w : World) (worker : ℕ) (e : Event) (now t : ℕ) → IsWellMadeWorld w → IsPossible w worker e now → length w.lines ≤ 16 →
     is_among (hatched_by e) t ≡ false → IsStillUnborn t w.members → IsStillUnborn t (step w worker e now).0.members
-unborn_stays w worker e now t made possible few other unborn = split (locks_of w e) refl
+unborn_stays w worker e now t made possible few other unborn =
+    step_by_locks (λ done. IsStillUnborn t done.0.members) w worker e now (split (locks_of w e) refl) (λ a b is. ?)
   where
     split : (ls : List ℕ) → locks_of w e ≡ ls → IsStillUnborn t (step_under_locks ls w worker e now).0.members
     split [] is = unborn
