@@ -1,5 +1,5 @@
 -- What the step of each event does to the threads of a world and leaves of the rest: the laws of a step.
-use Rattle.std.proofs.Common.{◌≡◌, ℕ, ◌==◌, ◌%◌, ◌+◌, Bool, true, false, List, [], ◌∷◌, Option, Some, None, is_some, if◌then◌else◌, refl, sym, ◌∙◌, ap, subst}
+use Rattle.std.proofs.Common.{◌≡◌, ℕ, ◌<◌, ◌==◌, ◌%◌, ◌+◌, Bool, true, false, length, List, [], ◌∷◌, Option, Some, None, is_some, if◌then◌else◌, refl, sym, ◌∙◌, ap, subst}
 use Rattle.std.specs.Option.{option_map, option_to_list}
 use Rattle.std.specs.Prelude.{max, min, option_and_then}
 use Rattle.std.proofs.lemmas.Option.{none-some}
@@ -8,10 +8,11 @@ use Rattle.ule_score.specs.declared.place.Place.{Place}
 use Rattle.ule_score.specs.declared.place.Place.TheVariants.{Running, Queued, Asleep, Unborn, Gone, Hand}
 use Rattle.ule_types.specs.Commands.{is_among}
 use Rattle.ule_types.specs.declared.event.Event.{Event}
-use Rattle.ule_types.specs.declared.event.Event.TheVariants.{Wake, Lend, Unlend, Renice, Inherit}
+use Rattle.ule_types.specs.declared.event.Event.TheVariants.{Wake, Move, Lend, Unlend, Renice, Inherit}
+use Rattle.ule_types.specs.declared.event.MoveWhy.{MoveWhy}
 use Rattle.ule_types.specs.declared.event.Reply.{Reply}
 use Rattle.ule_model.specs.Action.{Action, action_done, parts_done}
-use Rattle.ule_model.specs.Actions.{action_of, pair_action_of, wake_action, wake_action_at}
+use Rattle.ule_model.specs.Actions.{action_of, move_action, pair_action_of, wake_action, wake_action_at}
 use Rattle.ule_model.specs.ActionStep.{bare_side, named_by, seen_on, seen_under}
 use Rattle.ule_model.specs.Step.{pair_done, step, step_under_locks, step_with}
 use Rattle.ule_model.specs.Conditions.{IsPossible}
@@ -22,6 +23,9 @@ use Rattle.ule_model.specs.WellMade.{HaveIndexes, IsWellMade, IsWellMadeWorld}
 use Rattle.ule_model.specs.Words.{WordChange, block, change_of, point}
 use Rattle.ule_model.specs.World.{Member, Side, World, current_of, on_side, side_of, standing_of, thread_of}
 use Rattle.ule_members.proofs.ActionFits.{IsFit, event_fits}
+use Rattle.ule_members.proofs.CalendarPlaces.{made_finds}
+use Rattle.ule_members.proofs.Given.{move_sees}
+use Rattle.ule_members.proofs.PairDone.{IsMove, move_fits, move_where, pair_fit_done, pair_indexes, pair_leaves, second_there}
 use Rattle.ule_members.proofs.PartDone.{AreDone, StandsAt, holder_after, none_done, parts_follow}
 use Rattle.ule_members.proofs.PlaceFinds.{thread_at_none, thread_at_within}
 use Rattle.ule_members.proofs.PartRest.{parts_kept}
@@ -103,10 +107,22 @@ module _ (w : World) (worker now : ℕ) (made : IsWellMadeWorld w) where
       by_locks limbo is none = absurd (some_lock 24 [] none)
       by_locks (place_of t) is nowhere = seeking e t none (ap sought_in is)
 
+  -- a move is done
+  move_done : (a b : ℕ) (why : MoveWhy) → b < length w.lines → IsStepDone (Move a b why) (stepped_under_two a b w worker (Move a b why) now)
+  move_done a b why there =
+      pair_fit_done w worker (Move a b why) now a b made refl (move_action why (move_sees w worker now a) (move_sees w worker now b))
+      (move_fits w worker now a b why there (made_finds w.members made.members))
+
   -- what the step of an event does to the threads
   pub step_done : (e : Event) → IsPossible w worker e now → IsStepDone e (step w worker e now)
-  step_done e possible = step_by_locks (IsStepDone e) w worker e now (split (locks_of w e) refl) (λ a b is. ?)
+  step_done e possible = step_by_locks (IsStepDone e) w worker e now (split (locks_of w e) refl) two
     where
+      two : (a b : ℕ) → locking e ≡ queues a b → IsStepDone e (stepped_under_two a b w worker e now)
+      two a b is =
+          let move : IsMove e a b = move_where e a b is in
+          subst (λ (x : Event). IsStepDone x (stepped_under_two a b w worker x now)) (sym move.event_is)
+          (move_done a b move.why (second_there w e a b is possible.cpus))
+
       split : (ls : List ℕ) → locks_of w e ≡ ls → IsStepDone e (step_under_locks ls w worker e now)
       split [] none =
           subst (λ (o : Option WordChange). AreDone w worker e now o w.members w.members) (sym (unlocked e none)) (none_done w worker e now w.members made.members)
@@ -116,7 +132,9 @@ module _ (w : World) (worker now : ℕ) (made : IsWellMadeWorld w) where
 
 -- what the step of an event leaves
 pub step_leaves_rest : StepLeavesRest
-step_leaves_rest w worker e now = step_by_locks (λ done. LeavesRest w e done.0) w worker e now (split (locks_of w e) refl) (λ a b is. ?)
+step_leaves_rest w worker e now =
+    step_by_locks (λ done. LeavesRest w e done.0) w worker e now (split (locks_of w e) refl)
+    (λ a b is. pair_leaves w e a b is now (pair_action_of e (move_sees w worker now a) (move_sees w worker now b)))
   where
     split : (ls : List ℕ) → locks_of w e ≡ ls → LeavesRest w e (step_under_locks ls w worker e now).0
     split [] is = rest_left w e w.members
@@ -126,7 +144,9 @@ step_leaves_rest w worker e now = step_by_locks (λ done. LeavesRest w e done.0)
 
 -- the step of an event leaves the removal indexes those of buckets
 pub step_indexes : (w : World) (worker : ℕ) (e : Event) (now : ℕ) → HaveIndexes w.lines → HaveIndexes (step w worker e now).0.lines
-step_indexes w worker e now indexes = step_by_locks (λ done. HaveIndexes done.0.lines) w worker e now (split (locks_of w e)) (λ a b is. ?)
+step_indexes w worker e now indexes =
+    step_by_locks (λ done. HaveIndexes done.0.lines) w worker e now (split (locks_of w e))
+    (λ a b is. pair_indexes w now a b (pair_action_of e (move_sees w worker now a) (move_sees w worker now b)) indexes)
   where
     split : (ls : List ℕ) → HaveIndexes (step_under_locks ls w worker e now).0.lines
     split [] = indexes
