@@ -1,6 +1,6 @@
 -- What the parts of an action make of the calendar of a CPU, and what they choose from it: one lemma a part, and one induction.
 use Rattle.std.proofs.Common.{◌≡◌, ℕ, ◌<◌, ◌≤◌, ◌==◌, pos, Bool, true, List, [], ◌∷◌, length, Option, Some, None, inl, inr, ⊎_elim, refl, sym, ◌∙◌, ap, subst}
-use Rattle.std.proofs.lemmas.Bool.{both_ways}
+use Rattle.std.proofs.lemmas.Bool.{both_ways, cases_eq}
 use Rattle.std.proofs.lemmas.Option.{none-some, same_Some}
 use Rattle.ule_prio.specs.declared.kind.Kind.{Kind}
 use Rattle.ule_prio.specs.declared.kind.Kind.TheVariants.{Batch}
@@ -16,13 +16,13 @@ use Rattle.ule_model.specs.Insertion.{members_in, queued}
 use Rattle.ule_model.specs.Switch.{choosing_next}
 use Rattle.ule_score.specs.declared.record.CpuLine.{CpuLine}
 use Rattle.ule_members.proofs.Membership.{has_thread_of}
-use Rattle.ule_model.specs.World.{Member, Side, thread_of}
+use Rattle.ule_model.specs.World.{Member, Side, moved_to, thread_of}
 use Rattle.ule_members.proofs.CalendarMoves.{AreMoved, Others, choosing_moved, moved, moved_finds, noted_moved, queued_moved, unmoved}
 use Rattle.ule_members.proofs.CalendarParts.{HasJoined, IsNextIf, Joins, SidePassage, chosen_no_farther, choosing_chose, joined_came, joined_chose, joined_passes, lifted_rule, nobody_joins, queued_joins, unaltered, without_itself, without_one, without_other, without_within}
-use Rattle.ule_members.proofs.CalendarPlaces.{Filing, FindsEach, IsFiled, filed_at, filed_elsewhere, filed_found, filed_from, filing_found, filing_moved_aside, filing_of, filing_recorded, none_where_filed, some_filed}
+use Rattle.ule_members.proofs.CalendarPlaces.{Filing, FindsEach, IsFiled, filed_at, filed_elsewhere, filed_found, filed_from, filing_found, filing_moved, filing_moved_aside, filing_moved_other, filing_of, filing_recorded, none_where_filed, some_filed}
 use Rattle.ule_members.proofs.CalendarRules.{IndexRule, IsClose, TellsEmpty, indexes_within, rule_from, turns}
 use Rattle.ule_model.specs.Action.{Part, choose, clock, insert, leaving, move, note, part_done, parts_done}
-use Rattle.ule_members.proofs.PartDone.{HasMover, IsKnown, Known, StandsAt, known_after, known_then}
+use Rattle.ule_members.proofs.PartDone.{HasMover, IsKnown, Known, StandsAt, known_after, known_after_all, known_then}
 
 -- how far parts have come in a calendar: nothing happened there, a thread joined, or the index rule was applied
 pub data Phase : Type 0 where
@@ -39,6 +39,16 @@ off_filed : (d : ℕ) (place : Place) → IsOff place → filed_at d place ≡ N
 off_filed d (Queued e k b) off = absurd off
 off_filed d place off = refl
 
+-- what a move needs that leaves this place: a queue that it leaves is the CPU's
+abbrev pub NeedsMove : ℕ → Place → Type 0
+NeedsMove c (Queued d k b) = d ≡ c
+NeedsMove c place = Unit {0}
+
+-- the phase after it
+abbrev pub moved_phase : Place → Phase → Phase
+moved_phase (Queued d k b) phase = passed
+moved_phase place phase = phase
+
 -- what an insertion needs that leaves this place: one that leaves a queue of the CPU is taken up, and goes next
 abbrev pub NeedsInsert : (taken next : ℕ → Bool) → ℕ → ℕ → Place → Insertion → Type 0
 NeedsInsert taken next c t (Queued d k b) how = (d ≡ c) × IsNextIf how (next t ≡ true) × (next t ≡ true) × (taken t ≡ true)
@@ -51,7 +61,7 @@ inserted_phase place = joined
 
 -- what a part on CPU c needs in a phase, of which threads stand where, and of who is taken up and goes next
 abbrev pub NeedsPhase : (taken next : ℕ → Bool) → ℕ → Part → Known → Phase → Type 0
-NeedsPhase taken next c (move t from to) known fresh = known t from × IsOff from × IsOff to
+NeedsPhase taken next c (move t from to) known fresh = known t from × NeedsMove c from × IsOff to
 NeedsPhase taken next c (move t from to) known phase = ⊥
 NeedsPhase taken next c (insert t from how) known fresh = known t from × NeedsInsert taken next c t from how
 NeedsPhase taken next c (insert t from how) known phase = ⊥
@@ -62,6 +72,7 @@ NeedsPhase taken next c p known phase = Unit {0}
 
 -- the phase after a part
 abbrev pub phase_after : Part → Phase → Phase
+phase_after (move t from to) phase = moved_phase from phase
 phase_after (insert t from how) phase = inserted_phase from
 phase_after choose phase = passed
 phase_after clock phase = passed
@@ -154,6 +165,76 @@ module _ (taken next : ℕ → Bool) (c now : ℕ) (s : Side) (close : IsClose s
       (queued_joins how c t out (filing_of c s.members) (λ u apart. was.alike u) (sym (was.alike t) ∙ none c))) in
       (record { how = how; joiner = t; goes = goes; joins = joins }, queued_moved (Others c) s.members how c t out (λ d other. other) (λ d other. none d) moves)
 
+  -- a queued thread leaves its queue by the index rule
+  leaving_rule : (t d b : ℕ) (k : Kind) (n : Side) → StandsAt t (Queued d k b) n.members → d ≡ c → IsAsItWas n → AreMoved (Others c) s.members n.members →
+      IndexRule s.line.idx s.line.ridx (leaving (Queued d k b) c t n).line.idx (leaving (Queued d k b) c t n).line.ridx (filing_of c s.members) (without_one t (filing_of c n.members))
+  leaving_rule t d b k n stands own at moves =
+      rule_from s.line.idx s.line.ridx out.line.idx out.line.ridx (filing_of c s.members) f (without_one t f) (λ u a is. at.alike u ∙ is)
+      (subst (λ (i : ℕ). IndexRule i s.line.ridx out.line.idx out.line.ridx f (without_one t f)) at.insertion
+      (subst (λ (r : ℕ). IndexRule n.line.idx r out.line.idx out.line.ridx f (without_one t f)) at.removal left))
+    where
+      f : Filing
+      f = filing_of c n.members
+
+      out : Side
+      out = leaving (Queued d k b) c t n
+
+      number : stands.member.thread.id ≡ t
+      number = (has_thread_of t stands.member n.members stands.found).1
+
+      -- the rule by which a thread leaves a place
+      left_by : Place → ℕ → Type 0
+      left_by place u = IndexRule n.line.idx n.line.ridx (leaving place c u n).line.idx (leaving place c u n).line.ridx f (without_one u f)
+
+      left : left_by (Queued d k b) t
+      left =
+          subst (left_by (Queued d k b)) number
+          (subst (λ (p : Place). left_by p stands.member.thread.id) stands.place_is
+          (lifted_rule c stands.member n (moved_finds (Others c) s.members n.members finds moves) (ap (λ (u : ℕ). thread_of u n.members) number ∙ stands.found) k b
+          (stands.place_is ∙ ap (λ (y : ℕ). Queued y k b) own)))
+
+  -- a thread queued on this CPU is in no calendar of another
+  queued_aside : (t d b x : ℕ) (k : Kind) (n : Side) → StandsAt t (Queued d k b) n.members → d ≡ c → Others c x → filing_of x n.members t ≡ None
+  queued_aside t d b x k n stands own other =
+      filing_found x t stands.member n.members stands.found ∙ ap (filed_at x) (stands.place_is ∙ ap (λ (y : ℕ). Queued y k b) own) ∙ filed_elsewhere x c k b other
+
+  -- a queued thread leaves its queue for a place in no calendar
+  leave_passes : (t d b : ℕ) (k : Kind) (to : Place) (n : Side) (into : Option ℕ) → StandsAt t (Queued d k b) n.members → d ≡ c → IsOff to → IsAsItWas n → AreMoved (Others c) s.members n.members →
+      SidePassage taken next c s (part_done c now (move t (Queued d k b) to) (n, into)).0 × AreMoved (Others c) s.members (part_done c now (move t (Queued d k b) to) (n, into)).0.members
+  leave_passes t d b k to n into stands own off at moves = (
+    record {
+      between = without_one t f;
+      rule = leaving_rule t d b k n stands own at moves;
+      kept = λ u a is. alike u ∙ is;
+      stood = λ u a before after left. sym (alike u) ∙ after;
+      came = λ u a is. inl (sym (at.alike u) ∙ without_within t f u a (sym (alike u) ∙ is));
+    },
+    moved n.members t to (pos 0) (λ x other. queued_aside t d b x k n stands own other) (λ x other. off_filed x to off) moves,
+  )
+    where
+      f : Filing
+      f = filing_of c n.members
+
+      alike : (u : ℕ) → filing_of c (moved_to t to (pos 0) n.members) u ≡ without_one t f u
+      alike u =
+          ⊎_elim
+          (λ (same : u ≡ t).
+          ap (filing_of c (moved_to t to (pos 0) n.members)) same ∙ filing_moved c t stands.member to (pos 0) n.members stands.found ∙ off_filed c to off ∙
+          sym (ap (without_one t f) same ∙ without_itself t f))
+          (λ (other : u ≡ t → ⊥). filing_moved_other c t u to (pos 0) n.members other ∙ sym (without_other t u f other))
+          (cases_eq u t)
+
+  -- a thread goes to a place in no calendar, by the place that it leaves
+  move_passes : (t : ℕ) (from to : Place) (n : Side) (into : Option ℕ) → StandsAt t from n.members → NeedsMove c from → IsOff to → IsAsItWas n → AreMoved (Others c) s.members n.members →
+      IsAt (moved_phase from fresh) (part_done c now (move t from to) (n, into)).0 × AreMoved (Others c) s.members (part_done c now (move t from to) (n, into)).0.members
+  move_passes t (Queued d k b) to n into stands own off at moves = leave_passes t d b k to n into stands own off at moves
+  move_passes t from to n into stands own off at moves =
+      let none = stands_unfiled t from n.members stands tt in (
+        at_alike fresh n (part_done c now (move t from to) (n, into)).0 (ap (λ (line : CpuLine). line.idx) (leaving_off from t n tt)) (ap (λ (line : CpuLine). line.ridx) (leaving_off from t n tt))
+            (λ u. filing_moved_aside c t u to (pos 0) n.members (none c) (off_filed c to off)) at,
+        moved n.members t to (pos 0) (λ d other. none d) (λ d other. off_filed d to off) moves,
+      )
+
   -- a queued thread leaves its queue, by the index rule, and joins
   requeue_passes : (t d b : ℕ) (k : Kind) (how : Insertion) (n : Side) → StandsAt t (Queued d k b) n.members → NeedsInsert taken next c t (Queued d k b) how → IsAsItWas n → AreMoved (Others c) s.members n.members →
       SidePassage taken next c s (queued how c t (leaving (Queued d k b) c t n)) × AreMoved (Others c) s.members (queued how c t (leaving (Queued d k b) c t n)).members
@@ -170,8 +251,7 @@ module _ (taken next : ℕ → Bool) (c now : ℕ) (s : Side) (close : IsClose s
           inr ((joined_came next how t out.line.idx out.line.ridx u a within needs.1 new.0 new.1).0, λ apart here. ap next new.0 ∙ needs.2))
           (joins.came u a is);
     },
-    queued_moved (Others c) s.members how c t out (λ x other. other)
-        (λ x other. filing_found x t stands.member n.members stands.found ∙ ap (filed_at x) (stands.place_is ∙ ap (λ (y : ℕ). Queued y k b) needs.0) ∙ filed_elsewhere x c k b other) moves,
+    queued_moved (Others c) s.members how c t out (λ x other. other) (λ x other. queued_aside t d b x k n stands needs.0 other) moves,
   )
     where
       f : Filing
@@ -183,21 +263,8 @@ module _ (taken next : ℕ → Bool) (c now : ℕ) (s : Side) (close : IsClose s
       made : Side
       made = queued how c t out
 
-      number : stands.member.thread.id ≡ t
-      number = (has_thread_of t stands.member n.members stands.found).1
-
-      left : IndexRule n.line.idx n.line.ridx out.line.idx out.line.ridx f (without_one t f)
-      left =
-          subst (λ (u : ℕ). IndexRule n.line.idx n.line.ridx (leaving (Queued d k b) c u n).line.idx (leaving (Queued d k b) c u n).line.ridx f (without_one u f)) number
-          (subst (λ (p : Place). IndexRule n.line.idx n.line.ridx (leaving p c stands.member.thread.id n).line.idx (leaving p c stands.member.thread.id n).line.ridx f (without_one stands.member.thread.id f)) stands.place_is
-          (lifted_rule c stands.member n (moved_finds (Others c) s.members n.members finds moves) (ap (λ (u : ℕ). thread_of u n.members) number ∙ stands.found) k b
-          (stands.place_is ∙ ap (λ (y : ℕ). Queued y k b) needs.0)))
-
       rule : IndexRule s.line.idx s.line.ridx out.line.idx out.line.ridx (filing_of c s.members) (without_one t f)
-      rule =
-          rule_from s.line.idx s.line.ridx out.line.idx out.line.ridx (filing_of c s.members) f (without_one t f) (λ u a is. at.alike u ∙ is)
-          (subst (λ (i : ℕ). IndexRule i s.line.ridx out.line.idx out.line.ridx f (without_one t f)) at.insertion
-          (subst (λ (r : ℕ). IndexRule n.line.idx r out.line.idx out.line.ridx f (without_one t f)) at.removal left))
+      rule = leaving_rule t d b k n stands needs.0 at moves
 
       joins : Joins how c t out.line.idx out.line.ridx (without_one t f) made
       joins = queued_joins how c t out (without_one t f) (λ u apart. sym (without_other t u f apart)) (without_itself t f)
@@ -217,12 +284,7 @@ module _ (taken next : ℕ → Bool) (c now : ℕ) (s : Side) (close : IsClose s
     at_alike phase n (part_done c now (note t place change) (n, into)).0 refl refl (λ u. filing_recorded c t u (record_after n.settings now change) n.members (change_number n.settings now change)) at,
     noted_moved (Others c) s.members n.settings now t change n.members moves,
   )
-  part_passes (move t from to) known fresh n into is goes at moves =
-      let none = stands_unfiled t from n.members (is t from goes.0) goes.1 in (
-        at_alike fresh n (part_done c now (move t from to) (n, into)).0 (ap (λ (line : CpuLine). line.idx) (leaving_off from t n goes.1)) (ap (λ (line : CpuLine). line.ridx) (leaving_off from t n goes.1))
-            (λ u. filing_moved_aside c t u to (pos 0) n.members (none c) (off_filed c to goes.2)) at,
-        moved n.members t to (pos 0) (λ d other. none d) (λ d other. off_filed d to goes.2) moves,
-      )
+  part_passes (move t from to) known fresh n into is goes at moves = move_passes t from to n into (is t from goes.0) goes.1 goes.2 at moves
   part_passes (move t from to) known joined n into is goes at moves = absurd goes
   part_passes (move t from to) known passed n into is goes at moves = absurd goes
   part_passes (insert t from how) known fresh n into is goes at moves = insert_passes t from how n (is t from goes.0) goes.1 at moves
@@ -274,10 +336,17 @@ module _ (taken next : ℕ → Bool) (c now : ℕ) (s : Side) (close : IsClose s
       parts_pass ps (known_after p known) (phase_after p phase) m.0 m.1 (known_then c now p known n into is (mover_known p known phase goes.0)) goes.1 one.0 one.1
 
   -- parts, from their own side
-  pub parts_passage : (ps : List Part) → FollowsPhase taken next c (λ t place. StandsAt t place s.members) fresh ps →
+  pub parts_passage : (ps : List Part) (known : Known) → IsKnown known s.members → FollowsPhase taken next c known fresh ps →
       SidePassage taken next c s (parts_done c now ps (s, None)).0 × AreMoved (Others c) s.members (parts_done c now ps (s, None)).0.members
-  parts_passage ps goes =
-      parts_pass ps (λ t place. StandsAt t place s.members) fresh s None (λ t place is. is) goes (record { insertion = refl; removal = refl; alike = λ t. refl }) unmoved
+  parts_passage ps known is goes = parts_pass ps known fresh s None is goes (record { insertion = refl; removal = refl; alike = λ t. refl }) unmoved
+
+  -- what is known after parts is so
+  pub parts_known : (ps : List Part) (known : Known) (phase : Phase) (n : Side) (into : Option ℕ) → IsKnown known n.members → FollowsPhase taken next c known phase ps →
+      IsKnown (known_after_all ps known) (parts_done c now ps (n, into)).0.members
+  parts_known [] known phase n into is goes = is
+  parts_known (p ∷ ps) known phase n into is goes =
+      let m = part_done c now p (n, into) in
+      parts_known ps (known_after p known) (phase_after p phase) m.0 m.1 (known_then c now p known n into is (mover_known p known phase goes.0)) goes.1
 
   -- ---- the choice
 

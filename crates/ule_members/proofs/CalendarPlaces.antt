@@ -12,8 +12,9 @@ use Rattle.ule_score.specs.declared.record.ThreadRecord.{ThreadRecord}
 use Rattle.ule_model.specs.CalendarPromise.{IsInBucket}
 use Rattle.ule_model.specs.Insertion.{members_in}
 use Rattle.ule_model.specs.Places.{waits_in}
+use Rattle.ule_model.specs.WellMade.{IsWellMade}
 use Rattle.ule_model.specs.World.{Member, is_numbered, moved_to, thread_of, with_record}
-use Rattle.ule_members.proofs.Membership.{Has, has-filter, has_filtered}
+use Rattle.ule_members.proofs.Membership.{Has, has-filter, has_filtered, thread_of_has}
 use Rattle.ule_members.proofs.Threads.{find_mapped, thread_of-changed_apart, thread_of-changed_same}
 
 -- ---- places
@@ -129,6 +130,10 @@ filing_found c t m ms found = ap (option_and_then (λ (x : Member). filed_at c x
 -- each thread of a list is the one that its number finds
 abbrev pub FindsEach : List Member → Type 0
 FindsEach ms = (m : Member) → Has m ms → thread_of m.thread.id ms ≡ Some m
+
+-- well-made threads are found so
+pub made_finds : (ms : List Member) → IsWellMade ms → FindsEach ms
+made_finds ms made m has = thread_of_has m ms made.apart has
 
 -- an element of a list with each changed is one that was changed
 has_mapped : {X : Type 0} (f : X → X) (y : X) (xs : List X) → Has y (map f xs) → (x : X) × (Has x xs × (f x ≡ y))

@@ -197,3 +197,26 @@ pub rule_from : (i r j q : ℕ) (e f g : Filing) → IsWithin e f → IndexRule 
 rule_from i r j q e f g among (stays same still within) = stays same still (λ t b is. within t b (among t b is))
 rule_from i r j q e f g among (removes empty tells same to) = removes empty tells same to
 rule_from i r j q e f g among (turns empty tells within to also) = turns empty tells (λ t b is. within t b (among t b is)) to also
+
+-- ---- threads that are filed alike
+
+module _ (taken next : ℕ → Bool) (i r j q : ℕ) where
+  -- a passage from some threads is one from threads that are filed alike
+  pub passage_from : (e f h : Filing) → ((t : ℕ) → f t ≡ e t) → Passage taken next i r j q f h → Passage taken next i r j q e h
+  passage_from e f h alike p = record {
+    between = p.between;
+    rule = rule_from i r j q e f p.between (λ t b is. alike t ∙ is) p.rule;
+    kept = p.kept;
+    stood = λ t b before after left. p.stood t b (alike t ∙ before) after left;
+    came = λ t b is. ⊎_elim (λ (old : f t ≡ Some b). inl (sym (alike t) ∙ old)) (λ (new : (b < 64) × (i ≢ r → b ≡ r → next t ≡ true)). inr new) (p.came t b is);
+  }
+
+  -- and one to some threads is one to threads that are filed alike
+  pub passage_to : (f g h : Filing) → ((t : ℕ) → h t ≡ g t) → Passage taken next i r j q f g → Passage taken next i r j q f h
+  passage_to f g h alike p = record {
+    between = p.between;
+    rule = p.rule;
+    kept = λ t b is. alike t ∙ p.kept t b is;
+    stood = λ t b before after left. p.stood t b before (sym (alike t) ∙ after) left;
+    came = λ t b is. p.came t b (sym (alike t) ∙ is);
+  }

@@ -1,7 +1,7 @@
 -- What each event makes of the calendars, and what it chooses from them: a line or two an event; and so for each step.
 use Rattle.std.proofs.Common.{◌≡◌, ℕ, ◌<◌, ◌≤◌, ◌==◌, Bool, true, false, length, List, [], ◌∷◌, Option, Some, None, if◌then◌else◌, refl, sym, ◌∙◌, ap, subst, get_or-set_same}
 use Rattle.std.specs.Option.{option_map}
-use Rattle.std.specs.Prelude.{nat_lt}
+use Rattle.std.specs.Prelude.{min, nat_lt}
 use Rattle.std.proofs.lemmas.Bool.{eq-eqb, eqb-true, false≢true, or_left, or_right}
 use Rattle.std.proofs.lemmas.Option.{none-some}
 use Rattle.ule_score.specs.Changes.{RecordChange, after_change, ran, sleeps}
@@ -23,7 +23,7 @@ use Rattle.ule_model.specs.ActionStep.{bare_side, named_by, seen_on, seen_under}
 use Rattle.ule_model.specs.Step.{step, step_under_locks}
 use Rattle.ule_model.specs.CalendarIndexes.{distance_of, idx_after_turn}
 use Rattle.ule_model.specs.CalendarPromise.{IsInBucket, choosing_side, choosing_from, chosen_by, goes_next, if_first, is_tick_of, numbers_on, requeues, takes_up}
-use Rattle.ule_model.specs.Events.{has_thread, holder_of, is_own, locks_of, sought_by}
+use Rattle.ule_model.specs.Events.{has_thread, holder_of, is_own, locking, locks_of, queues, sought_by}
 use Rattle.ule_model.specs.Landing.{current_record}
 use Rattle.ule_model.specs.Places.{lock_of}
 use Rattle.ule_model.specs.Actions.{gone_answer, unborn_answer}
@@ -32,12 +32,14 @@ use Rattle.ule_model.specs.World.{Member, Side, World, current_of, fresh_line, s
 use Rattle.ule_members.proofs.ActionFits.{IsUnder, only_lock, running_at, sought_under}
 use Rattle.ule_members.proofs.CalendarMoves.{has_found}
 use Rattle.ule_members.proofs.CalendarParts.{IsCalm, IsNextIf, StepPasses, entry_by, nothing_passes, side_passes}
-use Rattle.ule_members.proofs.CalendarPhases.{FollowsPhase, IsOff, fresh, parts_choose, parts_passage}
+use Rattle.ule_members.proofs.CalendarPairs.{moves_pass}
+use Rattle.ule_members.proofs.CalendarPhases.{FollowsPhase, IsOff, NeedsMove, fresh, parts_choose, parts_passage}
 use Rattle.ule_members.proofs.CalendarPlaces.{filing_of}
 use Rattle.ule_members.proofs.CalendarRules.{turning_by_one}
+use Rattle.ule_members.proofs.PairDone.{IsMove, move_where}
 use Rattle.ule_members.proofs.PartDone.{StandsAt}
 use Rattle.ule_members.proofs.Reach.{held_found, is_number_itself, place_from_hand, unborn_found}
-use Rattle.ule_members.proofs.Steps.{first_among}
+use Rattle.ule_members.proofs.Steps.{first_among, step_by_locks, stepped_under_two}
 use Rattle.ule_members.proofs.Threads.{current_runs}
 
 -- a thread in this worker's hand has it for a holder
@@ -114,7 +116,7 @@ module _ (w : World) (worker now : ℕ) (calm : IsCalm w) where
 
   -- ---- the thread that is named
 
-  go_comes : (e : Event) (l t : ℕ) (from to : Place) (reply : Reply) → StandsAt t from w.members → IsOff from → IsOff to → chosen_by reply ≡ None →
+  go_comes : (e : Event) (l t : ℕ) (from to : Place) (reply : Reply) → StandsAt t from w.members → NeedsMove l from → IsOff to → chosen_by reply ≡ None →
       Comes e l (go_action t to reply (option_map standing_of (thread_of t w.members)))
   go_comes e l t from to reply at off there none =
       subst (λ (o : Option Member). Comes e l (go_action t to reply (option_map standing_of o))) (sym at.found)
@@ -223,8 +225,13 @@ module _ (w : World) (worker now : ℕ) (calm : IsCalm w) where
 
 -- what the step of an event makes of the calendars
 pub step_passes : (w : World) (worker : ℕ) (e : Event) (now : ℕ) → IsCalm w → has_thread w worker e ≡ true → StepPasses w worker e now (step w worker e now)
-step_passes w worker e now calm has = split (locks_of w e) refl
+step_passes w worker e now calm has = step_by_locks (StepPasses w worker e now) w worker e now (split (locks_of w e) refl) two
   where
+    two : (a b : ℕ) → locking e ≡ queues a b → StepPasses w worker e now (stepped_under_two a b w worker e now)
+    two a b is =
+        let move : IsMove e a b = move_where e a b is in
+        subst (λ (x : Event). StepPasses w worker x now (stepped_under_two a b w worker x now)) (sym move.event_is) (moves_pass w worker now a b calm move.why)
+
     split : (ls : List ℕ) → locks_of w e ≡ ls → StepPasses w worker e now (step_under_locks ls w worker e now)
     split [] is = nothing_passes w worker e now calm ((action_of e (seen_on 0 worker now (named_by w e) (bare_side w))).reply None)
     split (l ∷ ls) is =
@@ -233,8 +240,18 @@ step_passes w worker e now calm has = split (locks_of w e) refl
         let comes = event_comes w worker now calm e has l (ap (λ (xs : List ℕ). is_among xs l) is ∙ first_among l ls) in
         let passage =
         parts_passage (λ t. takes_up t (entry_by worker e now done.1)) (λ t. goes_next t (entry_by worker e now done.1)) l now (side_of l w) (calm.close l) calm.finds a.parts
-        (comes.follows (parts_done l now a.parts (side_of l w, None)).1) in
+        (λ t place. StandsAt t place w.members) (λ t place is. is) (comes.follows (parts_done l now a.parts (side_of l w, None)).1) in
         side_passes w worker e now calm l done (record { moves = passage.1; passes = passage.0 })
+
+-- an event under two locks chooses from no side
+two_choose_none : (c : ℕ) (w : World) (worker : ℕ) (e : Event) (now a b : ℕ) → locking e ≡ queues a b → choosing_side c w worker e now ≡ None
+two_choose_none c w worker e now a b is =
+    let move : IsMove e a b = move_where e a b is in
+    subst (λ (x : Event). choosing_side c w worker x now ≡ None) (sym move.event_is) (at_first (c == min a b))
+  where
+    at_first : (d : Bool) → (if d then choosing_from c now [] (side_of c w, None) else None) ≡ None
+    at_first true = refl
+    at_first false = refl
 
 -- a thread that a step chose from CPU c's calendar is no farther than the bucket of one that stands there
 abbrev pub StepPicks : (c b : ℕ) → World → ℕ → Event → ℕ → Reply → Type 0
@@ -244,7 +261,11 @@ StepPicks c b w worker e now r =
 -- no step chooses from farther away than the bucket of a thread that stands in the calendar
 pub step_picks : (c t b : ℕ) (w : World) → IsCalm w → filing_of c w.members t ≡ Some b → (worker : ℕ) (e : Event) (now : ℕ) → has_thread w worker e ≡ true →
     StepPicks c b w worker e now (step w worker e now).1
-step_picks c t b w calm stands worker e now has s u a = split (locks_of w e) refl
+step_picks c t b w calm stands worker e now has s u a =
+    step_by_locks
+    (λ done. if_first c (locks_of w e) (choosing_from c now (action_of e (seen_under w worker now e c)).parts (side_of c w, None)) ≡ Some s →
+    chosen_by done.1 ≡ Some u → IsInBucket c a u s.members → distance_of s.line.ridx a ≤ distance_of s.line.ridx b) w worker e now
+    (split (locks_of w e) refl) (λ x y is from. absurd (none-some s (sym (two_choose_none c w worker e now x y is) ∙ from)))
   where
     here : (l : ℕ) → is_among (locks_of w e) l ≡ true → c ≡ l → choosing_from c now (action_of e (seen_under w worker now e c)).parts (side_of c w, None) ≡ Some s →
         chosen_by (action_done l now (action_of e (seen_under w worker now e l)) (side_of l w)).1 ≡ Some u → IsInBucket c a u s.members → distance_of s.line.ridx a ≤ distance_of s.line.ridx b

@@ -14,6 +14,8 @@ pub mod Rest
 pub mod PartRest
 pub mod PartDone
 pub mod ActionFits
+pub mod Given
+pub mod PairDone
 pub mod Steps
 pub mod Untouched
 pub mod Numbered
@@ -26,6 +28,7 @@ pub mod CalendarRules
 pub mod CalendarMoves
 pub mod CalendarParts
 pub mod CalendarPhases
+pub mod CalendarPairs
 pub mod CalendarSteps
 pub mod CalendarStretches
 pub mod CalendarStarts

@@ -1,5 +1,5 @@
 -- How many threads of a list are on a CPU, and what one thread's change does to that.
-use Rattle.std.proofs.Common.{◌≡◌, ℕ, ◌+◌, Bool, true, false, cond, List, [], ◌∷◌, ◌++◌, if◌then◌else◌, refl, sym, ◌∙◌, ap, arith}
+use Rattle.std.proofs.Common.{◌≡◌, ℕ, ◌+◌, ◌<◌, ⊎_elim, Bool, true, false, cond, List, [], ◌∷◌, ◌++◌, if◌then◌else◌, refl, sym, ◌∙◌, ap, arith}
 use Rattle.std.proofs.lemmas.List.{append-nil}
 use Rattle.std.proofs.lemmas.List.Sums.{sum_by-cons}
 use Rattle.ule_score.specs.declared.place.Place.{Place}
@@ -7,6 +7,7 @@ use Rattle.ule_score.specs.declared.record.ThreadRecord.{ThreadRecord}
 use Rattle.ule_model.specs.Places.{is_on}
 use Rattle.ule_model.specs.Tick.{load_of}
 use Rattle.ule_model.specs.World.{Member, is_numbered, with_record}
+use Rattle.ule_members.proofs.Membership.{Has}
 use Rattle.ule_members.proofs.Within.{Within, changed, changed_within}
 
 -- what a thread at this place adds to the load of CPU c
@@ -60,3 +61,14 @@ load-appended_off c ms n off =
   where
     left : 0 + load_of c (ms ++ []) ≡ load_of c ms
     left = let whole : load_of c (ms ++ []) ≡ load_of c ms = ap (load_of c) (append-nil ms) in omega arith
+
+-- a CPU that has a thread on it has a load
+pub has_load : (c : ℕ) (m : Member) (ms : List Member) → Has m ms → is_on c m.place ≡ true → 0 < load_of c ms
+has_load c m [] has on = absurd has
+has_load c m (x ∷ xs) has on =
+    let whole : load_of c (x ∷ xs) ≡ load_at c x.place + load_of c xs = load-cons c x xs in
+    ⊎_elim
+    (λ (here : x ≡ m).
+    let one : load_at c x.place ≡ 1 = ap (λ (z : Member). load_at c z.place) here ∙ ap (λ (b : Bool). cond b 1 0) on in omega arith)
+    (λ (there : Has m xs). let rest : 0 < load_of c xs = has_load c m xs there on in omega arith)
+    has

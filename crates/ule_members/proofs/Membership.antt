@@ -1,8 +1,8 @@
 -- Which elements stand in a list, by recursion on it; and that well made threads are one where they agree.
 use Rattle.std.proofs.Common.{◌≡◌, ℕ, Bool, true, false, cond, List, [], ◌∷◌, ◌++◌, filter, Some, ◌⊎◌, inl, inr, ⊎_elim, refl, sym, ◌∙◌, ap, subst}
-use Rattle.std.specs.List.{AllByRecursion}
+use Rattle.std.specs.List.{AllByRecursion, list_any}
 use Rattle.std.proofs.lemmas.Option.{same_Some, none-some}
-use Rattle.std.proofs.lemmas.Bool.{eqb-true, both_ways, eq-eqb, ne_eqb, cond-true, cond-false}
+use Rattle.std.proofs.lemmas.Bool.{eqb-true, both_ways, eq-eqb, ne_eqb, cond-true, cond-false, or_cases}
 use Rattle.ule_prio.specs.declared.kind.Kind.{Kind}
 use Rattle.ule_model.specs.Places.{waits_in}
 use Rattle.ule_model.specs.WellMade.{AreApart, AllApart, IsWellMade}
@@ -43,6 +43,15 @@ has_filtered p x (y ∷ ys) has = step p x y (p y) refl ys (has_filtered p x ys)
         Has x (cond b (y ∷ filter p ys) (filter p ys)) → Has x (y ∷ ys) × (p x ≡ true)
     step p x y true is ys rest has = ⊎_elim (λ (same : y ≡ x). (inl same, ap p (sym same) ∙ is)) (λ (h : Has x (filter p ys)). (inr (rest h).0, (rest h).1)) has
     step p x y false is ys rest has = (inr (rest has).0, (rest has).1)
+
+-- where some element passes, one that stands in the list does
+pub has_any : {X : Type 0} (p : X → Bool) (xs : List X) → list_any p xs ≡ true → (x : X) × (Has x xs × (p x ≡ true))
+has_any p [] any = absurd (both_ways false refl any)
+has_any p (y ∷ ys) any =
+    ⊎_elim
+    (λ (here : p y ≡ true). (y, (inl refl, here)))
+    (λ (there : list_any p ys ≡ true). let rest = has_any p ys there in (rest.0, (inr rest.1.0, rest.1.1)))
+    (or_cases (p y) (list_any p ys) any)
 
 -- nothing stands in an empty list
 pub has_none : {X : Type 0} (x : X) (xs : List X) → xs ≡ [] → Has x xs → ⊥

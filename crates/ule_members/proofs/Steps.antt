@@ -1,5 +1,5 @@
 -- What the step of each event does to the threads of a world and leaves of the rest: the laws of a step.
-use Rattle.std.proofs.Common.{◌≡◌, ℕ, ◌==◌, ◌%◌, ◌+◌, Bool, true, false, List, [], ◌∷◌, Option, Some, None, is_some, if◌then◌else◌, refl, sym, ◌∙◌, ap, subst}
+use Rattle.std.proofs.Common.{◌≡◌, ℕ, ◌<◌, ◌==◌, ◌%◌, ◌+◌, Bool, true, false, length, List, [], ◌∷◌, Option, Some, None, is_some, if◌then◌else◌, refl, sym, ◌∙◌, ap, subst}
 use Rattle.std.specs.Option.{option_map, option_to_list}
 use Rattle.std.specs.Prelude.{max, min, option_and_then}
 use Rattle.std.proofs.lemmas.Option.{none-some}
@@ -8,12 +8,13 @@ use Rattle.ule_score.specs.declared.place.Place.{Place}
 use Rattle.ule_score.specs.declared.place.Place.TheVariants.{Running, Queued, Asleep, Unborn, Gone, Hand}
 use Rattle.ule_types.specs.Commands.{is_among}
 use Rattle.ule_types.specs.declared.event.Event.{Event}
-use Rattle.ule_types.specs.declared.event.Event.TheVariants.{Wake, Lend, Unlend, Renice, Inherit}
+use Rattle.ule_types.specs.declared.event.Event.TheVariants.{Wake, Move, Lend, Unlend, Renice, Inherit}
+use Rattle.ule_types.specs.declared.event.MoveWhy.{MoveWhy}
 use Rattle.ule_types.specs.declared.event.Reply.{Reply}
 use Rattle.ule_model.specs.Action.{Action, action_done, parts_done}
-use Rattle.ule_model.specs.Actions.{action_of, wake_action, wake_action_at}
+use Rattle.ule_model.specs.Actions.{action_of, move_action, pair_action_of, wake_action, wake_action_at}
 use Rattle.ule_model.specs.ActionStep.{bare_side, named_by, seen_on, seen_under}
-use Rattle.ule_model.specs.Step.{step, step_under_locks}
+use Rattle.ule_model.specs.Step.{pair_done, step, step_under_locks, step_with}
 use Rattle.ule_model.specs.Conditions.{IsPossible}
 use Rattle.ule_model.specs.Events.{Locking, chain, holder_of, limbo, lock_numbers, locking, locks_of, place_of, queue, queues, sought_by, sought_in}
 use Rattle.ule_model.specs.Frames.{LeavesRest, StepIsMade, StepLeavesRest, StepMovesWord, StepTouches, thread_in_hand}
@@ -22,6 +23,9 @@ use Rattle.ule_model.specs.WellMade.{HaveIndexes, IsWellMade, IsWellMadeWorld}
 use Rattle.ule_model.specs.Words.{WordChange, block, change_of, point}
 use Rattle.ule_model.specs.World.{Member, Side, World, current_of, on_side, side_of, standing_of, thread_of}
 use Rattle.ule_members.proofs.ActionFits.{IsFit, event_fits}
+use Rattle.ule_members.proofs.CalendarPlaces.{made_finds}
+use Rattle.ule_members.proofs.Given.{move_sees}
+use Rattle.ule_members.proofs.PairDone.{IsMove, move_fits, move_where, pair_fit_done, pair_indexes, pair_leaves, second_there}
 use Rattle.ule_members.proofs.PartDone.{AreDone, StandsAt, holder_after, none_done, parts_follow}
 use Rattle.ule_members.proofs.PlaceFinds.{thread_at_none, thread_at_within}
 use Rattle.ule_members.proofs.PartRest.{parts_kept}
@@ -31,6 +35,23 @@ use Rattle.ule_members.proofs.Within.{within_thread}
 -- the first of some locks is among them
 pub first_among : (l : ℕ) (ls : List ℕ) → is_among (l ∷ ls) l ≡ true
 first_among l ls = or_left (l == l) (is_among ls l) (eq-eqb l l refl)
+
+-- what two locks make of a world by an event of a worker
+abbrev pub stepped_under_two : ℕ → ℕ → World → ℕ → Event → ℕ → World × Reply
+stepped_under_two a b w worker e now =
+    pair_done a b now (pair_action_of e (seen_on a worker now None (side_of a w)) (seen_on b worker now None (side_of b w))) w
+
+-- what holds of the step under one lock or none, and of that under two, holds of the step
+pub step_by_locks : (P : World × Reply → Type 0) (w : World) (worker : ℕ) (e : Event) (now : ℕ) → P (step_under_locks (locks_of w e) w worker e now) →
+    ((a b : ℕ) → locking e ≡ queues a b → P (stepped_under_two a b w worker e now)) → P (step w worker e now)
+step_by_locks P w worker e now one two = split (locking e) refl
+  where
+    split : (k : Locking) → locking e ≡ k → P (step_with k w worker e now)
+    split (queues a b) is = two a b is
+    split (queue c) is = subst (λ (k : Locking). P (step_under_locks (lock_numbers w.members k) w worker e now)) is one
+    split (chain channel) is = subst (λ (k : Locking). P (step_under_locks (lock_numbers w.members k) w worker e now)) is one
+    split limbo is = subst (λ (k : Locking). P (step_under_locks (lock_numbers w.members k) w worker e now)) is one
+    split (place_of t) is = subst (λ (k : Locking). P (step_under_locks (lock_numbers w.members k) w worker e now)) is one
 
 module _ (w : World) (worker now : ℕ) (made : IsWellMadeWorld w) where
   -- what was done to the threads of the world by an event that was answered so
@@ -86,10 +107,22 @@ module _ (w : World) (worker now : ℕ) (made : IsWellMadeWorld w) where
       by_locks limbo is none = absurd (some_lock 24 [] none)
       by_locks (place_of t) is nowhere = seeking e t none (ap sought_in is)
 
+  -- a move is done
+  move_done : (a b : ℕ) (why : MoveWhy) → b < length w.lines → IsStepDone (Move a b why) (stepped_under_two a b w worker (Move a b why) now)
+  move_done a b why there =
+      pair_fit_done w worker (Move a b why) now a b made refl (move_action why (move_sees w worker now a) (move_sees w worker now b))
+      (move_fits w worker now a b why there (made_finds w.members made.members))
+
   -- what the step of an event does to the threads
   pub step_done : (e : Event) → IsPossible w worker e now → IsStepDone e (step w worker e now)
-  step_done e possible = split (locks_of w e) refl
+  step_done e possible = step_by_locks (IsStepDone e) w worker e now (split (locks_of w e) refl) two
     where
+      two : (a b : ℕ) → locking e ≡ queues a b → IsStepDone e (stepped_under_two a b w worker e now)
+      two a b is =
+          let move : IsMove e a b = move_where e a b is in
+          subst (λ (x : Event). IsStepDone x (stepped_under_two a b w worker x now)) (sym move.event_is)
+          (move_done a b move.why (second_there w e a b is possible.cpus))
+
       split : (ls : List ℕ) → locks_of w e ≡ ls → IsStepDone e (step_under_locks ls w worker e now)
       split [] none =
           subst (λ (o : Option WordChange). AreDone w worker e now o w.members w.members) (sym (unlocked e none)) (none_done w worker e now w.members made.members)
@@ -99,7 +132,9 @@ module _ (w : World) (worker now : ℕ) (made : IsWellMadeWorld w) where
 
 -- what the step of an event leaves
 pub step_leaves_rest : StepLeavesRest
-step_leaves_rest w worker e now = split (locks_of w e) refl
+step_leaves_rest w worker e now =
+    step_by_locks (λ done. LeavesRest w e done.0) w worker e now (split (locks_of w e) refl)
+    (λ a b is. pair_leaves w e a b is now (pair_action_of e (move_sees w worker now a) (move_sees w worker now b)))
   where
     split : (ls : List ℕ) → locks_of w e ≡ ls → LeavesRest w e (step_under_locks ls w worker e now).0
     split [] is = rest_left w e w.members
@@ -109,7 +144,9 @@ step_leaves_rest w worker e now = split (locks_of w e) refl
 
 -- the step of an event leaves the removal indexes those of buckets
 pub step_indexes : (w : World) (worker : ℕ) (e : Event) (now : ℕ) → HaveIndexes w.lines → HaveIndexes (step w worker e now).0.lines
-step_indexes w worker e now indexes = split (locks_of w e)
+step_indexes w worker e now indexes =
+    step_by_locks (λ done. HaveIndexes done.0.lines) w worker e now (split (locks_of w e))
+    (λ a b is. pair_indexes w now a b (pair_action_of e (move_sees w worker now a) (move_sees w worker now b)) indexes)
   where
     split : (ls : List ℕ) → HaveIndexes (step_under_locks ls w worker e now).0.lines
     split [] = indexes
@@ -119,8 +156,9 @@ step_indexes w worker e now indexes = split (locks_of w e)
 
 -- what holds of what an event's action replies by what it sees holds of the reply of its step
 pub step_reply : (P : Reply → Type 0) (w : World) (worker : ℕ) (e : Event) (now : ℕ) →
-    ((l : ℕ) (s : Side) → s.settings ≡ w.settings → (into : Option ℕ) → P ((action_of e (seen_on l worker now (named_by w e) s)).reply into)) → P (step w worker e now).1
-step_reply P w worker e now replies = split (locks_of w e)
+    ((l : ℕ) (s : Side) → s.settings ≡ w.settings → (into : Option ℕ) → P ((action_of e (seen_on l worker now (named_by w e) s)).reply into)) →
+    ((a b : ℕ) → locking e ≡ queues a b → P (stepped_under_two a b w worker e now).1) → P (step w worker e now).1
+step_reply P w worker e now replies moves = step_by_locks (λ done. P done.1) w worker e now (split (locks_of w e)) moves
   where
     split : (ls : List ℕ) → P (step_under_locks ls w worker e now).1
     split [] = replies 0 (bare_side w) refl None

@@ -1,10 +1,10 @@
 -- The unborn threads: each thread that a setup declares unborn is so at the start, and stays so through every event
 -- but its own hatch.
-use Rattle.std.proofs.Common.{◌≡◌, ◌≢◌, ℕ, ◌≤◌, ◌==◌, ◌||◌, pos, Bool, true, false, List, [], ◌∷◌, ◌++◌, flat_map, fold, length, map, nat_le, nat_lt, Option, Some, None, if◌then◌else◌, inl, inr, ⊎_elim, refl, sym, ◌∙◌, ap, subst}
+use Rattle.std.proofs.Common.{◌≡◌, ◌≢◌, ℕ, ◌<◌, ◌≤◌, ◌==◌, ◌||◌, pos, Bool, true, false, List, [], ◌∷◌, ◌++◌, flat_map, fold, length, map, nat_lt, Option, Some, None, if◌then◌else◌, inl, inr, ⊎_elim, refl, sym, ◌∙◌, ap, subst}
 use Rattle.std.specs.List.{list_all}
 use Rattle.std.specs.Option.{option_map}
 use Rattle.std.specs.Prelude.{IfSome, ◌⊎◌}
-use Rattle.std.proofs.lemmas.Bool.{and_parts, both_ways, eq-eqb, false_from_ne_true, false≢true, or_parts}
+use Rattle.std.proofs.lemmas.Bool.{both_ways, eq-eqb, false_from_ne_true, false≢true, or_parts}
 use Rattle.std.proofs.lemmas.List.{append-nil, append_assoc}
 use Rattle.ule_score.proofs.ChangeLaws.{change_number}
 use Rattle.ule_prio.specs.declared.kind.Kind.{Kind}
@@ -17,19 +17,20 @@ use Rattle.ule_score.specs.declared.record.ThreadRecord.{ThreadRecord}
 use Rattle.ule_types.proofs.Repeats.{distinct_apart}
 use Rattle.ule_types.specs.Commands.{forked_by, is_among}
 pub use Rattle.ule_types.specs.Needs.{hatched_by}
-use Rattle.ule_types.specs.Rules.{budget_from, is_distinct}
+use Rattle.ule_types.specs.Rules.{is_distinct}
 use Rattle.ule_types.specs.declared.event.Event.{Event}
 use Rattle.ule_types.specs.declared.event.Event.TheVariants as event
+use Rattle.ule_types.specs.declared.event.MoveWhy.{MoveWhy}
 use Rattle.ule_threads.specs.declared.standing.Standing.{Standing}
 use Rattle.ule_types.specs.declared.event.Reply.{Reply}
 use Rattle.ule_types.specs.declared.event.Reply.TheVariants.{Bedded, Buried, Dropped, Exited, Hatched, Returned, Unmarked}
 use Rattle.ule_types.specs.declared.setup.Setup.{Setup}
 use Rattle.ule_model.specs.Action.{Part, answers, choose, insert, leaving, move, note, part_done, parts_done}
-use Rattle.ule_model.specs.Actions.{Seen, action_of, change_action, change_action_at, fork_action, give_way_action, go_action, land_action, leave_action, note_action, requeue_action, tick_action, unborn_action, wake_action, wake_action_at}
+use Rattle.ule_model.specs.Actions.{Seen, action_of, change_action, change_action_at, fork_action, give_way_action, go_action, land_action, leave_action, move_action, note_action, requeue_action, tick_action, unborn_action, wake_action, wake_action_at}
 use Rattle.ule_model.specs.ActionStep.{seen_under}
 use Rattle.ule_model.specs.Choice.{choice_of}
 use Rattle.ule_model.specs.Conditions.{IsPossible}
-use Rattle.ule_model.specs.Events.{holder_of, is_unborn, is_unborn_thread, locks_of}
+use Rattle.ule_model.specs.Events.{holder_of, is_unborn, is_unborn_thread, locking, locks_of, queues}
 use Rattle.ule_model.specs.Landing.{current_record}
 use Rattle.ule_model.specs.Places.{waits_on}
 use Rattle.ule_model.specs.Actions.{unborn_answer}
@@ -40,13 +41,16 @@ use Rattle.ule_model.specs.Switch.{choosing_next, is_preemption, is_unasked, run
 use Rattle.ule_model.specs.WellMade.{IsWellMade, IsWellMadeWorld}
 use Rattle.ule_model.specs.World.{Member, Side, World, current_of, is_numbered, moved_to, side_of, standing_of, thread_of, with_record}
 use Rattle.ule_members.proofs.ActionFits.{event_fits}
+use Rattle.ule_members.proofs.CalendarPlaces.{FindsEach, made_finds}
+use Rattle.ule_members.proofs.Given.{each_move, move_sees}
 use Rattle.ule_members.proofs.Moves.{choice_stands, within_has}
-use Rattle.ule_members.proofs.PartDone.{Follows, IsReady, Known, Needs, StandsAt, idle_after, known_after, part_step}
+use Rattle.ule_members.proofs.PairDone.{IsMove, move_fits, move_where, second_ready, second_there, side_ready, takes_first, takes_second, world_between}
+use Rattle.ule_members.proofs.PartDone.{Follows, IsReady, Known, Needs, StandsAt, idle_after, known_after, known_after_all, part_step}
 use Rattle.ule_members.proofs.Reach.{held_found, place_from_hand}
 use Rattle.ule_members.proofs.Rest.{index_of}
 use Rattle.ule_members.proofs.Setups.{setup_specs}
 use Rattle.ule_members.proofs.Starts.{declared_laid, queued_numbers}
-use Rattle.ule_members.proofs.Steps.{first_among}
+use Rattle.ule_members.proofs.Steps.{first_among, step_by_locks, stepped_under_two}
 use Rattle.ule_members.proofs.Threads.{thread_of-moved_other, thread_of-queued_other, thread_of_within}
 
 -- thread t is there and unborn
@@ -243,11 +247,37 @@ event_spares w worker (event.Exit c) now l t possible other = leave_spares t ran
 event_spares w worker (event.Bury u) now l t possible other = go_spares t u Gone Buried (option_map standing_of (thread_of u w.members)) (held_born w worker t u possible.hand)
 event_spares w worker (event.Inherit u run) now l t possible other = change_spares t (change.Inherit run) u (option_map standing_of (thread_of u w.members)) (seen_under w worker now (event.Inherit u run) l)
 
+-- every move spares thread t
+move_spares : (w : World) (worker now a b t : ℕ) (why : MoveWhy) → FindsEach w.members →
+    let p = move_action why (move_sees w worker now a) (move_sees w worker now b) in AreSpared t p.from × AreSpared t p.to
+move_spares w worker now a b t why finds =
+    each_move w worker now a b (λ p. AreSpared t p.from × AreSpared t p.to) why finds (tt, tt) (λ r k l apart at. ((inl refl, tt), (tt, (refl, (tt, tt)))))
+
+-- an unborn thread stays so through a move
+move_leaves_unborn : (w : World) (worker now a b t : ℕ) (why : MoveWhy) → IsWellMadeWorld w → b < length w.lines → IsStillUnborn t w.members →
+    IsStillUnborn t (stepped_under_two a b w worker (event.Move a b why) now).0.members
+move_leaves_unborn w worker now a b t why made there unborn =
+    let e = event.Move a b why in
+    let p = move_action why (move_sees w worker now a) (move_sees w worker now b) in
+    let fit = move_fits w worker now a b why there (made_finds w.members made.members) in
+    let spared = move_spares w worker now a b t why (made_finds w.members made.members) in
+    parts_spare w worker e now b t p.to (known_after_all p.from (λ u place. StandsAt u place w.members)) ⊥ (side_of b (world_between a now p w)) None (takes_second w e a b refl)
+    (second_ready w worker e now a b made refl p fit) fit.to spared.1
+    (parts_spare w worker e now a t p.from (λ u place. StandsAt u place w.members) (current_of a w.members ≡ None) (side_of a w) None (takes_first w e a b refl)
+    (side_ready w worker e now a made) fit.from spared.0 unborn)
+
 -- an unborn thread stays so through every event but its own hatch
 pub unborn_stays : (w : World) (worker : ℕ) (e : Event) (now t : ℕ) → IsWellMadeWorld w → IsPossible w worker e now → length w.lines ≤ 16 →
     is_among (hatched_by e) t ≡ false → IsStillUnborn t w.members → IsStillUnborn t (step w worker e now).0.members
-unborn_stays w worker e now t made possible few other unborn = split (locks_of w e) refl
+unborn_stays w worker e now t made possible few other unborn =
+    step_by_locks (λ done. IsStillUnborn t done.0.members) w worker e now (split (locks_of w e) refl) two
   where
+    two : (a b : ℕ) → locking e ≡ queues a b → IsStillUnborn t (stepped_under_two a b w worker e now).0.members
+    two a b is =
+        let move : IsMove e a b = move_where e a b is in
+        subst (λ (x : Event). IsStillUnborn t (stepped_under_two a b w worker x now).0.members) (sym move.event_is)
+        (move_leaves_unborn w worker now a b t move.why made (second_there w e a b is possible.cpus) unborn)
+
     split : (ls : List ℕ) → locks_of w e ≡ ls → IsStillUnborn t (step_under_locks ls w worker e now).0.members
     split [] is = unborn
     split (l ∷ ls) is =

@@ -39,7 +39,7 @@ step_with locks w worker e now = step_under_locks (lock_numbers w.members locks)
 
 -- the step
 abbrev pub step : World → ℕ → Event → ℕ → World × Reply
-step w worker e now = step_under_locks (lock_numbers w.members (locking e)) w worker e now
+step w worker e now = step_with (locking e) w worker e now
 
 -- ---- the step under a lock
 

@@ -99,7 +99,7 @@ value_step_with (queues a b) worker e now v = value_pair_step a b worker e now v
 value_step_with locks worker e now v = value_step_at (lock_for v.values locks) worker e now v
 
 abbrev pub value_step : WorldValue → ℕ → Event → ℕ → WorldValue × Reply
-value_step v worker e now = value_step_at (lock_for v.values (locking e)) worker e now v
+value_step v worker e now = value_step_with (locking e) worker e now v
 
 -- ---- final lines
 
