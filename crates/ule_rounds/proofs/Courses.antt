@@ -1,5 +1,5 @@
 -- Courses: where a program finds its next item, what it keeps on the way, and how its items run out.
-use Rattle.std.proofs.Common.{◌≡◌, ℕ, ◌+◌, ◌≤◌, true, List, [], ◌∷◌, ◌++◌, flat_map, sum_by, Option, Some, None, IfSome, refl, sym, ◌∙◌, ap, subst, arith}
+use Rattle.std.proofs.Common.{◌≡◌, ℕ, ◌+◌, ◌≤◌, true, List, [], ◌∷◌, ◌++◌, flat_map, Option, Some, None, IfSome, refl, sym, ◌∙◌, ap, subst, arith}
 use Rattle.std.specs.List.{list_all}
 use Rattle.std.proofs.lemmas.Bool.{and_parts}
 use Rattle.std.proofs.lemmas.List.Sums.{sum_by-cons}
@@ -27,6 +27,7 @@ use Rattle.ule_program.specs.declared.stage.Next.TheVariants.{Sees}
 use Rattle.ule_program.specs.declared.stage.Purpose.{Purpose}
 use Rattle.ule_program.specs.declared.stage.Purpose.TheVariants.{ToLand}
 use Rattle.ule_program.proofs.ProgramLaws.{allows_any, item_fits, item_seeks, to_after, to_begun}
+pub use Rattle.ule_rounds.specs.Charges.{greatest_in}
 use Rattle.ule_model.specs.Legal.{Performs, Timed, acts, advances, amount_in, stays}
 
 -- a stage without an item is the end of its command
@@ -121,10 +122,6 @@ item_goes_on [] own i is = ap (λ o. stepped [] o (once_given own)) is
 item_goes_on (c ∷ cs) own i is = ap (λ o. or_else (stepped (c ∷ cs) o (once_given own)) (next_from cs (begun c (once_given own)))) is
 
 -- ---- what a course keeps
-
--- the greatest number of items of some commands
-abbrev pub greatest_in : ℕ → ℕ → List Command → ℕ
-greatest_in cpus worker script = sum_by (λ c. greatest_of c worker cpus) script
 
 -- the greatest number of items that a worker still has
 abbrev pub left_from : ℕ → List Command → Own → ℕ
