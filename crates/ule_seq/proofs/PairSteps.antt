@@ -1,5 +1,5 @@
 -- The step of a move is what the calls of its arm make of the two CPUs and of the hand.
-use Rattle.std.proofs.Common.{◌≡◌, ℕ, Bool, true, false, ◌==◌, not, if◌then◌else◌, Option, Some, None, refl, sym, ◌∙◌, ap, option_and_then}
+use Rattle.std.proofs.Common.{◌≡◌, ℕ, Bool, true, false, if◌then◌else◌, Option, Some, None, refl, sym, ◌∙◌, ap, option_and_then}
 use Rattle.std.specs.Prelude.{IsSome, IsTrue}
 use Rattle.ule_prio.specs.declared.kind.Kind.{Kind}
 use Rattle.ule_prio.specs.declared.kind.Kind.TheVariants.{Real, Batch, Idle}
@@ -9,7 +9,7 @@ use Rattle.ule_threads.specs.declared.standing.Standing.{Standing}
 use Rattle.ule_types.specs.declared.event.MoveWhy.{MoveWhy}
 use Rattle.ule_types.specs.declared.event.Reply.{Reply}
 use Rattle.ule_model.specs.Actions.{Seen, given_action, is_refused, refused_action}
-use Rattle.ule_model.specs.ActionStep.{PairStepped, Stepped, seen_in}
+use Rattle.ule_model.specs.ActionStep.{PairStepped, seen_in}
 use Rattle.ule_model.specs.ActionValue.{parts_on_cpu}
 use Rattle.ule_model.specs.CpuChange.{kind_queued, value_removed, value_removed_from}
 use Rattle.ule_model.specs.CpuNumbers.{is_movable}

@@ -1,5 +1,5 @@
 -- What a world's fields are once the values of two locks and one hand are written.
-use Rattle.std.proofs.Common.{◌≡◌, ◌≢◌, ℕ, ◌<◌, false, List, slice_get, slice_index_or, slice_set, Option, Some, None, get_or-set_other, refl, sym, ◌∙◌, ap, subst}
+use Rattle.std.proofs.Common.{◌≡◌, ◌≢◌, ℕ, false, List, slice_get, slice_index_or, slice_set, Option, Some, None, get_or-set_other, refl, sym, ◌∙◌, ap, subst}
 use Rattle.std.specs.Vec.{with_item}
 use Rattle.std.proofs.lemmas.List.{set-set, set_comm}
 use Rattle.std.proofs.lemmas.Option.{get_or_from_slice_get, none-some, same_Some, slice_get-get_or}

@@ -17,7 +17,7 @@ use Rattle.ule_model.specs.CpuChange.{forked_reply, value_forked}
 use Rattle.ule_model.specs.CpuValue.{CpuValue, Taken, takes_over_in, value_added}
 use Rattle.ule_model.specs.Insertion.{bucket_of}
 use Rattle.ule_model.specs.declared.insertion.Insertion.TheVariants.{Ordinary}
-use Rattle.ule_model.specs.LockValue.{LockValue, queue, chain, limbo}
+use Rattle.ule_model.specs.LockValue.{queue, chain, limbo}
 use Rattle.ule_model.specs.Actions.{gone_answer, move_action, unborn_answer, woken_reply}
 use Rattle.ule_model.specs.Step.{pair_on_cpus}
 use Rattle.ule_types.specs.declared.event.MoveWhy.{MoveWhy}

@@ -1,7 +1,5 @@
 -- The step is that under one lock or two; it is then a step of each world that the scheduler shows.
-use Rattle.std.proofs.Common.{◌≡◌, ap, ◌∙◌}
-use Rattle.ule_model.specs.WorldValue.{WorldValue, value_step}
-use Rattle.ule_types.specs.declared.event.Reply.{Reply}
+use Rattle.ule_model.specs.WorldValue.{value_step}
 use Rattle.ule_laws.proofs.WorldSteps.{value_step_shown, value_step_steps}
 use Rattle.ule_seq.proofs.PairWritten.{done_is}
 use Rattle.ule_seq.proofs.world.World.step.Goals as goal

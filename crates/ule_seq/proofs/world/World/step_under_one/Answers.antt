@@ -2,7 +2,6 @@
 use Rattle.std.proofs.Common.{◌≡◌, sym, ap}
 use Rattle.ule_model.specs.WorldValue.{WorldValue, value_step}
 use Rattle.ule_types.specs.declared.event.Reply.{Reply}
-use Rattle.ule_types.specs.declared.event.Reply.TheVariants.{Nothing}
 use Rattle.ule_model.specs.Events.{locking}
 use Rattle.ule_laws.proofs.WorldSteps.{none_is_step, value_step_shown}
 use Rattle.ule_seq.specs.Worlds.{world_value}
