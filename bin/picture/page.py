@@ -7,7 +7,7 @@ from .links import LINKS
 from .saying import EVENT_SAYS, REPLY_SAYS
 from .scene import folds_of, label_of, short_of, style_of, words_of
 from .story import MARKS
-from .styles import EDGE, FAINT, FAINT_WORDS, LINE, LINK_LOOKS, LOAD, MARK_COLOURS, PATTERN_LINES, RUNNING_TINTS, STATES
+from .styles import EDGE, FAINT, FAINT_WORDS, GROUP_COLOURS, LINE, LINK_LOOKS, LOAD, MARK_COLOURS, PATTERN_LINES, RUNNING_TINTS, STATES
 from .svg import patterns, tag
 from .waits import waits_of
 
@@ -43,7 +43,8 @@ def about(scene):
     window = "%d entries" % scene.count
     if (scene.first, scene.last) != (1, scene.count):
         window = "entries %d to %d of %d" % (scene.first, scene.last, scene.count)
-    return "%s, CPUs: %d, threads: %d" % (window, len(scene.cpus), len(scene.threads))
+    groups = "".join("; " + group.says() for group in scene.groups)
+    return "%s, CPUs: %d, threads: %d%s" % (window, len(scene.cpus), len(scene.threads), groups)
 
 
 def legend():
@@ -112,7 +113,7 @@ def data_of(scene, axis):
         "workers": [entry.worker for entry in scene.entries],
         "marks": [names.get(mark, -1) for mark in scene.marks],
         "lines": [entry.line for entry in scene.entries],
-        "cpus": [cpu_row(row, load) for row, load in zip(scene.cpus, scene.loads)],
+        "cpus": [cpu_row(row, load, scene.groups) for row, load in zip(scene.cpus, scene.loads)],
         "threads": threads,
         "places": [[style_of(place) or "", short_of(place), words_of(place)] for place in places],
         "links": scene.links,
@@ -122,14 +123,15 @@ def data_of(scene, axis):
     }
 
 
-def cpu_row(row, load):
-    """A CPU, with its current threads and its loads."""
+def cpu_row(row, load, groups):
+    """A CPU, with its current threads, its loads, and how deep the groups lie that have it."""
     return {
         "number": row.number,
         "starts": row.starts,
         "pieces": row.pieces,
         "loadStarts": load.starts,
         "loads": load.pieces,
+        "groups": [group.depth for group in groups if row.number in group.cpus],
         "final": row.final,
     }
 
@@ -153,6 +155,7 @@ def looks():
         "tints": RUNNING_TINTS,
         "marks": [[name, letter, *MARK_COLOURS[name], says] for name, (letter, says) in MARKS.items()],
         "load": LOAD,
+        "groups": GROUP_COLOURS,
         "line": LINE,
         "edge": EDGE,
         "faint": FAINT,

@@ -1,6 +1,7 @@
 """A window of a trace as it is drawn: lanes in order, pieces with their words, and two axes."""
 from typing import Dict, List, NamedTuple, Optional, Tuple
 
+from .groups import Group
 from .lanes import NOBODY, NOT_TOLD
 from .links import Link
 from .reader import Entry
@@ -37,6 +38,7 @@ class Scene(NamedTuple):
     threads: List[Row]
     marked: Dict[int, List[int]]
     links: List[Link]
+    groups: List[Group]
 
     def numbered(self):
         """The entries with their numbers and marks."""
@@ -53,8 +55,8 @@ class Scene(NamedTuple):
         return self.span[0] if coordinate < self.first else self.span[1]
 
 
-def scene_of(trace, name, first, last):
-    """The scene of a window of a trace."""
+def scene_of(trace, name, first, last, groups=()):
+    """The scene of a window of a trace, with these groups of CPUs."""
     story = story_of(trace)
 
     def row(number, lane, finals):
@@ -78,6 +80,7 @@ def scene_of(trace, name, first, last):
         [row(thread, lane, trace.threads) for thread, lane in story.threads.items()],
         {thread: [n for n in story.marked.get(thread, []) if first <= n <= last] for thread in story.threads},
         [link for link in story.links if first <= link.begin and link.end <= last],
+        list(groups),
     )
 
 

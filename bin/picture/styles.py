@@ -56,6 +56,9 @@ LINK_LOOKS = {
     "switch": ("#B0306A", "4 2"),
 }
 
+# the bars of groups of CPUs by their depth
+GROUP_COLOURS = ("#000000", "#D55E00", "#0072B2", "#CC79A7")
+
 LOAD = "#0072B2"
 LINE = "#4D4D4D"
 EDGE = "#7A7A7A"

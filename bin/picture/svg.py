@@ -6,7 +6,7 @@ from .links import LINKS
 from .saying import says
 from .scene import label_of, runner_words, short_of, stretches, style_of, words_of
 from .story import MARKS
-from .styles import EDGE, FAINT, FAINT_WORDS, LINE, LINK_LOOKS, LOAD, MARK_COLOURS, PATTERN_LINES, STATES, tint_of
+from .styles import EDGE, FAINT, FAINT_WORDS, GROUP_COLOURS, LINE, LINK_LOOKS, LOAD, MARK_COLOURS, PATTERN_LINES, STATES, tint_of
 
 GUTTER = 118
 WIDTH = 960
@@ -159,6 +159,13 @@ class Drawing:
                 self.mark(begin, mark, self.y + 8)
         self.y += STRIP
 
+    def bars(self, cpu, top, height):
+        """The bars of the groups that have a CPU, left of its lane, the outermost leftmost."""
+        for group in self.scene.groups:
+            if cpu in group.cpus:
+                at = group.depth - 1
+                self.add(titled(group.says(), tag("rect", x=2 * at, y=top, width=1.5, height=height, fill=GROUP_COLOURS[at])))
+
     def runs(self, row):
         """What a CPU runs."""
         self.name("CPU %d" % row.number, self.y + 15, font_weight="bold")
@@ -269,9 +276,11 @@ def svg_text(scene, axis):
     drawing = Drawing(scene, axis)
     drawing.ruler()
     for row, load in zip(scene.cpus, scene.loads):
+        top = drawing.y
         drawing.strip(row.number)
         drawing.runs(row)
         drawing.band(load)
+        drawing.bars(row.number, top, drawing.y - top - GAP)
     for row in scene.threads:
         drawing.thread(row)
     drawing.folds()

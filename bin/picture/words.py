@@ -2,13 +2,14 @@
 import argparse
 import os
 
+from .groups import NotGroups, groups_in
 from .reader import NotATrace, read_trace
 from .scene import EntryAxis, TickAxis, folds_of, scene_of
 
 STANDARD_INPUT, STANDARD_OUTPUT, STANDARD_ERROR = 0, 1, 2
 NO_PICTURE, WRONG_WORDS = 1, 2
 
-USAGE = "usage: ule-picture [--perfetto | --svg] [--ticks] [--from K] [--to K] [FILE]"
+USAGE = "usage: ule-picture [--perfetto | --svg] [--ticks] [--from K] [--to K] [--scenario FILE] [FILE]"
 ABOUT = """
 Reads a trace, from FILE or from standard input, and writes a picture of it to standard output.
 
@@ -19,6 +20,9 @@ Reads a trace, from FILE or from standard input, and writes a picture of it to s
               a long time without an entry is folded, but not in JSON
   --from K    draw from entry K on
   --to K      draw up to entry K
+  --scenario FILE
+              draw the groups of CPUs of the scenario in FILE too: a bar for each group along its CPUs,
+              left of their lanes, the outermost leftmost; not in JSON
   --help      write this page
 
 The status is 0, or 1 where there is no picture, and 2 where the words are wrong.
@@ -53,6 +57,7 @@ def asked_by(arguments):
     words.add_argument("--ticks", action="store_true")
     words.add_argument("--from", dest="first", type=entry_number, default=1)
     words.add_argument("--to", dest="last", type=entry_number, default=65_536)
+    words.add_argument("--scenario")
     words.add_argument("--help", action="store_true")
     words.add_argument("file", nargs="?", default="-")
     asked = words.parse_args(arguments)
@@ -67,6 +72,14 @@ def trace_in(file):
         return read_trace(source.read())
 
 
+def groups_of(file):
+    """The groups of CPUs of the scenario in a file, or none where no file is named."""
+    if file is None:
+        return []
+    with open(file, "rb") as source:
+        return groups_in(source.read())
+
+
 def name_of(file):
     """The name of a file in a picture, with `?` for what can't be printed."""
     name = "standard input" if file == "-" else os.path.basename(file)
@@ -78,7 +91,7 @@ def text_of(asked, trace):
     last = min(asked.last, len(trace.entries))
     if asked.first > max(last, 1):
         raise WrongWords("no entry is from %d on; the trace has %d" % (asked.first, len(trace.entries)))
-    scene = scene_of(trace, name_of(asked.file), asked.first, last)
+    scene = scene_of(trace, name_of(asked.file), asked.first, last, groups_of(asked.scenario))
     if asked.perfetto:
         from .chrome import chrome_text
 
@@ -118,7 +131,7 @@ def main(arguments):
     except WrongWords as wrong:
         say("%s; %s" % (wrong, USAGE))
         return WRONG_WORDS
-    except NotATrace as fault:
+    except (NotATrace, NotGroups) as fault:
         say(fault)
     except BrokenPipeError:
         pass

@@ -33,7 +33,16 @@ function runnerLook(thread) {
   return { fill: tintOf(thread), plain: tintOf(thread), words: `thread ${thread}` };
 }
 
+// The bars of the groups that have a CPU, left of its lane, the outermost leftmost.
+function drawGroups(frame, cpu, y) {
+  for (const depth of cpu.groups) {
+    frame.context.fillStyle = scene.looks.groups[depth - 1];
+    frame.context.fillRect(2 * (depth - 1), y, 1.5, CPU_HEIGHT - 10);
+  }
+}
+
 function drawCpu(frame, cpu, y) {
+  drawGroups(frame, cpu, y);
   drawStrip(frame, performed.get(cpu.number), y);
   drawPieces(frame, cpu.starts, cpu.pieces, y + STRIP, scene.looks.tints, runnerLook, []);
   drawLoad(frame, cpu, y + STRIP + BAR);
