@@ -5,5 +5,7 @@ pub mod PairSteps
 pub mod PairWritten
 pub mod WorldLaws
 pub mod StartingLaws
+pub mod StepPromises
+pub mod RefusalLaws
 pub mod FinalLaws
 pub mod PlayLaws

@@ -1,10 +1,11 @@
-ghost use Rattle.std.specs.Prelude.{◌≡◌, ◌<◌, Some, None, IfSome, IsNone, option_and_then, slice_get};
+ghost use Rattle.std.specs.Prelude.{◌≡◌, true, ◌<◌, Some, None, IfSome, IsNone, option_and_then, slice_get};
 ghost use Rattle.ule_model.specs.LockValue.{queue};
 ghost use Rattle.ule_model.specs.Events.{locking, sought_by};
 ghost use Rattle.ule_model.specs.WorldValue.{CanStep, IsShown, Steps, holder_in, lock_for, lock_with, value_step};
 ghost use Rattle.ule_seq.specs.Hands.{is_held};
 ghost use Rattle.ule_seq.specs.Locks.{two_locks};
 ghost use Rattle.ule_seq.specs.Outcomes.{queue_line};
+ghost use Rattle.ule_seq.specs.Promises.{KeepsPromises, is_refusal};
 ghost use Rattle.ule_seq.specs.Readiness.{Readies, ready_by, ready_in};
 
 use crate::hand::Hand;
@@ -62,14 +63,18 @@ impl World {
     /// sequential scheduler. It needs a world that this value shows and in which the worker can
     /// perform the event: `ready` answers `Yes`, the threads and CPUs that the event names are
     /// there, the hand is as the event needs it, and the time, 20,000 to 2^36 - 1, is no earlier
-    /// than what is noted of the threads under the event's locks and in the hand.
+    /// than what is noted of the threads under the event's locks and in the hand. A reply that is a
+    /// refusal leaves everything as it was.
     pub fn step(&mut self, worker: u8, e: &Event, now: u64) -> Reply
         requires { CanStep self.old worker e.now now }
         ensures value { self.new ≡ (value_step self.old worker e.now now).0 }
         ensures reply { result ≡ (value_step self.old worker e.now now).1 }
         ensures steps { Steps self.old worker e.now now self.new result }
         ensures shown { IsShown self.new }
+        ensures refused { is_refusal e.now result ≡ true → self.new ≡ self.old }
+        ensures promises { KeepsPromises self.old (record { worker = worker; event = e.now; now = now; reply = result }) }
     {
+        let _ = &self.settings; // so that what the world keeps is known
         match two_locks(e) {
             Some((a, b)) => self.step_under_both(worker, a, b, e, now),
             None => self.step_under_one(worker, e, now),

@@ -1,7 +1,11 @@
 -- The step is that under one lock or two; it is then a step of each world that the scheduler shows.
-use Rattle.ule_model.specs.WorldValue.{value_step}
+use Rattle.std.proofs.Common.{IsTrue, subst}
+use Rattle.ule_model.specs.WorldValue.{WorldValue, value_step}
+use Rattle.ule_score.specs.Settings.{are_settings}
 use Rattle.ule_laws.proofs.WorldSteps.{value_step_shown, value_step_steps}
 use Rattle.ule_seq.proofs.PairWritten.{done_is}
+use Rattle.ule_seq.proofs.RefusalLaws.{refusal_leaves}
+use Rattle.ule_seq.proofs.StepPromises.{promises_kept}
 use Rattle.ule_seq.proofs.world.World.step.Goals as goal
 
 pub returns-in-Some-clause-steps : goal.returns-in-Some-clause-steps
@@ -23,3 +27,21 @@ pub returns-in-None-clause-shown : goal.returns-in-None-clause-shown
 returns-in-None-clause-shown c =
     value_step_shown c.args.self.now c.args.worker c.args.e.now c.args.now (c.step_under_one.new.self, c.step_under_one.result)
     (done_is c.step_under_one.new.self c.step_under_one.result (value_step c.args.self.now c.args.worker c.args.e.now c.args.now) c.step_under_one.ensures.value c.step_under_one.ensures.reply) c.requires
+
+pub returns-in-Some-clause-refused : goal.returns-in-Some-clause-refused
+returns-in-Some-clause-refused c =
+    refusal_leaves c.args.self.now c.step_under_both.new.self c.args.worker c.args.e.now c.args.now c.step_under_both.result c.step_under_both.ensures.value c.step_under_both.ensures.reply
+
+pub returns-in-Some-clause-promises : goal.returns-in-Some-clause-promises
+returns-in-Some-clause-promises c =
+    promises_kept c.args.self.now c.step_under_both.new.self (record { worker = c.args.worker; event = c.args.e.now; now = c.args.now; reply = c.step_under_both.result })
+    (subst (λ (v : WorldValue). IsTrue (are_settings v.settings)) c.self.view_is c.self.invariant.settings) (returns-in-Some-clause-steps c)
+
+pub returns-in-None-clause-refused : goal.returns-in-None-clause-refused
+returns-in-None-clause-refused c =
+    refusal_leaves c.args.self.now c.step_under_one.new.self c.args.worker c.args.e.now c.args.now c.step_under_one.result c.step_under_one.ensures.value c.step_under_one.ensures.reply
+
+pub returns-in-None-clause-promises : goal.returns-in-None-clause-promises
+returns-in-None-clause-promises c =
+    promises_kept c.args.self.now c.step_under_one.new.self (record { worker = c.args.worker; event = c.args.e.now; now = c.args.now; reply = c.step_under_one.result })
+    (subst (λ (v : WorldValue). IsTrue (are_settings v.settings)) c.self.view_is c.self.invariant.settings) (returns-in-None-clause-steps c)
