@@ -1,5 +1,5 @@
 -- Worked texts, by computing with the definitions: what is accepted, and each reason with the line that it is told of.
-use Rattle.std.proofs.Common.{◌≡◌, ℕ, List, [], ◌∷◌, ◌++◌, codes, replicate, true, refl, Option, Some, None, pos}
+use Rattle.std.proofs.Common.{◌≡◌, ℕ, List, [], ◌∷◌, ◌++◌, codes, replicate, true, refl, Some, None, pos}
 use Rattle.std.specs.Prelude.{Result, Ok, Err}
 use Rattle.std.specs.List.{flat_map}
 use Rattle.ule_types.specs.declared.command.Command.{Command}

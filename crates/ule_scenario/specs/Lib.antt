@@ -14,6 +14,8 @@ pub mod WordsKept
 pub mod Marks
 pub mod DraftView
 pub mod Given
+pub mod FirstLine
+pub mod LoneCommand
 pub mod TextKept
 pub mod FedKept
 pub mod ReaderValue

@@ -12,6 +12,7 @@ pub mod fed;
 mod feed;
 mod judge;
 pub mod line;
+mod lone;
 pub mod name;
 mod number;
 pub mod reader;
