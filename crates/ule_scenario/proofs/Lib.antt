@@ -12,4 +12,5 @@ pub mod Passing
 pub mod Sound
 pub mod Kept
 pub mod Feedings
+pub mod Fronts
 mod ScenarioRows

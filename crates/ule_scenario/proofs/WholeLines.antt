@@ -1,9 +1,10 @@
 -- A whole line of a text at once.
-use Rattle.std.proofs.Common.{◌≡◌, ℕ, zero, suc, ◌+◌, ◌<◌, ◌≤◌, ◌==◌, Bool, false, List, [], ◌∷◌, ◌++◌, length, take, drop, fold, get_or, refl, sym, ap, ◌∙◌, append_assoc, arith, Some}
+use Rattle.std.proofs.Common.{◌≡◌, ℕ, zero, suc, ◌+◌, ◌<◌, ◌≤◌, ◌==◌, Bool, true, false, cond, List, [], ◌∷◌, ◌++◌, length, take, drop, fold, get_or, refl, sym, ap, ◌∙◌, append_assoc, arith, Some, None}
 use Rattle.std.specs.Prelude.{nat_lt}
-use Rattle.std.specs.List.{list_any, position}
+use Rattle.std.specs.List.{list_any, position, position_or_len}
 use Rattle.std.proofs.lemmas.Bool.{or_parts, eqb-true, ltb-false}
-use Rattle.std.proofs.lemmas.List.{append-nil, take-append-drop, drop_more}
+use Rattle.std.proofs.lemmas.List.{append-nil, take-append-drop, take_all, drop_more}
+use Rattle.std.proofs.lemmas.List.Sums.{fails_before_first}
 use Rattle.std.proofs.lemmas.List.Quantifiers.{position-Some}
 use Rattle.std.proofs.lemmas.Grind.{fold-append}
 use Rattle.ule_scenario.specs.FirstLine.{is_newline, IsCut}
@@ -34,6 +35,22 @@ cut_at_first text n found =
   where
     by_first : (xs : List ℕ) (x : ℕ) (ys : List ℕ) → xs ≡ x ∷ ys → x ≡ 10 → xs ≡ 10 ∷ drop 1 xs
     by_first xs x ys e f = rw (e, f) refl
+
+-- a text that has no first newline
+pub cut_nowhere : (text : List ℕ) → position is_newline text ≡ None → list_any is_newline text ≡ false
+cut_nowhere text none =
+    let past = ltb-false (position_or_len is_newline text) (length text) (cond_none _ _ none) in
+    let all : take (length text) text ≡ text = take_all (length text) text (omega arith) in
+    ap (list_any is_newline) (sym all) ∙ none_before is_newline text (length text) (λ k below. fails_before_first is_newline text k 0 (omega (arith, past, below))) (omega arith)
+  where
+    cond_none : (b : Bool) (x : ℕ) → cond b (Some x) None ≡ None → b ≡ false
+    cond_none true x e = cc
+    cond_none false x e = refl
+
+-- some lines, one more, and what is behind it
+pub lines_more : (text done rest line behind : List ℕ) → done ++ rest ≡ text → IsCut rest line behind → (done ++ (line ++ 10 ∷ [])) ++ behind ≡ text
+lines_more text done rest line behind whole next =
+    append_assoc done (line ++ 10 ∷ []) behind ∙ ap (λ (l : List ℕ). done ++ l) (append_assoc line (10 ∷ []) behind ∙ sym next.whole) ∙ whole
 
 -- bytes that are no newline stand behind those of the line
 line_begun : (s : TextRead) (line : List ℕ) → list_any is_newline line ≡ false → fold after_byte s line ≡ record { told = s.told; line = s.line ++ line }

@@ -22,3 +22,4 @@ pub mod ReaderValue
 pub mod ReaderKept
 pub mod ReaderView
 pub mod Feeding
+pub mod Front

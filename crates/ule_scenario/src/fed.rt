@@ -1,5 +1,5 @@
 // The bytes of a text so far.
-ghost use Rattle.std.specs.Prelude.{◌≡◌, ◌<◌, ◌≤◌, ◌+◌, ℕ, length, false, List, [], ◌∷◌, ◌++◌, position, IfSome, IfOk, OnOk};
+ghost use Rattle.std.specs.Prelude.{◌≡◌, ◌<◌, ◌≤◌, ◌+◌, ℕ, length, false, List, [], ◌∷◌, ◌++◌, position, IfSome, IfNone, IfOk, OnOk};
 ghost use Rattle.std.specs.List.{list_any};
 ghost use Rattle.ule_scenario.specs.FirstLine.{is_newline, IsCut};
 ghost use Rattle.ule_scenario.specs.Scenario.{IsReadAs, answer, read_bytes, refused};
@@ -71,9 +71,10 @@ fn answer(lines: Lines) -> Result<Setup, ScenarioFault>
 }
 
 /// The first line of a text without its newline, and the bytes behind that.
-fn first_line(text: &[u8]) -> Option<(&[u8], &[u8])>
+pub(crate) fn first_line(text: &[u8]) -> Option<(&[u8], &[u8])>
     ensures found { IfSome result (λ r. IsCut text.now r.0.now r.1.now) }
     ensures shorter { IfSome result (λ r. length r.1.now < length text.now) }
+    ensures none { IfNone result (list_any is_newline text.now ≡ false) }
 {
     match place_of_newline(text) {
         Some(n) => {

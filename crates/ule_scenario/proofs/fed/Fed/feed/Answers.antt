@@ -1,19 +1,16 @@
-use Rattle.std.proofs.Common.{◌++◌, ◌∷◌, [], List, ℕ, subst, sym, ap, ◌∙◌}
+use Rattle.std.proofs.Common.{◌++◌, ◌∷◌, [], List, ℕ, subst, ap, ◌∙◌}
 use Rattle.std.proofs.lemmas.List.{append_assoc}
 use Rattle.ule_scenario.specs.FedKept.{HasFed}
+use Rattle.ule_scenario.proofs.WholeLines.{lines_more}
 use Rattle.ule_scenario.proofs.fed.Fed.feed.Goals as goal
 
 pub loop-line-preserved : goal.loop-line-preserved
 loop-line-preserved c =
     let i = c.loop-line.invariant in
     let line = c.in-Some.line.now in
-    let behind = c.in-Some.behind.now in
-    let next = c.in-Some.ensures.found in
     record {
       done = i.done ++ (line ++ 10 ∷ []);
-      whole =
-          append_assoc i.done (line ++ 10 ∷ []) behind
-          ∙ ap (λ (l : List ℕ). i.done ++ l) (append_assoc line (10 ∷ []) behind ∙ sym next.whole) ∙ i.whole;
+      whole = lines_more c.args.piece.now i.done c.loop-line.rest.now line c.in-Some.behind.now i.whole c.in-Some.ensures.found;
       fed = λ bytes has.
           subst (λ (l : List ℕ). HasFed c.push_line.new.self.count c.push_line.new.self.text l) (append_assoc bytes i.done (line ++ 10 ∷ []))
           (c.in_ok-push_line.ensures (bytes ++ i.done) (i.fed bytes has));
