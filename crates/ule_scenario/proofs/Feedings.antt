@@ -1,10 +1,9 @@
 -- Reads of a source one after another: its end, one byte too many, and want of memory behind a read.
-use Rattle.std.proofs.Common.{◌≡◌, ◌≢◌, ℕ, ◌+◌, ◌<◌, ◌≤◌, List, [], ◌++◌, length, take, Option, Some, None, Result, Ok, Err, refl, sym, ap, ◌∙◌, append_assoc, arith}
+use Rattle.std.proofs.Common.{◌≡◌, ℕ, ◌+◌, ◌<◌, ◌≤◌, List, [], ◌++◌, length, take, Option, Some, None, Ok, Err, refl, sym, ap, ◌∙◌, append_assoc, arith}
 use Rattle.std.specs.Prelude.{is_some}
 use Rattle.std.proofs.lemmas.List.{append-nil, length-append, length-take-le}
-use Rattle.ule_io.specs.Counter.{Rose}
 use Rattle.ule_io.specs.Source.{SourceState, Gives, IsAtEnd, ReadAll, Reads, with_front}
-use Rattle.ule_io.specs.declared.reading.ReadAllFault.TheVariants.{ReadFault, TooLong, Memory}
+use Rattle.ule_io.specs.declared.reading.ReadAllFault.TheVariants.{TooLong, Memory}
 
 -- some bytes and then others
 pub gives_both : (old mid new : Option (List ℕ)) (a b : List ℕ) → Gives old mid a → Gives mid new b → Gives old new (a ++ b)

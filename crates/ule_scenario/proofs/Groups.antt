@@ -1,5 +1,5 @@
 -- A table of groups of which one more is the last.
-use Rattle.std.proofs.Common.{◌≡◌, ℕ, zero, suc, ◌+◌, ◌<◌, ◌≤◌, List, [], ◌∷◌, ◌++◌, length, take, drop, replicate, refl, arith, ap, add-one}
+use Rattle.std.proofs.Common.{◌≡◌, ℕ, zero, suc, ◌+◌, ◌<◌, List, [], ◌∷◌, ◌++◌, length, take, drop, replicate, refl, arith, ap, add-one}
 use Rattle.ule_topo.specs.declared.group.GroupLine.{GroupLine}
 
 -- some groups in front of a table that is full of another one, and this one behind them

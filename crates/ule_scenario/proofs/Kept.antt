@@ -1,6 +1,6 @@
 -- What the bytes of a scenario spell keeps the rules of a setup.
-use Rattle.std.proofs.Common.{◌≡◌, ℕ, ◌+◌, ◌-◌, ◌^◌, ◌<◌, ◌≤◌, ◌==◌, max, Bool, true, false, ◌||◌, ◌&&◌, not, List, [], ◌∷◌, ◌++◌, length, map, drop, fold, refl, sym, ap, ◌∙◌, subst, arith, Option, Some, None}
-use Rattle.std.specs.Prelude.{nat_lt, nat_le, if◌then◌else◌, Result, Ok, Err, unwrap_or, is_some}
+use Rattle.std.proofs.Common.{◌≡◌, ℕ, ◌+◌, ◌<◌, ◌==◌, max, Bool, true, false, ◌&&◌, not, List, [], ◌∷◌, ◌++◌, length, fold, refl, subst, arith, Option, Some, None}
+use Rattle.std.specs.Prelude.{nat_lt, nat_le, if◌then◌else◌, Result, Ok, Err, unwrap_or}
 use Rattle.std.specs.List.{list_any}
 use Rattle.std.proofs.lemmas.Bool.{and_from, or_parts, leb-false, ltb-false, lt-ltb, eqb-true, false≢true}
 use Rattle.ule_text.specs.Words.{is_unprinted}
@@ -8,19 +8,19 @@ use Rattle.ule_types.specs.Commands.{is_among}
 use Rattle.ule_types.specs.declared.command.Command.TheVariants as command
 use Rattle.ule_scenario.specs.Tokens.{tokens_of}
 use Rattle.ule_scenario.specs.Reading.{Reading, is_known_thread, is_forked}
-use Rattle.ule_scenario.specs.Forms.{Line, word, name, has_word, num, nums, nice, number, first_fault, number_fault, nice_fault, setting_fault, class_fault, setting_place, is_header, is_header_word}
-use Rattle.ule_scenario.specs.Effects.{with_line, form_in, spec_in, turns_in}
+use Rattle.ule_scenario.specs.Forms.{Line, word, name, num, nice, number, number_fault, nice_fault, setting_fault, class_fault, setting_place, is_header, is_header_word}
+use Rattle.ule_scenario.specs.Effects.{with_line, spec_in, turns_in}
 use Rattle.ule_scenario.specs.Reasons.{when, reason_of, reason_behind}
-use Rattle.ule_scenario.specs.Scenario.{LinesRead, TextRead, after_byte, after_line, after_bytes, after_words, judged, next_line, means_nothing, at_end, answer_of, answer, read_bytes, no_text, KeepsAll}
+use Rattle.ule_scenario.specs.Scenario.{LinesRead, TextRead, after_byte, after_line, after_words, judged, next_line, means_nothing, at_end, answer_of, answer, read_bytes, no_text, KeepsAll}
 use Rattle.ule_scenario.specs.TextKept.{lines_shown, reading_unless}
 use Rattle.ule_scenario.specs.declared.text.Lines.{Lines}
 use Rattle.ule_scenario.specs.declared.reason.Reason.{Reason}
 use Rattle.ule_scenario.specs.declared.reason.Refusal.{Refusal}
 use Rattle.ule_scenario.specs.declared.name.Name.{Name}
 use Rattle.ule_scenario.specs.declared.name.Name.TheVariants.{Header, Set, Jitter, Cpus, Group, Thread, Unborn, Script, Weave, Turns, End, Tick, Time, Yield, Resched, Sleep, Wake, Lend, Unlend, Renice, Fork, Exit, Idle, Balance, Look}
-use Rattle.ule_scenario.proofs.Faults.{number_within, nice_within, head_passes, rest_passes, first_of_more, second_of_more, third_of_three}
+use Rattle.ule_scenario.proofs.Faults.{number_within, nice_within, head_passes, first_of_more, second_of_more}
 use Rattle.ule_scenario.proofs.Passing.{Passes, passes}
-use Rattle.ule_scenario.proofs.Sound.{IsSound, ForksNew, forks_none, forks_one, sound_none, sound_moved, sound_set, sound_jitter, sound_cpus, sound_group, sound_script, sound_turns, sound_thread, sound_unborn, sound_command, known, form_kept, in_range, nice_in_range, none_first, holds}
+use Rattle.ule_scenario.proofs.Sound.{IsSound, forks_none, forks_one, sound_none, sound_moved, sound_set, sound_jitter, sound_cpus, sound_group, sound_script, sound_turns, sound_thread, sound_unborn, sound_command, known, form_kept, in_range, nice_in_range, none_first, holds}
 
 -- ---- a line
 

@@ -1,5 +1,5 @@
 -- Worked texts, by computing with the definitions: what is accepted, and each reason with the line that it is told of.
-use Rattle.std.proofs.Common.{◌≡◌, ℕ, List, [], ◌∷◌, ◌++◌, codes, replicate, true, refl, Option, Some, None, pos}
+use Rattle.std.proofs.Common.{◌≡◌, ℕ, List, [], ◌∷◌, ◌++◌, codes, replicate, true, refl, Some, None, pos}
 use Rattle.std.specs.Prelude.{Result, Ok, Err}
 use Rattle.std.specs.List.{flat_map}
 use Rattle.ule_types.specs.declared.command.Command.{Command}
@@ -9,6 +9,7 @@ use Rattle.ule_scenario.specs.Tokens.{token_of, tokens_of}
 use Rattle.ule_scenario.specs.Reading.{Reading, no_line}
 use Rattle.ule_scenario.specs.Reasons.{place_reason, word_reason, meaning_reason, reason_of}
 use Rattle.ule_scenario.specs.Scenario.{read_bytes}
+use Rattle.ule_scenario.specs.Front.{front_length}
 use Rattle.ule_scenario.specs.declared.reason.Refusal.{Refusal}
 
 -- line, reason and detail of a refusal; nothing where a setup is spelled
@@ -198,3 +199,20 @@ turns_are_passed = refl
 worker_before_count : reason_of (record no_line { place = 8; cpus = 2; turns = replicate 4094 0 }) (tokens_of (codes "turns 1 2 1")) ≡ Some (record { reason = 16; detail = 0 })
 unfolding token_of place_reason word_reason meaning_reason
 worker_before_count = refl
+
+-- ---- the front of a text
+
+-- it ends with the newline of its first line `end`, and what is behind that is no matter
+front_ends_at_end : front_length (text_of (codes "ule-scenario 1" ∷ codes "end" ∷ codes "end" ∷ []) ++ codes "ule-trace 1") ≡ 19
+unfolding token_of
+front_ends_at_end = refl
+
+-- whatever else that line has, and wherever it stands
+front_ends_at_any_end : front_length (text_of (codes "  end x" ∷ codes "end" ∷ [])) ≡ 8
+unfolding token_of
+front_ends_at_any_end = refl
+
+-- other first words don't end it, nor does one whose newline is missing
+front_is_all : front_length (text_of (codes "ended" ∷ codes "# end" ∷ (codes "end" ++ 13 ∷ []) ∷ []) ++ codes "end") ≡ 20
+unfolding token_of
+front_is_all = refl

@@ -1,8 +1,8 @@
 -- What a scenario's lines give keeps the rules of a setup, line by line.
-use Rattle.std.proofs.Common.{◌≡◌, ◌≢◌, ℕ, zero, suc, ◌+◌, ◌-◌, ◌^◌, ◌<◌, ◌≤◌, ◌==◌, max, Bool, true, false, ◌||◌, ◌&&◌, not, ℤ, List, [], ◌∷◌, ◌++◌, length, map, drop, set, get_or, replicate, refl, sym, ap, ◌∙◌, subst, arith, Option, Some, None, ⊎_elim}
-use Rattle.std.specs.Prelude.{nat_lt, nat_le, if◌then◌else◌, Result, Ok, Err, is_ok, IsTrue, unwrap_or, is_some}
+use Rattle.std.proofs.Common.{◌≡◌, ◌≢◌, ℕ, zero, suc, ◌+◌, ◌^◌, ◌<◌, ◌≤◌, ◌==◌, max, Bool, true, false, ◌&&◌, not, List, [], ◌∷◌, ◌++◌, length, map, drop, set, get_or, replicate, refl, sym, ap, ◌∙◌, arith, Some, None}
+use Rattle.std.specs.Prelude.{nat_lt, nat_le, Result, Ok, Err, is_ok, unwrap_or}
 use Rattle.std.specs.List.{list_all, list_any}
-use Rattle.std.proofs.lemmas.Bool.{and_from, and_parts, or_parts, not-true, leb-true, leb-false, ltb-false, lt-ltb, le-leb, eqb-true, false≢true}
+use Rattle.std.proofs.lemmas.Bool.{and_from, and_parts, or_parts, leb-true, leb-false, lt-ltb, le-leb, false≢true}
 use Rattle.std.proofs.lemmas.List.{map-append, append_assoc, length-append, length-set}
 use Rattle.std.proofs.lemmas.List.Folds.{list_all-append, list_any-append}
 use Rattle.ule_prio.specs.Class.{is_within, is_base_of}
@@ -15,16 +15,15 @@ use Rattle.ule_topo.specs.declared.fault.BuildFault.{BuildFault}
 use Rattle.ule_types.specs.Commands.{is_among, is_command, is_nice, forked_by, greatest_of}
 use Rattle.ule_types.specs.Rules.{KeepsRules, is_form, is_spec, are_numbers, declared_ids, is_distinct, budget_from, forked_in_all}
 use Rattle.ule_types.specs.declared.command.Command.{Command}
-use Rattle.ule_types.specs.declared.command.Command.TheVariants as command
 use Rattle.ule_types.specs.declared.setup.ThreadSpec.{ThreadSpec}
 use Rattle.ule_scenario.specs.Reading.{Reading, no_line, is_known_thread, is_forked, spent_items, last_worker}
-use Rattle.ule_scenario.specs.Forms.{Line, word, name, num, nums, number, signed, first_fault, number_fault, nice_fault, setting_fault, class_fault, number_faults}
-use Rattle.ule_scenario.specs.Effects.{with_setting, with_command, form_in, spec_in, group_in_line, turns_in}
+use Rattle.ule_scenario.specs.Forms.{Line, word, num, signed, number_fault, setting_fault, class_fault}
+use Rattle.ule_scenario.specs.Effects.{with_setting, with_command, form_in, group_in_line}
 use Rattle.ule_scenario.specs.Reasons.{is_no_base, fault_in}
 use Rattle.ule_scenario.specs.Scenario.{KeepsAll}
 use Rattle.ule_scenario.specs.declared.token.Token.{Token}
 use Rattle.ule_scenario.specs.declared.name.Name.{Name}
-use Rattle.ule_scenario.specs.declared.name.Name.TheVariants.{Ts, Ithd, Rt, Fifo, Idle, Interact, Slice, Preempt, Steal}
+use Rattle.ule_scenario.specs.declared.name.Name.TheVariants.{Ithd, Rt, Fifo, Idle, Interact, Slice, Preempt, Steal}
 use Rattle.ule_scenario.proofs.Distinct.{distinct_with, distinct_as, numbers_between, numbers_behind, times_forked, all_forked}
 use Rattle.ule_scenario.proofs.Faults.{number_within, number_from, nice_within}
 use Rattle.ule_scenario.proofs.Scripts.{charged_more}

@@ -1,8 +1,8 @@
 -- One more of the words of a line of which there may be many.
-use Rattle.std.proofs.Common.{◌≡◌, ℕ, zero, suc, ◌+◌, ◌*◌, ◌-◌, ◌^◌, ◌<◌, ◌≤◌, min, ◌||◌, ◌&&◌, Bool, true, false, List, [], ◌∷◌, ◌++◌, length, map, drop, take, refl, sym, arith, ap, ◌∙◌, Option, Some, None, ⊎_elim}
-use Rattle.std.specs.Prelude.{max, fold, nat_le, nat_lt, not, sum}
+use Rattle.std.proofs.Common.{◌≡◌, ℕ, zero, suc, ◌+◌, ◌^◌, ◌<◌, ◌≤◌, min, ◌||◌, true, false, List, [], ◌∷◌, ◌++◌, length, map, drop, refl, sym, arith, ap, ◌∙◌, Option, Some, None}
+use Rattle.std.specs.Prelude.{max, fold, nat_le, nat_lt}
 use Rattle.std.specs.List.{list_any}
-use Rattle.std.proofs.lemmas.Bool.{ltb-true, ltb-false, leb-true}
+use Rattle.std.proofs.lemmas.Bool.{ltb-true, ltb-false}
 use Rattle.std.proofs.lemmas.Bool.Decides.{nat_tests}
 use Rattle.std.proofs.Math.Nat.{pow-le-pow_right}
 use Rattle.std.proofs.lemmas.Grind.{fold-append, common_steps, pow_more}

@@ -14,9 +14,12 @@ pub mod WordsKept
 pub mod Marks
 pub mod DraftView
 pub mod Given
+pub mod FirstLine
+pub mod LoneCommand
 pub mod TextKept
 pub mod FedKept
 pub mod ReaderValue
 pub mod ReaderKept
 pub mod ReaderView
 pub mod Feeding
+pub mod Front

@@ -1,5 +1,7 @@
 // The bytes of a text so far.
-ghost use Rattle.std.specs.Prelude.{◌≡◌, ◌<◌, ◌≤◌, ◌+◌, ℕ, length, List, [], ◌∷◌, ◌++◌, IfOk, OnOk};
+ghost use Rattle.std.specs.Prelude.{◌≡◌, ◌<◌, ◌≤◌, ◌+◌, ℕ, length, false, List, [], ◌∷◌, ◌++◌, position, IfSome, IfNone, IfOk, OnOk};
+ghost use Rattle.std.specs.List.{list_any};
+ghost use Rattle.ule_scenario.specs.FirstLine.{is_newline, IsCut};
 ghost use Rattle.ule_scenario.specs.Scenario.{IsReadAs, answer, read_bytes, refused};
 ghost use Rattle.ule_scenario.specs.TextKept.{lines_shown};
 ghost use Rattle.ule_scenario.specs.FedKept.{HasFed};
@@ -19,6 +21,13 @@ pub struct Fed {
     pub(crate) count: u32,
     pub(crate) text: Text,
     ghost few: { text.lines.count ≤ count },
+}
+
+/// The index of the first newline.
+fn place_of_newline(text: &[u8]) -> Option<usize>
+    ensures { result ≡ position is_newline text.now }
+{
+    text.iter().position(|b| *b == b'\n')
 }
 
 /// A refusal without a detail.
@@ -61,6 +70,22 @@ fn answer(lines: Lines) -> Result<Setup, ScenarioFault>
     }
 }
 
+/// The first line of a text without its newline, and the bytes behind that.
+pub(crate) fn first_line(text: &[u8]) -> Option<(&[u8], &[u8])>
+    ensures found { IfSome result (λ r. IsCut text.now r.0.now r.1.now) }
+    ensures shorter { IfSome result (λ r. length r.1.now < length text.now) }
+    ensures none { IfNone result (list_any is_newline text.now ≡ false) }
+{
+    match place_of_newline(text) {
+        Some(n) => {
+            let (line, rest) = text.split_at(n);
+            let (_, behind) = rest.split_at(1);
+            Some((line, behind))
+        }
+        None => None,
+    }
+}
+
 impl Fed {
     /// No byte.
     pub fn none(alloc: Global) -> Result<Self, Memory>
@@ -84,13 +109,40 @@ impl Fed {
         self.text.push(b)
     }
 
+    /// More bytes, one after another.
+    fn push_all(&mut self, more: &[u8]) -> Result<(), Memory>
+        ensures { (bytes : List ℕ) → HasFed self.old.count self.old.text bytes → OnOk result (HasFed self.new.count self.new.text (bytes ++ more.now)) }
+    {
+        for b in more {
+            self.push(*b)?;
+        }
+        Ok(())
+    }
+
+    /// A line and its newline, behind the bytes of the line that hasn't ended.
+    fn push_line(&mut self, line: &[u8]) -> Result<(), Memory>
+        requires { list_any is_newline line.now ≡ false }
+        ensures { (bytes : List ℕ) → HasFed self.old.count self.old.text bytes → OnOk result (HasFed self.new.count self.new.text (bytes ++ (line.now ++ 10 ∷ []))) }
+    {
+        let left = LIMIT.saturating_sub(self.count) as usize;
+        if line.len() >= left {
+            self.count = self.count.max(LIMIT + 1);
+            return Ok(());
+        }
+        self.count += line.len() as u32 + 1;
+        self.text.push_line(line)
+    }
+
     /// The next piece.
     pub fn feed(&mut self, piece: &[u8]) -> Result<(), Memory>
         ensures { (bytes : List ℕ) → HasFed self.old.count self.old.text bytes → OnOk result (HasFed self.new.count self.new.text (bytes ++ piece.now)) }
     {
-        for b in piece {
-            self.push(*b)?;
+        let mut rest = piece;
+        while let Some((line, behind)) = first_line(rest) {
+            self.push_line(line)?;
+            rest = behind;
         }
+        self.push_all(rest)?;
         Ok(())
     }
 

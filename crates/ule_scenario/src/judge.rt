@@ -188,7 +188,7 @@ impl Draft {
     }
 
     /// The reason that a command passes the budget, if it does.
-    fn over_budget(&self, c: &Option<Command>) -> Option<Reason>
+    pub(crate) fn over_budget(&self, c: &Option<Command>) -> Option<Reason>
         ensures { result ≡ over_budget (spent_items self.now + charge self.now c.now) }
     {
         let total = self.spent() + self.charge(c);

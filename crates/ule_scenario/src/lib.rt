@@ -2,6 +2,7 @@
 #![tactic(auto)]
 
 pub use feed::feed_all;
+pub use front::read_front;
 pub use reader::{Reader, read};
 pub use reason::Refusal;
 
@@ -10,8 +11,10 @@ mod command;
 pub mod draft;
 pub mod fed;
 mod feed;
+mod front;
 mod judge;
 pub mod line;
+mod lone;
 pub mod name;
 mod number;
 pub mod reader;

@@ -105,4 +105,13 @@ impl LineSoFar {
         }
         self.pieces.push(b);
     }
+
+    /// More bytes, none of which is a newline.
+    pub fn push_all(&mut self, more: &[u8])
+        ensures { (bytes : List ℕ) → self.old ≡ line_kept bytes → self.new ≡ line_kept (bytes ++ more.now) }
+    {
+        for b in more {
+            self.push(*b);
+        }
+    }
 }

@@ -1,20 +1,26 @@
 // What the lines of a text tell, and what is kept of the line that hasn't ended.
-ghost use Rattle.std.specs.Prelude.{◌≡◌, ◌≢◌, ◌<◌, ◌≤◌, ◌+◌, ◌^◌, ℕ, Option, Some, None, Ok, List, [], OnOk, IfOk};
+ghost use Rattle.std.specs.Prelude.{◌≡◌, ◌≢◌, ◌<◌, ◌≤◌, ◌+◌, ◌^◌, ℕ, false, fold, Option, Some, None, Ok, List, [], ◌∷◌, ◌++◌, OnOk, IfOk};
+ghost use Rattle.std.specs.List.{list_any};
 ghost use Rattle.ule_text.specs.Words.{word_ended, cut};
 ghost use Rattle.ule_scenario.specs.WordsKept.{seen, line_kept, pieces_kept};
 ghost use Rattle.ule_scenario.specs.Tokens.{tokens_of};
 ghost use Rattle.ule_scenario.specs.declared.token.Token.{Token};
 ghost use Rattle.ule_scenario.specs.Forms.{name};
 ghost use Rattle.ule_scenario.specs.Reasons.{reason_of};
+ghost use Rattle.ule_types.specs.declared.command.Command.{Command};
+ghost use Rattle.ule_scenario.specs.FirstLine.{is_newline};
+ghost use Rattle.ule_scenario.specs.LoneCommand.{lone_command};
 ghost use Rattle.ule_scenario.specs.Scenario.{TextRead, after_words, next_line, means_nothing, no_text, after_byte, after_line, at_end};
 ghost use Rattle.ule_scenario.specs.TextKept.{reading_unless, lines_shown, LineEnded, ShowsText};
 
 use crate::draft::Draft;
 use crate::line::LineSoFar;
+use crate::lone::{lone_command, take_lone};
 use crate::reason::Refusal;
 use crate::words::Words;
 use std::alloc::Global;
 use ule_io::Memory;
+use ule_types::Command;
 
 /// Whether a line is blank or a comment.
 fn means_nothing(words: &Words) -> bool
@@ -80,6 +86,20 @@ impl Lines {
         self.refusal = take_line(&mut self.draft, self.count, line)?;
         Ok(())
     }
+
+    /// One more line, which is the name of this command.
+    fn push_lone(&mut self, c: &Command) -> Result<(), Memory>
+        requires { self.old.count + 1 < 2 ^ 32 }
+        ensures told { (bytes : List ℕ) → lone_command bytes ≡ Some c.now → OnOk result (lines_shown self.new ≡ after_line (lines_shown self.old) bytes) }
+        ensures count { self.new.count ≡ self.old.count + 1 }
+    {
+        self.count += 1;
+        if self.refusal.is_some() {
+            return Ok(());
+        }
+        self.refusal = take_lone(&mut self.draft, self.count, c)?;
+        Ok(())
+    }
 }
 
 /// A text so far.
@@ -130,6 +150,24 @@ impl Text {
             self.line.push(b);
             Ok(())
         }
+    }
+
+    /// A line and its newline, behind the bytes of the line that hasn't ended.
+    pub fn push_line(&mut self, line: &[u8]) -> Result<(), Memory>
+        requires room { self.old.lines.count < 1048577 }
+        requires plain { list_any is_newline line.now ≡ false }
+        ensures text { (s : TextRead) → ShowsText self.old s → OnOk result (ShowsText self.new (fold after_byte s (line.now ++ 10 ∷ []))) }
+        ensures count { self.new.lines.count ≤ self.old.lines.count + 1 }
+    {
+        if !self.line.any {
+            if let Some(c) = lone_command(line) {
+                self.lines.push_lone(&c)?;
+                return Ok(());
+            }
+        }
+        self.line.push_all(line);
+        self.end_line()?;
+        Ok(())
     }
 
     /// The text ends: a last line without a newline counts if it has a byte.

@@ -1,4 +1,4 @@
-use Rattle.std.proofs.Common.{◌≡◌, ◌+◌, ◌≤◌, List, ℕ, ◌++◌, drop, take, subst, ◌∙◌, arith}
+use Rattle.std.proofs.Common.{◌≡◌, ◌+◌, List, ℕ, ◌++◌, drop, take, subst, ◌∙◌, arith}
 use Rattle.std.proofs.lemmas.Grind.{common_steps}
 use Rattle.ule_scenario.specs.ReaderKept.{HasRead}
 use Rattle.ule_scenario.proofs.Feedings.{gives_both, read_to_end, read_too_much, read_without_memory, taken_more}

@@ -1,8 +1,8 @@
-use Rattle.std.proofs.Common.{◌≡◌, ℕ, ◌+◌, length, Option, None, sym, ap, ◌∙◌}
+use Rattle.std.proofs.Common.{◌+◌, length, Option, sym, ap, ◌∙◌}
 use Rattle.std.specs.Prelude.{nat_le, nat_lt}
 use Rattle.std.specs.List.{list_any}
 use Rattle.ule_types.specs.declared.command.Command.{Command}
-use Rattle.ule_scenario.specs.Reading.{Reading, spent_items}
+use Rattle.ule_scenario.specs.Reading.{spent_items}
 use Rattle.ule_scenario.specs.Effects.{command_in, turns_in}
 use Rattle.ule_scenario.specs.Reasons.{charge, over_budget}
 use Rattle.ule_scenario.proofs.Meaning.{up_to_turns, at_workers, at_turns, at_budget}

@@ -1,4 +1,4 @@
-use Rattle.std.proofs.Common.{◌++◌, List, ℕ, subst, sym}
+use Rattle.std.proofs.Common.{◌++◌, subst, sym}
 use Rattle.ule_scenario.specs.ReaderKept.{HasRead}
 use Rattle.ule_scenario.specs.ReaderValue.{ReaderValue}
 use Rattle.ule_scenario.specs.ReaderView.{reader_shown}
