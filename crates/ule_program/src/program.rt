@@ -47,7 +47,7 @@ impl Program {
 
     /// The next item of the command begun; none where it has no further one. `last` is the reply
     /// and the time, in hz ticks, of the event that was given before, if one was.
-    #[inline]
+    #[inline(always)]
     pub fn next(&mut self, last: Option<(Reply, u64)>) -> Option<Item>
         requires { CanHear last self.old }
         ensures item { result ≡ (next_of last self.old).0 }
