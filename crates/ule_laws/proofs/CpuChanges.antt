@@ -5,8 +5,8 @@ use Rattle.std.specs.Option.{option_map}
 use Rattle.std.proofs.lemmas.Bool.{or_left}
 use Rattle.std.proofs.lemmas.Option.{none-some}
 use Rattle.ule_prio.specs.declared.kind.Kind.{Kind}
-use Rattle.ule_score.proofs.ChangeLaws.{change_number, change_numbers, rebased_numbers}
-use Rattle.ule_score.specs.Changes.{HasNumbers, child_of, forked, forks, record_after}
+use Rattle.ule_score.proofs.ChangeLaws.{change_number, change_numbers, child_numbers}
+use Rattle.ule_score.specs.Changes.{forked, forks, record_after}
 use Rattle.ule_score.specs.declared.place.Place.{Place}
 use Rattle.ule_score.specs.declared.place.Place.TheVariants.{Queued}
 use Rattle.ule_score.specs.declared.record.Settings.{Settings}
@@ -53,12 +53,6 @@ pub record AreForked (born : Member) (v : CpuValue) (made : ForkedFrom) (meant :
   pub child : thread_of born.thread.id meant.0.members ≡ Some (record born { thread = made.child })
   pub well_made : IsWellMade meant.0.members
   pub cpu : made.value.cpu ≡ v.cpu
-
--- a child's numbers are in range where its parent's are
-child_numbers : (settings : Settings) (now c load : ℕ) (parent r : ThreadRecord) → HasNumbers parent → HasNumbers r →
-    HasNumbers (child_of settings now parent c load r)
-child_numbers settings now c load parent r own has =
-    rebased_numbers settings _ (record { id = has.id; base = own.base; priority = own.base; nice = own.nice })
 
 -- the record that the value has of its current thread m
 current_recorded_as : (m : Member) (v : CpuValue) (s : Side) → StandsFor v s → IsWellMade s.members → current_of v.cpu s.members ≡ Some m →
@@ -137,7 +131,7 @@ forked_thread now m born v s stands made runs found off =
     still : IsWellMade born_side.members
     still =
         well_made-with_record u birth s.members birth_kept
-        (λ r has. child_numbers v.settings now v.cpu v.load m.thread r parent.made.numbers has) made
+        (λ r has. child_numbers v.settings now m.thread v.cpu v.load r parent.made.numbers has) made
 
     at_birth : thread_of u born_side.members ≡ Some (born_member born)
     at_birth = thread_of-changed u born s.members at born_member (birth_kept born.thread)

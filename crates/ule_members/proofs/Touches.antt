@@ -1,21 +1,14 @@
 -- What a step touches of each thread, for lists of threads one after another.
 use Rattle.std.proofs.Common.{◌≡◌, ℕ, List, [], ◌∷◌, ◌++◌, refl, sym, ◌∙◌, subst}
 use Rattle.ule_score.specs.Changes.{HasNumbers, RecordChange, changed, forked, forks, placed, ran, record_after, runs, sleeps, ticked, woken}
-use Rattle.ule_score.specs.declared.record.Change.TheVariants.{Renice}
 use Rattle.ule_score.specs.declared.record.Settings.{Settings}
 use Rattle.ule_score.specs.declared.record.ThreadRecord.{ThreadRecord}
 use Rattle.ule_types.specs.declared.event.Event.{Event}
 use Rattle.ule_model.specs.Frames.{AreTouched, ComesTo, IsSoundIn, IsTouched, as_it_was, by_change, left, reached}
 use Rattle.ule_model.specs.World.{Member, World}
-use Rattle.ule_score.proofs.ChangeLaws.{change_numbers, change_number}
+use Rattle.ule_score.proofs.ChangeLaws.{change_numbers, change_number, child_numbers}
 
 -- ---- one record through changes
-
--- the record of a child has its numbers in range where its parent's and its own have them
-child_numbers : (settings : Settings) (now : ℕ) (parent : ThreadRecord) (c load : ℕ) (r : ThreadRecord) → HasNumbers parent → HasNumbers r →
-    HasNumbers (record_after settings now (forked parent c load) r)
-child_numbers settings now parent c load r has own =
-    change_numbers settings now (changed (Renice parent.nice)) _ has.nice (record { id = own.id; base = has.base; priority = has.base; nice = has.nice })
 
 -- a change that a step of a world may make keeps the numbers of a record in range
 pub sound_numbers : (settings : Settings) (w : World) (now : ℕ) (change : RecordChange) (r : ThreadRecord) → IsSoundIn w now change →

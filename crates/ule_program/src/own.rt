@@ -73,6 +73,7 @@ impl Own {
     }
 
     /// An event comes, and then what follows.
+    #[inline]
     fn give(&mut self, event: Event, next: Next)
         ensures { self.new ≡ record self.old { stage = Gives event next } }
     {
@@ -99,6 +100,7 @@ impl Own {
     }
 
     /// The next item, told the reply and the time of the event before, if one was given.
+    #[inline(always)]
     pub(crate) fn next(&mut self, last: &Option<(Reply, u64)>) -> Option<Item>
         requires sound { IsSoundOwn self.old }
         requires hears { CanHear last.now self.old }
@@ -112,6 +114,7 @@ impl Own {
     }
 
     /// Goes on to where the reply to the last event leads.
+    #[inline(always)]
     fn hear(&mut self, reply: &Reply, now: u64)
         requires { CanHearAt self.old self.old.stage reply.now now }
         ensures { self.new ≡ heard self.old.stage reply.now now self.old }
@@ -119,11 +122,14 @@ impl Own {
         match self.stage {
             Stage::Ended => {}
             Stage::Advances(_) => self.stage = Stage::Ended,
+            // the most common case, in which what follows is not copied out
+            Stage::Gives(_, Next::Ends) => self.stage = Stage::Ended,
             Stage::Gives(_, next) => self.follow(&next, reply, now),
         }
     }
 
     /// Goes on to what follows a reply.
+    #[inline(never)]
     fn follow(&mut self, next: &Next, reply: &Reply, now: u64)
         requires { CanFollow self.old next.now reply.now now }
         ensures { self.new ≡ after next.now reply.now now self.old }
@@ -363,6 +369,7 @@ impl Own {
 
     /// The item at the stage; none where the command has no further one. An advance is left as it
     /// is given.
+    #[inline(always)]
     fn next_item(&mut self) -> Option<Item>
         ensures item { result ≡ item_at self.old.stage }
         ensures after { self.new ≡ once_given self.old }

@@ -38,6 +38,7 @@ impl Program {
     }
 
     /// Begins a command.
+    #[inline]
     pub fn begin(&mut self, c: &Command)
         ensures { self.new ≡ begun c.now self.old }
     {
@@ -46,6 +47,7 @@ impl Program {
 
     /// The next item of the command begun; none where it has no further one. `last` is the reply
     /// and the time, in hz ticks, of the event that was given before, if one was.
+    #[inline(always)]
     pub fn next(&mut self, last: Option<(Reply, u64)>) -> Option<Item>
         requires { CanHear last self.old }
         ensures item { result ≡ (next_of last self.old).0 }

@@ -15,7 +15,7 @@ use Rattle.ule_score.proofs.BoundsLemmas.{KeepsBounds-bases, KeepsBounds-histori
 use Rattle.ule_score.proofs.TimesharePriorityLemmas.{timeshare_priority-bounds}
 use Rattle.ule_score.specs.Bounds.{KeepsBounds, better_of, with_history, with_use}
 use Rattle.ule_score.specs.Changes.{ran, runs, sleeps, woken, ticked, placed, changed, forks, forked}
-use Rattle.ule_score.specs.Changes.{rebased_in, rebased, used, after_running, rested, after_sleep, tick_length, charged, sliced, charged_in}
+use Rattle.ule_score.specs.Changes.{rebased_in, rebased, used, after_running, rested, after_sleep, tick_length, charged, sliced, charged_in, child_of}
 use Rattle.ule_score.specs.Changes.{IsBy, HasSlice, HasNumbers, ChangesLeaveTheNumber, ChangesKeepBounds, ChangesKeepNumbers, ChangesAreByNow}
 use Rattle.ule_score.specs.TimesharePriority.{IsNice, timeshare_priority}
 use Rattle.ule_score.specs.declared.record.Change.TheVariants.{Lend, Unlend, Renice, Inherit}
@@ -278,6 +278,13 @@ charged_in_numbers Idle settings load r has = numbers_like settings r _ has refl
 rested_numbers : (still : Bool) (settings : Settings) (now : ℕ) (r : ThreadRecord) → HasNumbers r → HasNumbers (rested_if still now r)
 rested_numbers true settings now r has = has
 rested_numbers false settings now r has = numbers_like settings r _ has refl refl refl refl
+
+-- a child's numbers are in range where its own and its parent's are
+pub child_numbers : (settings : Settings) (now : ℕ) (parent : ThreadRecord) (c load : ℕ) (r : ThreadRecord) → HasNumbers parent → HasNumbers r →
+    HasNumbers (child_of settings now parent c load r)
+child_numbers settings now parent c load r own has =
+    rebased_numbers settings (child_before settings now parent c load r)
+    (record { id = has.id; base = own.base; priority = own.base; nice = own.nice })
 
 -- sound changes keep the numbers in range
 pub change_numbers : ChangesKeepNumbers

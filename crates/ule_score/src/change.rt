@@ -15,11 +15,37 @@ use ule_slice::{min_slice, slice};
 /// 127.
 pub const TICK_LENGTH: u64 = 8062;
 
-/// The record of a thread that has just left the processor at `now`, a time in hz ticks of 20000
-/// or more: it ran since the last CPU-use update, and `last_run` is `now`.
+/// Notes in a record that its thread has just left the processor at `now`, a time in hz ticks of
+/// 20000 or more: it ran since the last CPU-use update, and `last_run` is `now`.
 ///
 /// After `sched_switch`, which updates the CPU use of a timeshare thread alone; here each thread's
 /// is kept.
+#[inline]
+pub fn note_ran(r: &mut ThreadRecord, now: u64)
+    requires begun { 20000 ≤ now }
+    requires bounded { now < 2 ^ 36 }
+    requires bounds { KeepsBounds r.old }
+    requires in_time { r.old.usage.ltick ≤ now }
+    ensures { r.new ≡ after_running now r.old }
+{
+    r.usage = update_use(r.usage, now, true);
+    r.last_run = now;
+}
+
+/// Notes in a record that its thread has just got the processor at `now`, a time in hz ticks of
+/// 20000 or more: it did not run since the last CPU-use update. After `sched_switch`.
+#[inline]
+pub fn note_runs(r: &mut ThreadRecord, now: u64)
+    requires begun { 20000 ≤ now }
+    requires bounded { now < 2 ^ 36 }
+    requires bounds { KeepsBounds r.old }
+    requires in_time { r.old.usage.ltick ≤ now }
+    ensures { r.new ≡ used false now r.old }
+{
+    r.usage = update_use(r.usage, now, false);
+}
+
+/// The record of a thread that has just left the processor at `now`, as [`note_ran`] notes it.
 pub fn after_running(r: ThreadRecord, now: u64) -> ThreadRecord
     requires begun { 20000 ≤ now }
     requires bounded { now < 2 ^ 36 }

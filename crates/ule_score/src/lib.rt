@@ -6,7 +6,7 @@
 pub use bounds::{effective_priority, effective_priority_is_the_lower, record_keeps_bounds};
 pub use change::{
     TICK_LENGTH, after_change, after_fork, after_running, after_sleep, after_tick, before_running,
-    before_sleep, child_of, placed_on, rebased, record_changes_keep,
+    before_sleep, child_of, note_ran, note_runs, placed_on, rebased, record_changes_keep,
 };
 pub use interactivity::{score, score_is_bounded};
 pub use place::Place;

@@ -5,6 +5,17 @@ use ule_prio::{Class, Cpu, Nice, Priority, ThreadId};
 /// in hz ticks since the boot; `KeepsBounds` of the specs says which bounds every record keeps.
 #[derive(Clone, Copy)]
 pub struct ThreadRecord {
+    // The widest fields come first, so that no gap lies between two of them: records are copied.
+    /// Its run and sleep history.
+    pub hist: History,
+    /// Its CPU use.
+    pub usage: CpuUse,
+    /// When it went to sleep, or 0.
+    pub slept_at: u64,
+    /// When it last ran.
+    pub last_run: u64,
+    /// The stathz ticks that it has used of its slice, 0..=1000.
+    pub slice_count: u16,
     pub id: ThreadId,
     /// The thread that forked it, if one did.
     pub parent: Option<ThreadId>,
@@ -17,18 +28,8 @@ pub struct ThreadRecord {
     pub lent: Option<Priority>,
     /// The better of `base` and `lent`: the priority that it is queued and compared by.
     pub priority: Priority,
-    /// Its run and sleep history.
-    pub hist: History,
-    /// Its CPU use.
-    pub usage: CpuUse,
-    /// The stathz ticks that it has used of its slice, 0..=1000.
-    pub slice_count: u16,
-    /// When it went to sleep, or 0.
-    pub slept_at: u64,
     /// The CPU that it was last queued on.
     pub last: Cpu,
-    /// When it last ran.
-    pub last_run: u64,
     /// The CPU that it is bound to, if any.
     pub bound: Option<Cpu>,
 }

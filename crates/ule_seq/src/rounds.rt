@@ -66,6 +66,7 @@ impl Course {
 
     /// Goes on to the next item of the worker's program. `last` is the reply and the time of the
     /// event that was given, if one was.
+    #[inline]
     fn go_on(&mut self, s: &Setup, worker: u8, last: Option<(Reply, u64)>)
         requires worker { worker < 16 }
         requires hears { CanHear last self.old.program }
@@ -76,6 +77,7 @@ impl Course {
     }
 
     /// Begins the commands that come next, until one gives an item or none is left.
+    #[inline]
     fn begin_further(&mut self, s: &Setup, worker: u8)
         requires { worker < 16 }
         ensures { comes_next s.now worker self.old ≡ waiting s.now worker self.new }

@@ -1,5 +1,8 @@
 -- What a CPU keeps where one of its records is kept anew or leaves.
-use Rattle.std.proofs.Common.{◌≡◌, ◌≢◌, ℕ, ◌<◌, ◌≤◌, subst, Option, Some, None, IfSome, List, length, length-set, slice_index_or, slice_set, sum_by, suc, ◌∷◌, refl, ap, ⊎_elim, get_or-set_same, get_or-set_other, sym, ◌∙◌, ◌+◌, ◌-◌, [], arith, replicate, IsTrue}
+use Rattle.std.proofs.Common.{◌≡◌, ◌≢◌, ℕ, ◌<◌, ◌≤◌, subst, Option, Some, None, IfSome, List, length, length-set, slice_index_or, slice_set, sum_by, suc, ◌∷◌, refl, ap, ⊎_elim, get_or-set_same, get_or-set_other, sym, ◌∙◌, ◌+◌, ◌-◌, ◌^◌, [], arith, replicate, IsTrue, Bool, true}
+use Rattle.ule_history.proofs.CpuUseUpdateLemmas.{IsBoundedUse-updated_use}
+use Rattle.ule_score.proofs.BoundsLemmas.{KeepsBounds-times, KeepsBounds-uses}
+use Rattle.ule_score.specs.Changes.{after_running, used}
 use Rattle.ule_score.specs.Settings.{are_settings}
 use Rattle.ule_runq.specs.Runq.{times}
 use Rattle.ule_runq.proofs.RunqLaws.{times_empty}
@@ -208,3 +211,26 @@ current_in-number v r kept found = split v.current found
     split None none = absurd (none-some r none)
     split (Some t) there =
         ap (thread_in v) (subst (λ (p : Option ThreadRecord). IfSome p (IsRecordOf t)) there (kept.records t)).number ∙ there
+
+-- ---- a record that notes the time
+
+-- the record that a CPU has of a thread keeps its bounds
+pub found-bounds : (v : CpuValue) (t : ℕ) (r : ThreadRecord) → KeepsCpu v → thread_in v t ≡ Some r → KeepsBounds r
+found-bounds v t r kept there = (subst (λ (o : Option ThreadRecord). IfSome o (IsRecordOf t)) there (kept.records t)).bounds
+
+-- and has no CPU-use update later than a time that is no earlier than any
+pub found-by : (v : CpuValue) (t now : ℕ) (r : ThreadRecord) → AllNoEarlier v.threads now → thread_in v t ≡ Some r → r.usage.ltick ≤ now
+found-by v t now r early there = subst (λ (o : Option ThreadRecord). IfSome o (λ x. x.usage.ltick ≤ now)) there (early t)
+
+-- a record brought up to a time keeps its bounds, and has no CPU-use update later than that
+pub used-bounds : (running : Bool) (now : ℕ) (r : ThreadRecord) → KeepsBounds r → r.usage.ltick ≤ now → now < 2 ^ 36 →
+    KeepsBounds (used running now r) × ((used running now r).usage.ltick ≤ now)
+used-bounds running now r bounds by small =
+    let noted = (IsBoundedUse-updated_use r.usage now running bounds.usage by).1 in
+    (KeepsBounds-uses r now running bounds by small, omega (arith, noted))
+
+-- the record of a thread that has just left the processor keeps its bounds
+pub ran-bounds : (now : ℕ) (r : ThreadRecord) → KeepsBounds r → r.usage.ltick ≤ now → now < 2 ^ 36 → KeepsBounds (after_running now r)
+ran-bounds now r bounds by small =
+    let before = used-bounds true now r bounds by small in
+    KeepsBounds-times (used true now r) r.slice_count r.slept_at now before.0 bounds.slice_count bounds.slept_at small

@@ -1,6 +1,7 @@
 -- What keeps the set and the count of the threads on a CPU that are not bound.
-use Rattle.std.proofs.Common.{◌≡◌, ℕ, ◌+◌, ◌<◌, ◌≤◌, ◌==◌, Bool, true, false, not, ◌&&◌, List, [], ◌∷◌, length, slice_index_or, slice_set, Option, Some, None, ⊎_elim, if◌then◌else◌, refl, sym, ◌∙◌, ap, arith, get_or-set_same, get_or-set_other}
-use Rattle.std.specs.Prelude.{count_by, suc}
+use Rattle.std.proofs.Common.{◌≡◌, ℕ, ◌+◌, ◌<◌, ◌≤◌, ◌==◌, Bool, true, false, not, ◌&&◌, List, [], ◌∷◌, length, slice_index_or, slice_set, Option, Some, None, ⊎_elim, if◌then◌else◌, refl, sym, ◌∙◌, ap, arith, get_or-set_same, get_or-set_other, length-set}
+use Rattle.std.specs.Prelude.{count_by, is_none, suc}
+use Rattle.std.specs.Option.{option_map}
 use Rattle.std.proofs.lemmas.Bool.{cases_eq, cases_lt, eq-eqb, ne_eqb}
 use Rattle.std.proofs.lemmas.List.{get_or_past, set_past}
 use Rattle.std.proofs.lemmas.List.Sums.{count_by-le-length, get_or-le-sum_by, sum_by-cons, sum_by-set}
@@ -8,7 +9,8 @@ use Rattle.ule_model.specs.CpuNumbers.{is_unbound, records_but}
 use Rattle.ule_model.specs.Places.{is_number}
 use Rattle.ule_runq.specs.Set.{has}
 use Rattle.ule_score.specs.declared.record.ThreadRecord.{ThreadRecord}
-use Rattle.ule_tdq.specs.CpuThreads.{HasUnbound}
+use Rattle.ule_tdq.specs.CpuThreads.{HasUnbound, KeepsThreads}
+use Rattle.ule_tdq.specs.declared.threads.CpuThreads.TheInside.{Inside}
 
 -- what a record adds to the count
 abbrev pub unbound_at : Option ThreadRecord → ℕ
@@ -99,3 +101,48 @@ movable_kept old new current slots t kept within has_old is_set u = ⊎_elim sam
         is_set u ∙ ap (λ d. if d then is_unbound kept && not (is_number t current) else has old u) (ne_eqb u t differs) ∙
         has_old u ∙ ap is_unbound (but_at current slots u) ∙
         sym (shown (slice_index_or slots u None) (get_or-set_other slots t u kept None differs))
+
+-- a record that is changed and bound as before is of a thread that is not bound where it was
+pub as_unbound : (change : ThreadRecord → ThreadRecord) → ((r : ThreadRecord) → (change r).bound ≡ r.bound) → (o : Option ThreadRecord) →
+    is_unbound (option_map change o) ≡ is_unbound o
+as_unbound change bound None = refl
+as_unbound change bound (Some r) = ap is_none (bound r)
+
+-- the set stays as it is where another record is kept of a thread that is bound as before
+pub movable_as_before : (set : List ℕ) (current : Option ℕ) (slots : List (Option ThreadRecord)) (t : ℕ) (kept : Option ThreadRecord) →
+    t < length slots → is_unbound kept ≡ is_unbound (slice_index_or slots t None) → HasUnbound set (records_but current slots) →
+    HasUnbound set (records_but current (slice_set slots t kept))
+movable_as_before set current slots t kept within as_before has_old =
+    movable_kept set set current slots t kept within has_old (λ u. ⊎_elim (same u) (other u) (cases_eq u t))
+  where
+    same : (u : ℕ) → u ≡ t → has set u ≡ (if u == t then is_unbound kept && not (is_number t current) else has set u)
+    same u is =
+        has_old u ∙ ap is_unbound (but_at current slots u) ∙ sym (hidden (slice_index_or slots u None) (is_number u current)) ∙
+        ap (λ z. is_unbound (slice_index_or slots z None) && not (is_number z current)) is ∙
+        ap (λ b. b && not (is_number t current)) (sym as_before) ∙
+        sym (ap (λ d. if d then is_unbound kept && not (is_number t current) else has set u) (eq-eqb u t is))
+
+    other : (u : ℕ) → (u ≡ t → ⊥) → has set u ≡ (if u == t then is_unbound kept && not (is_number t current) else has set u)
+    other u differs = sym (ap (λ d. if d then is_unbound kept && not (is_number t current) else has set u) (ne_eqb u t differs))
+
+-- what keeps the set and the count lasts where another record is kept of a thread that is bound as before
+KeepsThreads-renewed : (d n : Inside) (t : ℕ) (kept : Option ThreadRecord) → t < length d.records → is_unbound kept ≡ is_unbound (slice_index_or d.records t None) →
+    KeepsThreads d → n.current ≡ d.current → n.movable ≡ d.movable → n.unbound ≡ d.unbound → n.records ≡ slice_set d.records t kept → KeepsThreads n
+KeepsThreads-renewed d n t kept within as_before keeps current movable count records = record {
+  slots = ap (λ (xs : List (Option ThreadRecord)). length xs) records ∙ length-set d.records t kept ∙ keeps.slots;
+  movable = rw (current, movable, records) (movable_as_before d.movable d.current d.records t kept within as_before keeps.movable);
+  unbound =
+      (let whole : count_by is_unbound n.records ≡ count_by is_unbound (slice_set d.records t kept) = ap (λ (xs : List (Option ThreadRecord)). count_by is_unbound xs) records in
+      let more = recounted d.records t kept within in
+      let same : unbound_at kept ≡ unbound_at (slice_index_or d.records t None) = ap (λ (b : Bool). if b then 1 else 0) as_before in
+      let was : d.unbound ≡ count_by is_unbound d.records = keeps.unbound in
+      count ∙ was ∙ sym (whole ∙ omega arith));
+}
+
+-- and so where a record is changed whose thread is bound as before
+pub KeepsThreads-changed : (d n : Inside) (t : ℕ) (change : ThreadRecord → ThreadRecord) → ((r : ThreadRecord) → (change r).bound ≡ r.bound) →
+    t < 256 → KeepsThreads d → n.current ≡ d.current → n.movable ≡ d.movable → n.unbound ≡ d.unbound →
+    n.records ≡ slice_set d.records t (option_map change (slice_index_or d.records t None)) → KeepsThreads n
+KeepsThreads-changed d n t change bound small keeps current movable count records =
+    KeepsThreads-renewed d n t (option_map change (slice_index_or d.records t None)) (let slots = keeps.slots in omega arith)
+    (as_unbound change bound (slice_index_or d.records t None)) keeps current movable count records

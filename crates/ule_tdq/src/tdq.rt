@@ -41,7 +41,7 @@ use ule_prio::{Cpu, Kind, LockId, Priority, ThreadId, kind_of, preempts};
 use ule_runq::{Runq, ThreadSet};
 use ule_score::{
     Change, Changed, CpuLine, Place, Settings, ThreadRecord, Why, after_change, after_fork,
-    after_running, after_tick, before_running, child_of, placed_on,
+    after_tick, child_of, placed_on,
 };
 use ule_topo::Summary;
 use ule_types::ThreadLine;
@@ -753,9 +753,8 @@ impl Tdq {
         ensures no_earlier { IsNoEarlier self.new now }
         ensures idle { self.new.current ≡ None }
     {
-        let left = after_running(self.threads.get(t).unwrap(), now);
-        let priority = left.priority;
-        self.threads.put(t, Some(left));
+        let priority = self.threads.get(t).unwrap().priority;
+        self.threads.note_ran(t, now);
         self.threads.stop();
         self.switches = self.switches.saturating_add(1);
         self.queues.insert(insertion_of(preempted), priority, t);
@@ -775,8 +774,8 @@ impl Tdq {
     {
         let (kind, t) = self.queues.first()?;
         self.queues.remove(kind, t);
-        let runs = before_running(self.threads.get(t).unwrap(), now);
-        self.threads.put(t, Some(runs));
+        let _priority = self.threads.get(t).unwrap().priority; // so that it is known to be here
+        self.threads.note_runs(t, now);
         self.threads.run(t);
         Some(t)
     }

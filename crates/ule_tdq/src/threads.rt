@@ -1,7 +1,10 @@
-ghost use Rattle.std.specs.Prelude.{◌≡◌, ◌==◌, ◌&&◌, not, ℕ, count_by, if◌then◌else◌, length, slice_index_or, slice_set, None, IfOk};
+ghost use Rattle.std.specs.Option.{option_map};
+ghost use Rattle.std.specs.Prelude.{◌≡◌, ◌≤◌, ◌<◌, ◌^◌, ◌==◌, ◌&&◌, not, false, ℕ, count_by, if◌then◌else◌, length, slice_index_or, slice_set, None, IfOk, IfSome, IsSome};
 ghost use Rattle.ule_model.specs.CpuNumbers.{is_unbound, records_but};
 ghost use Rattle.ule_model.specs.Places.{is_number};
 ghost use Rattle.ule_runq.specs.Set.{has};
+ghost use Rattle.ule_score.specs.Bounds.{KeepsBounds};
+ghost use Rattle.ule_score.specs.Changes.{after_running, used};
 
 use std::alloc::Global;
 use std::marker::Model;
@@ -101,6 +104,36 @@ impl CpuThreads {
         let others = self.unbound - unbound_in(&self.records.get(t));
         self.unbound = others + unbound_in(&kept);
         self.records.put(t, kept);
+    }
+
+    /// Notes in the record of a thread that it has just left the processor at `now`, as
+    /// [`ule_score::note_ran`] does.
+    #[inline]
+    pub fn note_ran(&mut self, t: ThreadId, now: u64)
+        requires begun { 20000 ≤ now }
+        requires bounded { now < 2 ^ 36 }
+        requires present { IsSome (slice_index_or self.old.records t None) }
+        requires bounds { IfSome (slice_index_or self.old.records t None) KeepsBounds }
+        requires in_time { IfSome (slice_index_or self.old.records t None) (λ r. r.usage.ltick ≤ now) }
+        ensures { self.new ≡ record self.old { records = slice_set self.old.records t (option_map (after_running now) (slice_index_or self.old.records t None)) } }
+    {
+        let _number = t.0; // so that it is known to be below 256
+        self.records.note_ran(t, now);
+    }
+
+    /// Notes in the record of a thread that it has just got the processor at `now`, as
+    /// [`ule_score::note_runs`] does.
+    #[inline]
+    pub fn note_runs(&mut self, t: ThreadId, now: u64)
+        requires begun { 20000 ≤ now }
+        requires bounded { now < 2 ^ 36 }
+        requires present { IsSome (slice_index_or self.old.records t None) }
+        requires bounds { IfSome (slice_index_or self.old.records t None) KeepsBounds }
+        requires in_time { IfSome (slice_index_or self.old.records t None) (λ r. r.usage.ltick ≤ now) }
+        ensures { self.new ≡ record self.old { records = slice_set self.old.records t (option_map (used false now) (slice_index_or self.old.records t None)) } }
+    {
+        let _number = t.0; // so that it is known to be below 256
+        self.records.note_runs(t, now);
     }
 
     /// The current thread.

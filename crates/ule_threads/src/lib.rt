@@ -4,5 +4,6 @@
 pub use standing::{Standing, Standings};
 pub use threads::Threads;
 
+mod slots;
 pub mod standing;
 pub mod threads;

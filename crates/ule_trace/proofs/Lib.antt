@@ -1,5 +1,6 @@
 pub mod Progress
 pub mod Rest
+pub mod Digits
 pub mod EventRows
 pub mod ReplyRows
 pub mod PlaceRows

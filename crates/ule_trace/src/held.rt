@@ -1,8 +1,9 @@
 // The bytes of a text that no sink has taken yet.
-ghost use Rattle.std.specs.Prelude.{◌≡◌, ℕ, ◌+◌, ◌*◌, ◌<◌, ◌≤◌, List, [], ◌∷◌, ◌++◌, length, drop, IsTrue, OnOk};
+ghost use Rattle.std.specs.Prelude.{◌≡◌, ℕ, ◌+◌, ◌*◌, ◌%◌, ◌<◌, ◌≤◌, List, [], ◌∷◌, ◌++◌, length, drop, IsTrue, OnOk};
 ghost use Rattle.std.specs.Fmt.{decimal, signed_decimal};
 ghost use Rattle.std.specs.List.{flat_map, list_all};
 ghost use Rattle.ule_trace.specs.Held.{Moves};
+ghost use Rattle.ule_trace.specs.Line.{optional_word, flag_word, spaced, worker_word};
 ghost use Rattle.ule_trace.specs.Word.{word_text, is_short};
 
 use crate::word::Word;
@@ -10,6 +11,7 @@ use arrayvec::ArrayVec;
 use itoa::Buffer;
 use std::marker::Model;
 use ule_io::{Sink, WriteFault, write_all};
+use ule_prio::{Cpu, Nice, ThreadId};
 
 /// How many bytes are held back at most.
 pub const CAPACITY: usize = 8192;
@@ -73,14 +75,118 @@ impl Held {
         self.bytes.try_extend_from_slice(t.as_bytes()).unwrap();
     }
 
-    /// Appends a number.
-    pub fn number(&mut self, n: u64)
+    // Appends the last digit of a number.
+    #[inline]
+    fn last_digit(&mut self, n: u32)
+        requires { length self.old < CAPACITY }
+        ensures { self.new ≡ self.old ++ (48 + n % 10) ∷ [] }
+    {
+        self.byte(b'0' + (n % 10) as u8);
+    }
+
+    // Appends a number of one digit.
+    #[tactic(auto, using(crate::proofs::Digits::one_digit))]
+    #[inline]
+    fn one_digit(&mut self, n: u32)
+        requires small { n < 10 }
+        requires room { length self.old + 1 ≤ CAPACITY }
+        ensures text { self.new ≡ self.old ++ decimal n }
+        ensures growth { length self.new ≤ length self.old + 1 }
+    {
+        self.last_digit(n);
+    }
+
+    // Appends a number of at most two digits.
+    #[tactic(auto, using(crate::proofs::Digits::more_digits))]
+    #[inline]
+    fn two_digits(&mut self, n: u32)
+        requires small { n < 100 }
+        requires room { length self.old + 2 ≤ CAPACITY }
+        ensures text { self.new ≡ self.old ++ decimal n }
+        ensures growth { length self.new ≤ length self.old + 2 }
+    {
+        if n < 10 {
+            self.one_digit(n);
+            return;
+        }
+        self.one_digit(n / 10);
+        self.last_digit(n);
+    }
+
+    // Appends a number of at most three digits.
+    #[tactic(auto, using(crate::proofs::Digits::more_digits))]
+    #[inline]
+    fn three_digits(&mut self, n: u32)
+        requires small { n < 1000 }
+        requires room { length self.old + 3 ≤ CAPACITY }
+        ensures text { self.new ≡ self.old ++ decimal n }
+        ensures growth { length self.new ≤ length self.old + 3 }
+    {
+        if n < 10 {
+            self.one_digit(n);
+            return;
+        }
+        self.two_digits(n / 10);
+        self.last_digit(n);
+    }
+
+    // Appends a number of at most four digits.
+    #[tactic(auto, using(crate::proofs::Digits::more_digits))]
+    #[inline]
+    fn four_digits(&mut self, n: u32)
+        requires small { n < 10000 }
+        requires room { length self.old + 4 ≤ CAPACITY }
+        ensures text { self.new ≡ self.old ++ decimal n }
+        ensures growth { length self.new ≤ length self.old + 4 }
+    {
+        if n < 10 {
+            self.one_digit(n);
+            return;
+        }
+        self.three_digits(n / 10);
+        self.last_digit(n);
+    }
+
+    // Appends a number of at most five digits.
+    #[tactic(auto, using(crate::proofs::Digits::more_digits))]
+    #[inline]
+    fn five_digits(&mut self, n: u32)
+        requires small { n < 100000 }
+        requires room { length self.old + 5 ≤ CAPACITY }
+        ensures text { self.new ≡ self.old ++ decimal n }
+        ensures growth { length self.new ≤ length self.old + 5 }
+    {
+        if n < 10 {
+            self.one_digit(n);
+            return;
+        }
+        self.four_digits(n / 10);
+        self.last_digit(n);
+    }
+
+    // Appends a number of any length.
+    fn long_number(&mut self, n: u64)
         requires { length self.old + 20 ≤ CAPACITY }
         ensures text { self.new ≡ self.old ++ decimal n }
         ensures growth { length self.new ≤ length self.old + 20 }
     {
         let mut digits = Buffer::new();
         self.text(digits.format(n));
+    }
+
+    /// Appends a number.
+    pub fn number(&mut self, n: u64)
+        requires { length self.old + 20 ≤ CAPACITY }
+        ensures text { self.new ≡ self.old ++ decimal n }
+        ensures growth { length self.new ≤ length self.old + 20 }
+    {
+        if n < 1000 {
+            self.three_digits(n as u32);
+        } else if n < 100_000 {
+            self.five_digits(n as u32);
+        } else {
+            self.long_number(n);
+        }
     }
 
     fn signed(&mut self, z: i8)
@@ -103,14 +209,140 @@ impl Held {
             Word::Text(t) => self.text(t),
             Word::Number(n) => self.number(n),
             Word::Signed(z) => self.signed(z),
-            Word::Worker(w) => {
-                self.byte(b'w');
-                self.number(u64::from(w));
-            }
             Word::Flag(true) => self.byte(b'1'),
             Word::Flag(false) => self.byte(b'0'),
             Word::Absent => self.byte(b'-'),
         }
+    }
+
+    /// Appends a keyword, behind a space.
+    #[inline]
+    pub fn keyword(&mut self, t: &str)
+        requires short { length t.now ≤ 24 }
+        requires room { length self.old + 25 ≤ CAPACITY }
+        ensures text { self.new ≡ self.old ++ 32 ∷ t.now }
+        ensures growth { length self.new ≤ length self.old + 25 }
+    {
+        self.byte(b' ');
+        self.text(t);
+    }
+
+    /// Appends a number, behind a space.
+    pub fn spaced_number(&mut self, n: u64)
+        requires { length self.old + 25 ≤ CAPACITY }
+        ensures text { self.new ≡ self.old ++ 32 ∷ decimal n }
+        ensures growth { length self.new ≤ length self.old + 25 }
+    {
+        self.byte(b' ');
+        self.number(n);
+    }
+
+    /// Appends a number below 256, behind a space.
+    pub fn small(&mut self, n: u8)
+        requires { length self.old + 25 ≤ CAPACITY }
+        ensures text { self.new ≡ self.old ++ 32 ∷ decimal n }
+        ensures growth { length self.new ≤ length self.old + 25 }
+    {
+        self.byte(b' ');
+        self.three_digits(u32::from(n));
+    }
+
+    /// Appends the number of a thread, or what stands for none, behind a space.
+    pub fn optional_thread(&mut self, t: Option<ThreadId>)
+        requires { length self.old + 25 ≤ CAPACITY }
+        ensures text { self.new ≡ self.old ++ 32 ∷ optional_word t }
+        ensures growth { length self.new ≤ length self.old + 25 }
+    {
+        match t {
+            Some(t) => self.small(t.0),
+            None => self.keyword("-"),
+        }
+    }
+
+    /// Appends the number of a CPU, or what stands for none, behind a space.
+    pub fn optional_cpu(&mut self, c: Option<Cpu>)
+        requires { length self.old + 25 ≤ CAPACITY }
+        ensures text { self.new ≡ self.old ++ 32 ∷ optional_word c }
+        ensures growth { length self.new ≤ length self.old + 25 }
+    {
+        match c {
+            Some(c) => self.small(c.0),
+            None => self.keyword("-"),
+        }
+    }
+
+    /// Appends a worker, behind a space.
+    pub fn worker(&mut self, w: u8)
+        requires { length self.old + 25 ≤ CAPACITY }
+        ensures text { self.new ≡ self.old ++ 32 ∷ worker_word w }
+        ensures growth { length self.new ≤ length self.old + 25 }
+    {
+        self.byte(b' ');
+        self.byte(b'w');
+        self.three_digits(u32::from(w));
+    }
+
+    /// Appends a nice value, behind a space.
+    pub fn nice(&mut self, n: Nice)
+        requires { length self.old + 25 ≤ CAPACITY }
+        ensures text { self.new ≡ self.old ++ 32 ∷ signed_decimal n }
+        ensures growth { length self.new ≤ length self.old + 25 }
+    {
+        self.byte(b' ');
+        self.signed(n.0);
+    }
+
+    /// Appends a truth value, behind a space.
+    #[inline]
+    pub fn flag(&mut self, b: bool)
+        requires { length self.old + 25 ≤ CAPACITY }
+        ensures text { self.new ≡ self.old ++ 32 ∷ flag_word b }
+        ensures growth { length self.new ≤ length self.old + 25 }
+    {
+        self.byte(b' ');
+        if b {
+            self.byte(b'1');
+        } else {
+            self.byte(b'0');
+        }
+    }
+
+    /// Appends a keyword and a number below 256, each behind a space.
+    #[inline]
+    pub fn named(&mut self, name: &str, n: u8)
+        requires short { length name.now ≤ 24 }
+        requires room { length self.old + 50 ≤ CAPACITY }
+        ensures text { self.new ≡ self.old ++ spaced (name.now ∷ decimal n ∷ []) }
+        ensures growth { length self.new ≤ length self.old + 50 }
+    {
+        self.keyword(name);
+        self.small(n);
+    }
+
+    /// Appends a keyword and two numbers below 256, each behind a space.
+    #[inline]
+    pub fn named_pair(&mut self, name: &str, a: u8, b: u8)
+        requires short { length name.now ≤ 24 }
+        requires room { length self.old + 75 ≤ CAPACITY }
+        ensures text { self.new ≡ self.old ++ spaced (name.now ∷ decimal a ∷ decimal b ∷ []) }
+        ensures growth { length self.new ≤ length self.old + 75 }
+    {
+        self.keyword(name);
+        self.small(a);
+        self.small(b);
+    }
+
+    /// Appends a keyword, a number below 256 and another number, each behind a space.
+    #[inline]
+    pub fn named_number(&mut self, name: &str, a: u8, n: u64)
+        requires short { length name.now ≤ 24 }
+        requires room { length self.old + 75 ≤ CAPACITY }
+        ensures text { self.new ≡ self.old ++ spaced (name.now ∷ decimal a ∷ decimal n ∷ []) }
+        ensures growth { length self.new ≤ length self.old + 75 }
+    {
+        self.keyword(name);
+        self.small(a);
+        self.spaced_number(n);
     }
 
     /// Appends words, each behind a space.

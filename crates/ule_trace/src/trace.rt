@@ -7,7 +7,6 @@ use crate::event::spell_event;
 use crate::finals::{spell_cpu, spell_thread};
 use crate::held::{CAPACITY, Held, LINE};
 use crate::reply::spell_reply;
-use crate::word::Word::{Number, Text, Worker};
 use ule_io::{Sink, WriteFault, write_all};
 use ule_types::{Entry, Outcome, Setup};
 
@@ -17,10 +16,11 @@ fn spell_entry(held: &mut Held, k: u64, e: &Entry)
     ensures { held.new ≡ held.old ++ line_text (entry_words k e.entry.now) }
 {
     held.number(k);
-    held.words(&[Worker(e.worker), Number(e.now)]);
-    spell_event(held, e.event);
-    held.words(&[Text("->")]);
-    spell_reply(held, e.reply);
+    held.worker(e.worker);
+    held.spaced_number(e.now);
+    spell_event(held, &e.event);
+    held.keyword("->");
+    spell_reply(held, &e.reply);
     held.byte(b'\n');
 }
 
@@ -30,9 +30,9 @@ fn spell_closing(held: &mut Held, now: u64, count: u64)
     ensures { held.new ≡ held.old ++ lines_text (closing_lines now count) }
 {
     held.text("now");
-    held.words(&[Number(now)]);
+    held.spaced_number(now);
     held.text("\ndone");
-    held.words(&[Number(count)]);
+    held.spaced_number(count);
     held.byte(b'\n');
 }
 

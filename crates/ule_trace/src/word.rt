@@ -13,8 +13,6 @@ pub enum Word {
     Text(&'static str),
     Number(u64),
     Signed(i8),
-    /// The number of a worker.
-    Worker(u8),
     /// A truth value.
     Flag(bool),
     /// What is not there.
