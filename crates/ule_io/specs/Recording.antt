@@ -5,7 +5,7 @@ use Rattle.ule_io.specs.Calls.{CallRecord, is_listed, after_call, after_fault}
 use Rattle.ule_io.specs.Sink.{SinkState}
 use Rattle.ule_io.specs.declared.Failed.{Failed}
 
--- the bytes taken, for how many there is room, the most that a write takes, the calls, the empty takes, and whether all is flushed
+-- the bytes taken, for how many there is room, the most that a write takes, the calls, the empty takes, whether all is flushed, and the flushes
 pub record Recording : Type 0 where
   pub taken : List ℕ
   pub room : ℕ
@@ -13,10 +13,11 @@ pub record Recording : Type 0 where
   pub calls : CallRecord
   pub empty_takes : ℕ
   pub flushed : Bool
+  pub flushes : ℕ
 
 -- it tells all of its bytes
 abbrev pub sink_state : Recording → SinkState
-sink_state r = record { taken = Some r.taken; faults = r.calls.faults; empty_takes = r.empty_takes; flushed = r.flushed }
+sink_state r = record { taken = Some r.taken; faults = r.calls.faults; empty_takes = r.empty_takes; flushed = r.flushed; flushes = r.flushes }
 
 -- whether a write fails: its number is listed, or a piece that isn't empty finds no room
 abbrev pub write_fails : Recording → List ℕ → Bool
@@ -39,7 +40,7 @@ takes_after r piece =
 abbrev pub after_write : Recording → List ℕ → Recording
 after_write r piece =
     if write_fails r piece
-    then record { taken = r.taken; room = r.room; most = r.most; calls = after_fault r.calls; empty_takes = r.empty_takes; flushed = r.flushed }
+    then record { taken = r.taken; room = r.room; most = r.most; calls = after_fault r.calls; empty_takes = r.empty_takes; flushed = r.flushed; flushes = r.flushes }
     else record {
       taken = r.taken ++ take (write_len r piece) piece;
       room = r.room;
@@ -47,6 +48,7 @@ after_write r piece =
       calls = after_call r.calls;
       empty_takes = takes_after r piece;
       flushed = if nat_lt 0 (write_len r piece) then false else r.flushed;
+      flushes = r.flushes;
     }
 
 -- what a flush answers
@@ -62,4 +64,5 @@ after_flush r = record {
   calls = if is_listed r.calls then after_fault r.calls else after_call r.calls;
   empty_takes = r.empty_takes;
   flushed = if is_listed r.calls then r.flushed else true;
+  flushes = one_more r.flushes;
 }

@@ -1,6 +1,6 @@
 -- What a source tells of itself, and what reading does to it.
 use Rattle.std.specs.Prelude.{◌≡◌, ◌≢◌, ℕ, ◌+◌, ◌<◌, ◌≤◌, List, [], ◌++◌, length, take, Option, Some, None, Result, Err, IfOk, is_some}
-use Rattle.ule_io.specs.Counter.{Rose}
+use Rattle.ule_io.specs.Counter.{Rose, one_more}
 use Rattle.ule_io.specs.declared.reading.ReadAllFault.{ReadAllFault}
 use Rattle.ule_io.specs.declared.reading.ReadAllFault.TheVariants.{ReadFault, TooLong, Memory}
 
@@ -8,6 +8,8 @@ use Rattle.ule_io.specs.declared.reading.ReadAllFault.TheVariants.{ReadFault, To
 pub record SourceState : Type 0 where
   pub left : Option (List ℕ)
   pub faults : ℕ
+  -- how many reads into a buffer with room gave no byte, as a read at the end does
+  pub ends : ℕ
 
 -- what was told before these bytes were taken off its front
 abbrev pub with_front : List ℕ → Option (List ℕ) → Option (List ℕ)
@@ -27,17 +29,23 @@ pub record Reads (old new : SourceState) (buffer : List ℕ) (n : ℕ) : Type 0 
   pub within : n ≤ length buffer
   pub given : Gives old.left new.left (take n buffer)
   pub end : n ≡ 0 → 0 < length buffer → IsAtEnd new.left
+  pub met_end : n ≡ 0 → 0 < length buffer → new.ends ≡ one_more old.ends
+  pub else_open : 0 < n → new.ends ≡ old.ends
+  pub no_room : length buffer ≡ 0 → new.ends ≡ old.ends
   pub faults : new.faults ≡ old.faults
 
 -- a read that failed: no byte is taken
 pub record ReadFails (old new : SourceState) : Type 0 where
   pub rose : Rose old.faults new.faults
   pub left : new.left ≡ old.left
+  pub ends : new.ends ≡ old.ends
 
 -- these bytes were all that was left
 pub record ReadsWhole (old new : SourceState) (limit : ℕ) (bytes : List ℕ) : Type 0 where
   pub given : Gives old.left new.left bytes
   pub end : IsAtEnd new.left
+  -- one read met the end, and no read followed it
+  pub one_end : new.ends ≡ one_more old.ends
   pub within : length bytes ≤ limit
   -- where the source tells, it told these
   pub all : (left : List ℕ) → old.left ≡ Some left → bytes ≡ left
@@ -55,4 +63,6 @@ pub record ReadAll (old new : SourceState) (limit : ℕ) (result : Result (List 
   -- a fault comes before more than the limit was taken
   pub fault_within : result ≡ Err ReadFault → (taken : List ℕ) × Gives old.left new.left taken × (length taken ≤ limit)
   pub else_kept : result ≢ Err ReadFault → new.faults ≡ old.faults
+  -- after any other answer no read met the end
+  pub no_end : (fault : ReadAllFault) → result ≡ Err fault → new.ends ≡ old.ends
   pub told : is_some new.left ≡ is_some old.left

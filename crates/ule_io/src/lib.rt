@@ -29,12 +29,13 @@ impl From<AllocError> for Memory {
     }
 }
 
-/// Where bytes come from. It may tell which bytes are left, and counts its faults.
+/// Where bytes come from. It may tell which bytes are left, and counts its faults and the reads that
+/// met its end.
 pub trait Source {
     ghost use Rattle.ule_io.specs.Source.{SourceState, Reads, ReadFails};
 
-    /// What the source tells: the bytes that are left, where it tells them, and how many of its reads
-    /// failed, a count that stands still at 2^64 - 1.
+    /// What the source tells: the bytes that are left, where it tells them; and how many of its reads
+    /// failed, and how many met the end, counts that stand still at 2^64 - 1.
     ghost state: { Self → SourceState };
 
     /// Reads some bytes into the front of `buf` and says how many, 0..=`buf.len()`. 0 bytes for a
@@ -44,14 +45,15 @@ pub trait Source {
         ensures failed { OnErr result (ReadFails (state self.old) (state self.new)) };
 }
 
-/// Where bytes go. It may tell which bytes it has taken, counts its faults and its empty takes, and
-/// knows whether all that it took was flushed.
+/// Where bytes go. It may tell which bytes it has taken, counts its faults, its empty takes and its
+/// flushes, and knows whether all that it took was flushed.
 pub trait Sink {
-    ghost use Rattle.ule_io.specs.Sink.{SinkState, Takes, WriteFails, as_flushed};
+    ghost use Rattle.ule_io.specs.Sink.{SinkState, Takes, WriteFails, FlushFails, as_flushed};
 
     /// What the sink tells: the bytes that it has taken, where it tells them; how many of its writes
-    /// and flushes failed, and how often it took nothing of a nonempty piece, counts that stand still
-    /// at 2^64 - 1; and whether it took no byte since its last flush that succeeded.
+    /// and flushes failed, how often it took nothing of a nonempty piece, and how many flushes were
+    /// asked for, counts that stand still at 2^64 - 1; and whether it took no byte since its last
+    /// flush that succeeded.
     ghost state: { Self → SinkState };
 
     /// Takes a front of `piece` and says how many bytes that is, 0..=`piece.len()`. A write that
@@ -64,5 +66,5 @@ pub trait Sink {
     /// were, and not flushed unless they were so before.
     fn flush(&mut self) -> Result<(), Failed>
         ensures ok { OnOk result (state self.new ≡ as_flushed (state self.old)) }
-        ensures failed { OnErr result (WriteFails (state self.old) (state self.new)) };
+        ensures failed { OnErr result (FlushFails (state self.old) (state self.new)) };
 }

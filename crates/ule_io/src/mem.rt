@@ -2,11 +2,12 @@
 ghost use Rattle.std.specs.Prelude.{◌≡◌, ◌++◌, ◌<◌, [], true, length, take, drop, IfOk, OnOk, OnErr, if◌then◌else◌};
 ghost use Rattle.ule_io.specs.Counter.{one_more, Rose};
 ghost use Rattle.ule_io.specs.Source.{Reads, ReadFails};
-ghost use Rattle.ule_io.specs.Sink.{Takes, WriteFails, as_flushed};
+ghost use Rattle.ule_io.specs.Sink.{Takes, WriteFails, FlushFails, as_flushed};
 ghost use Rattle.ule_io.specs.Calls.{no_calls, is_listed, after_call, after_fault};
 ghost use Rattle.ule_io.specs.Playback.{source_state, read_answer, after_read};
 ghost use Rattle.ule_io.specs.Recording.{sink_state, write_answer, after_write, flush_answer, after_flush};
 
+use crate::reading::count_end;
 use crate::{Failed, Memory, Sink, Source};
 use std::alloc::Global;
 use std::marker::Model;
@@ -69,6 +70,7 @@ pub struct MemSource {
     next: usize,
     most: usize,
     calls: Calls,
+    ends: u64,
 }
 
 impl Model for MemSource {
@@ -77,7 +79,7 @@ impl Model for MemSource {
 
     ghost Value = { Playback };
 
-    ghost view = { λ s. record { left = drop s.next s.bytes.items; most = s.most; calls = s.calls } };
+    ghost view = { λ s. record { left = drop s.next s.bytes.items; most = s.most; calls = s.calls; ends = s.ends } };
 
     ghost invariant = { λ s. (s.next ≤ length s.bytes.items) × (0 < s.most) };
 }
@@ -92,13 +94,14 @@ impl MemSource {
         fails: &[u64],
     ) -> Result<MemSource, Memory>
         requires { 0 < most }
-        ensures { IfOk result (λ s. s ≡ record { left = bytes.now; most = most; calls = no_calls fails.now }) }
+        ensures { IfOk result (λ s. s ≡ record { left = bytes.now; most = most; calls = no_calls fails.now; ends = 0 }) }
     {
         Ok(MemSource {
             bytes: bytes.to_vec(alloc)?,
             next: 0,
             most,
             calls: Calls::start(alloc, fails)?,
+            ends: 0,
         })
     }
 
@@ -107,6 +110,13 @@ impl MemSource {
         ensures { result.now ≡ self.now.left }
     {
         self.bytes.split_at(self.next).1
+    }
+
+    /// How many reads into a buffer with room moved no byte, as a read at the end does.
+    pub fn ends(&self) -> u64
+        ensures { result ≡ self.now.ends }
+    {
+        self.ends
     }
 }
 
@@ -122,9 +132,11 @@ impl Source for MemSource {
     {
         self.calls.begin()?;
         let left = self.bytes.split_at(self.next).1;
-        let n = self.most.min(buf.len()).min(left.len());
+        let room = buf.len();
+        let n = self.most.min(room).min(left.len());
         buf[..n].copy_from_slice(&left[..n]);
         self.next += n;
+        self.ends = count_end(self.ends, room, n);
         Ok(n)
     }
 }
@@ -138,6 +150,7 @@ pub struct MemSink {
     calls: Calls,
     empty_takes: u64,
     flushed: bool,
+    flushes: u64,
 }
 
 impl Model for MemSink {
@@ -146,7 +159,7 @@ impl Model for MemSink {
 
     ghost Value = { Recording };
 
-    ghost view = { λ s. record { taken = s.bytes.items; room = s.room; most = s.most; calls = s.calls; empty_takes = s.empty_takes; flushed = s.flushed } };
+    ghost view = { λ s. record { taken = s.bytes.items; room = s.room; most = s.most; calls = s.calls; empty_takes = s.empty_takes; flushed = s.flushed; flushes = s.flushes } };
 
     ghost invariant = { λ s. (vec_len s.bytes ≤ s.room) × (s.room ≤ vec_capacity s.bytes) };
 }
@@ -157,7 +170,7 @@ impl MemSink {
     /// `fails` fail, and so does a write of a nonempty piece where no room is left. It is flushed, as
     /// nothing was taken yet.
     pub fn start(alloc: Global, room: usize, most: usize, fails: &[u64]) -> Result<MemSink, Memory>
-        ensures { IfOk result (λ s. s ≡ record { taken = []; room = room; most = most; calls = no_calls fails.now; empty_takes = 0; flushed = true }) }
+        ensures { IfOk result (λ s. s ≡ record { taken = []; room = room; most = most; calls = no_calls fails.now; empty_takes = 0; flushed = true; flushes = 0 }) }
     {
         Ok(MemSink {
             bytes: Vec::with_capacity(alloc, room)?,
@@ -166,6 +179,7 @@ impl MemSink {
             calls: Calls::start(alloc, fails)?,
             empty_takes: 0,
             flushed: true,
+            flushes: 0,
         })
     }
 
@@ -181,6 +195,13 @@ impl MemSink {
         ensures { result ≡ self.now.flushed }
     {
         self.flushed
+    }
+
+    /// How many flushes were asked for.
+    pub fn flushes(&self) -> u64
+        ensures { result ≡ self.now.flushes }
+    {
+        self.flushes
     }
 }
 
@@ -211,10 +232,11 @@ impl Sink for MemSink {
 
     fn flush(&mut self) -> Result<(), Failed>
         ensures ok { OnOk result (sink_state self.new ≡ as_flushed (sink_state self.old)) }
-        ensures failed { OnErr result (WriteFails (sink_state self.old) (sink_state self.new)) }
+        ensures failed { OnErr result (FlushFails (sink_state self.old) (sink_state self.new)) }
         ensures answer { result ≡ flush_answer self.old }
         ensures after { self.new ≡ after_flush self.old }
     {
+        self.flushes = self.flushes.saturating_add(1);
         self.calls.begin()?;
         self.flushed = true;
         Ok(())

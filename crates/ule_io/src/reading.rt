@@ -1,5 +1,7 @@
 // Reading a source to its end.
 ghost use Rattle.std.specs.Prelude.{◌≡◌, ℕ, List, ◌<◌, ◌++◌, length, take, IfOk, OnErr, OnOk};
+ghost use Rattle.ule_io.specs.Counter.{one_more};
+ghost use Rattle.ule_io.specs.Playback.{ends_after};
 ghost use Rattle.ule_io.specs.Source.{ReadAll};
 
 use crate::{Failed, Source};
@@ -42,12 +44,27 @@ impl Bytes {
     }
 }
 
+/// How many reads met the end, with one that gave n bytes into a buffer with this room.
+pub(crate) fn count_end(ends: u64, room: usize, n: usize) -> u64
+    ensures value { result ≡ ends_after ends room n }
+    ensures met_end { n ≡ 0 → 0 < room → result ≡ one_more ends }
+    ensures else_open { 0 < n → result ≡ ends }
+    ensures no_room { room ≡ 0 → result ≡ ends }
+{
+    if room > 0 && n == 0 {
+        ends.saturating_add(1)
+    } else {
+        ends
+    }
+}
+
 // The most that one read takes, in bytes.
 const PIECE: usize = 8192;
 
 /// All bytes to the end of the source, of which there may be at most `limit`. `TooLong` comes where
-/// one byte more was taken, and no further byte is. `ReadFault` comes with at most `limit` bytes
-/// taken, and `Memory` with at most one more. After either the bytes taken are lost.
+/// one byte more was taken, and no further byte is. One read meets the end where the answer is the
+/// bytes, and else none. `ReadFault` comes with at most `limit` bytes taken, and `Memory` with at
+/// most one more. After either the bytes taken are lost.
 pub fn read_all<S: Source>(alloc: Global, src: &mut S, limit: usize) -> Result<Bytes, ReadAllFault>
     ensures { ReadAll (S.state src.old) (S.state src.new) limit result }
 {

@@ -9,7 +9,8 @@ const PIECE: usize = 4096;
 
 /// Gives all bytes to the end of the source, of which there may be at most `limit`, to a reader, in
 /// pieces of at most 4,096. `TooLong` comes where one byte more was taken, and no further byte is.
-/// `ReadFault` comes with at most `limit` bytes taken, and `Memory` with at most one more.
+/// One read meets the end where the answer is `Ok`, and else none. `ReadFault` comes with at most
+/// `limit` bytes taken, and `Memory` with at most one more.
 pub fn feed_all<S: Source>(src: &mut S, limit: usize, r: &mut Reader) -> Result<(), ReadAllFault>
     ensures { FeedsAll (S.state src.old) (S.state src.new) limit r.old r.new result }
 {

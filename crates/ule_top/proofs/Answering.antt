@@ -1,5 +1,5 @@
 -- From what each part comes to, the answer of the whole.
-use Rattle.std.proofs.Common.{◌≡◌, ◌≤◌, ◌++◌, ℕ, ◌+◌, ◌%◌, List, [], ◌∷◌, map, length, get_or, Option, Some, None, ⊎_elim, refl, sym, ◌∙◌, ap, subst, arith}
+use Rattle.std.proofs.Common.{◌≡◌, ◌≤◌, ◌++◌, ℕ, ◌+◌, ◌%◌, List, [], ◌∷◌, map, length, get_or, Option, Some, None, inl, inr, ⊎_elim, refl, sym, ◌∙◌, ap, subst, arith}
 use Rattle.std.specs.List.{AllByRecursion, cons_option, filter_map, range_with_len}
 use Rattle.std.specs.Option.{option_map}
 use Rattle.std.proofs.lemmas.Bool.{lt-ltb}
@@ -22,7 +22,7 @@ use Rattle.ule_types.specs.Outcome.{OutcomeValue}
 use Rattle.ule_types.specs.declared.setup.Setup.{Setup}
 use Rattle.ule_scenario.specs.Scenario.{Spells}
 use Rattle.ule_scenario.specs.declared.reason.Refusal.{Refusal}
-use Rattle.ule_top.specs.Run.{Answers, AnswersInput, AnswersRefusal, AnswersSetup, HasRun, IsDue, IsRefused, NamesItsLock, ReadRefused, Refuses, TookAtMost, TookFront, Wrote, no_memory, played, refusal_due, refused, refusal_text, rounds_text, run_words, scenario_limit, too_long, trace_due, traced, unmade, whole}
+use Rattle.ule_top.specs.Run.{Answers, AnswersInput, AnswersRefusal, AnswersSetup, EndedOnceAtMost, HasRun, IsDue, IsRefused, NamesItsLock, ReadRefused, Refuses, TookAtMost, TookFront, Wrote, no_memory, played, refusal_due, refused, refusal_text, rounds_text, run_words, scenario_limit, too_long, trace_due, traced, unmade, whole}
 
 -- ---- the text of an outcome
 
@@ -67,8 +67,8 @@ words_name s history =
 
 -- the answer where the trace was written
 answers_done : (s0 s1 : SourceState) (k0 k1 : SinkState) (status : ℕ) → status ≡ 0 → HasRun s0 s1 k0 k1 → s1.faults ≡ s0.faults →
-    (k1.faults ≡ k0.faults) × (k1.empty_takes ≡ k0.empty_takes) → Answers run_words s0 s1 k0 k1 status
-answers_done s0 s1 k0 k1 status is has read wrote = record {
+    (k1.faults ≡ k0.faults) × (k1.empty_takes ≡ k0.empty_takes) → EndedOnceAtMost s0 s1 → Answers run_words s0 s1 k0 k1 status
+answers_done s0 s1 k0 k1 status is has read wrote once = record {
   known = omega arith;
   done = λ e. has;
   usage = λ e. absurd (omega arith);
@@ -80,14 +80,15 @@ answers_done s0 s1 k0 k1 status is has read wrote = record {
   write_fault = λ e. absurd (omega arith);
   no_memory = λ e. absurd (omega arith);
   memory_within = λ e. absurd (omega arith);
+  ends = once;
   read_kept = λ e. read;
   write_kept = λ e. wrote;
 }
 
 -- the answer where the line of the refusal was written
 answers_refused : (s0 s1 : SourceState) (k0 k1 : SinkState) (status : ℕ) → status ≡ 3 → IsRefused s0 s1 k0 k1 → s1.faults ≡ s0.faults →
-    (k1.faults ≡ k0.faults) × (k1.empty_takes ≡ k0.empty_takes) → Answers run_words s0 s1 k0 k1 status
-answers_refused s0 s1 k0 k1 status is has read wrote = record {
+    (k1.faults ≡ k0.faults) × (k1.empty_takes ≡ k0.empty_takes) → EndedOnceAtMost s0 s1 → Answers run_words s0 s1 k0 k1 status
+answers_refused s0 s1 k0 k1 status is has read wrote once = record {
   known = omega arith;
   done = λ e. absurd (omega arith);
   usage = λ e. absurd (omega arith);
@@ -99,13 +100,14 @@ answers_refused s0 s1 k0 k1 status is has read wrote = record {
   write_fault = λ e. absurd (omega arith);
   no_memory = λ e. absurd (omega arith);
   memory_within = λ e. absurd (omega arith);
+  ends = once;
   read_kept = λ e. read;
   write_kept = λ e. wrote;
 }
 
 -- the answer where a fault of writing came
-answers_fault : (s0 s1 : SourceState) (k0 k1 : SinkState) (status : ℕ) → status ≡ 4 → TookFront s0 s1 k0 k1 → s1.faults ≡ s0.faults → Answers run_words s0 s1 k0 k1 status
-answers_fault s0 s1 k0 k1 status is has read = record {
+answers_fault : (s0 s1 : SourceState) (k0 k1 : SinkState) (status : ℕ) → status ≡ 4 → TookFront s0 s1 k0 k1 → s1.faults ≡ s0.faults → EndedOnceAtMost s0 s1 → Answers run_words s0 s1 k0 k1 status
+answers_fault s0 s1 k0 k1 status is has read once = record {
   known = omega arith;
   done = λ e. absurd (omega arith);
   usage = λ e. absurd (omega arith);
@@ -117,14 +119,15 @@ answers_fault s0 s1 k0 k1 status is has read = record {
   write_fault = λ e. has;
   no_memory = λ e. absurd (omega arith);
   memory_within = λ e. absurd (omega arith);
+  ends = once;
   read_kept = λ e. read;
   write_kept = λ e. absurd (e is);
 }
 
 -- the answer where memory ran out
-pub answers_no_memory : (s0 s1 : SourceState) (k0 k1 : SinkState) (status : ℕ) → status ≡ 5 → k1 ≡ k0 → s1.faults ≡ s0.faults → TookAtMost s0 s1 (scenario_limit + 1) →
+pub answers_no_memory : (s0 s1 : SourceState) (k0 k1 : SinkState) (status : ℕ) → status ≡ 5 → k1 ≡ k0 → s1.faults ≡ s0.faults → TookAtMost s0 s1 (scenario_limit + 1) → EndedOnceAtMost s0 s1 →
     Answers run_words s0 s1 k0 k1 status
-answers_no_memory s0 s1 k0 k1 status is same read took = record {
+answers_no_memory s0 s1 k0 k1 status is same read took once = record {
   known = omega arith;
   done = λ e. absurd (omega arith);
   usage = λ e. absurd (omega arith);
@@ -136,6 +139,7 @@ answers_no_memory s0 s1 k0 k1 status is same read took = record {
   write_fault = λ e. absurd (omega arith);
   no_memory = λ e. same;
   memory_within = λ e. took;
+  ends = once;
   read_kept = λ e. read;
   write_kept = λ e. (ap (λ (k : SinkState). k.faults) same, ap (λ (k : SinkState). k.empty_takes) same);
 }
@@ -151,23 +155,28 @@ longer_left (Some rest) left taken is =
 -- a fault in the text that is due
 took_front : (s0 s1 : SourceState) (k0 k1 : SinkState) (text : List ℕ) (good status : ℕ) → IsDue s0 s1 text → Wrote k0 k1 text good status → status ≡ 4 → TookFront s0 s1 k0 k1
 took_front s0 s1 k0 k1 text good status due w is =
-    let parts = w.fault is in record { text = text; due = due; front = parts.0; cause = parts.1 }
+    let parts = w.fault is in record { text = text; due = due; front = parts.0; cause = parts.1; flushes = w.flushes }
 
 -- where the source told its bytes, they are refused as what was read is
 cause_told : (s0 s1 : SourceState) (x : Refusal) → ReadRefused s0 s1 x → (input : List ℕ) → s0.left ≡ Some input → Refuses input x
 cause_told s0 s1 x (whole input reads refuses) left told = rw (sym (reads.all left told)) refuses
-cause_told s0 s1 x (too_long taken given count is) left told =
+cause_told s0 s1 x (too_long taken given count ends is) left told =
     let longer = longer_left s1.left left taken (sym told ∙ given) in
     rw (is, lt-ltb 1048576 (length left) (omega arith)) refl
+
+-- what was read and is refused met the end once, or not at all
+ended_once : (s0 s1 : SourceState) (x : Refusal) → ReadRefused s0 s1 x → EndedOnceAtMost s0 s1
+ended_once s0 s1 x (whole input reads refuses) = inr reads.one_end
+ended_once s0 s1 x (too_long taken given count ends is) = inl ends
 
 -- a refusal is the answer where what was read is refused
 pub answers_refusal : (s0 s1 : SourceState) (k0 k1 : SinkState) (status : ℕ) (x : Refusal) → ReadRefused s0 s1 x → s1.faults ≡ s0.faults → AnswersRefusal x k0 k1 status → Answers run_words s0 s1 k0 k1 status
 answers_refusal s0 s1 k0 k1 status x read faults w =
     ⊎_elim
     (λ (is : status ≡ 3). answers_refused s0 s1 k0 k1 status is
-    (record { refusal = x; cause = cause_told s0 s1 x read; read = read; written = w.whole is; flushed = w.flushed is })
-    faults (w.kept (λ e. omega arith)))
-    (λ (is : status ≡ 4). answers_fault s0 s1 k0 k1 status is (took_front s0 s1 k0 k1 (refusal_text x) 3 status (refusal_due x read refl) w is) faults)
+    (record { refusal = x; cause = cause_told s0 s1 x read; read = read; written = w.whole is; flushed = w.flushed is; one_flush = w.one_flush is })
+    faults (w.kept (λ e. omega arith)) (ended_once s0 s1 x read))
+    (λ (is : status ≡ 4). answers_fault s0 s1 k0 k1 status is (took_front s0 s1 k0 k1 (refusal_text x) 3 status (refusal_due x read refl) w is) faults (ended_once s0 s1 x read))
     w.known
 
 -- what the whole input comes to is the answer of the command
@@ -183,16 +192,17 @@ answers_input s0 s1 k0 k1 input status reads faults (traced s spells w) =
       spelled = spells;
       written = w.whole is;
       flushed = w.flushed is;
+      one_flush = w.one_flush is;
       history = history_of_rounds s;
       words = words_name s (history_of_rounds s);
     })
-    faults (w.kept (λ e. omega arith)))
-    (λ (is : status ≡ 4). answers_fault s0 s1 k0 k1 status is (took_front s0 s1 k0 k1 (rounds_text s) 0 status (trace_due input s reads spells refl) w is) faults)
+    faults (w.kept (λ e. omega arith)) (inr reads.one_end))
+    (λ (is : status ≡ 4). answers_fault s0 s1 k0 k1 status is (took_front s0 s1 k0 k1 (rounds_text s) 0 status (trace_due input s reads spells refl) w is) faults (inr reads.one_end))
     w.known
 answers_input s0 s1 k0 k1 input status reads faults (refused x refuses w) =
     answers_refusal s0 s1 k0 k1 status x (whole input reads refuses) faults w
 answers_input s0 s1 k0 k1 input status reads faults (no_memory is same) =
-    answers_no_memory s0 s1 k0 k1 status is same faults (input, reads.given, (let h = reads.within in omega arith))
+    answers_no_memory s0 s1 k0 k1 status is same faults (input, reads.given, (let h = reads.within in omega arith)) (inr reads.one_end)
 
 -- what a setup that the bytes spell comes to is what they come to
 pub answers_setup : (input : List ℕ) (s : Setup) (k0 k1 : SinkState) (status : ℕ) → Spells input s → AnswersSetup s k0 k1 status → AnswersInput input k0 k1 status

@@ -2,7 +2,7 @@
 use Rattle.std.specs.Fmt.{decimal}
 use Rattle.std.specs.Prelude.{◌≡◌, ◌≢◌, ℕ, ◌+◌, ◌<◌, ◌≤◌, true, List, [], ◌∷◌, ◌++◌, length, codes, Some, Result, Err, ◌⊎◌}
 use Rattle.std.specs.List.{AllByRecursion}
-use Rattle.ule_io.specs.Counter.{Rose}
+use Rattle.ule_io.specs.Counter.{Rose, one_more}
 use Rattle.ule_io.specs.Sink.{Appends, AppendsFront, SinkState, WroteWhole}
 use Rattle.ule_io.specs.Source.{Gives, ReadsWhole, SourceState}
 use Rattle.ule_io.specs.declared.writing.WriteFault.{WriteFault}
@@ -49,6 +49,7 @@ pub record HasRun (s0 s1 : SourceState) (k0 k1 : SinkState) : Type 0 where
   pub spelled : Spells input setup
   pub written : Appends k0.taken k1.taken (trace_text (outcome_of setup setup.scripts (play_of setup).entries))
   pub flushed : k1.flushed ≡ true
+  pub one_flush : k1.flushes ≡ one_more k0.flushes
   pub history : IsHistoryOf setup (play_of setup)
   pub words : AllByRecursion NamesItsLock (outcome_of setup setup.scripts (play_of setup).entries).threads
 
@@ -56,10 +57,10 @@ pub record HasRun (s0 s1 : SourceState) (k0 k1 : SinkState) : Type 0 where
 abbrev pub Refuses : List ℕ → Refusal → Type 0
 Refuses input x = read_bytes input ≡ Err x
 
--- what was read is refused so: it is the whole input, or one byte more than a scenario may have
+-- what was read is refused so: it is the whole input, or one byte more than a scenario may have, and no read met the end
 pub data ReadRefused (s0 s1 : SourceState) (x : Refusal) : Type 0 where
   whole : (input : List ℕ) → ReadsWhole s0 s1 scenario_limit input → Refuses input x → ReadRefused s0 s1 x
-  too_long : (taken : List ℕ) → Gives s0.left s1.left taken → length taken ≡ scenario_limit + 1 → x ≡ too_long_refusal → ReadRefused s0 s1 x
+  too_long : (taken : List ℕ) → Gives s0.left s1.left taken → length taken ≡ scenario_limit + 1 → s1.ends ≡ s0.ends → x ≡ too_long_refusal → ReadRefused s0 s1 x
 
 -- a refusal: what was read is refused so, and the line of the refusal was written and flushed
 pub record IsRefused (s0 s1 : SourceState) (k0 k1 : SinkState) : Type 0 where
@@ -69,11 +70,20 @@ pub record IsRefused (s0 s1 : SourceState) (k0 k1 : SinkState) : Type 0 where
   pub read : ReadRefused s0 s1 refusal
   pub written : Appends k0.taken k1.taken (refusal_text refusal)
   pub flushed : k1.flushed ≡ true
+  pub one_flush : k1.flushes ≡ one_more k0.flushes
 
 -- the text that is due: the trace of the setup that the whole input spells, or the line of the refusal of what was read
 pub data IsDue (s0 s1 : SourceState) (text : List ℕ) : Type 0 where
   trace_due : (input : List ℕ) (s : Setup) → ReadsWhole s0 s1 scenario_limit input → Spells input s → text ≡ rounds_text s → IsDue s0 s1 text
   refusal_due : (x : Refusal) → ReadRefused s0 s1 x → text ≡ refusal_text x → IsDue s0 s1 text
+
+-- at most one flush was asked for
+abbrev pub FlushedOnceAtMost : SinkState → SinkState → Type 0
+FlushedOnceAtMost k0 k1 = (k1.flushes ≡ k0.flushes) ⊎ (k1.flushes ≡ one_more k0.flushes)
+
+-- at most one read met the end
+abbrev pub EndedOnceAtMost : SourceState → SourceState → Type 0
+EndedOnceAtMost s0 s1 = (s1.ends ≡ s0.ends) ⊎ (s1.ends ≡ one_more s0.ends)
 
 -- a fault of writing: a front of the text that is due was taken, and nothing else
 pub record TookFront (s0 s1 : SourceState) (k0 k1 : SinkState) : Type 0 where
@@ -81,6 +91,7 @@ pub record TookFront (s0 s1 : SourceState) (k0 k1 : SinkState) : Type 0 where
   pub due : IsDue s0 s1 text
   pub front : AppendsFront k0.taken k1.taken text
   pub cause : Rose k0.faults k1.faults ⊎ Rose k0.empty_takes k1.empty_takes
+  pub flushes : FlushedOnceAtMost k0 k1
 
 -- at most so many bytes were taken
 abbrev pub TookAtMost : SourceState → SourceState → ℕ → Type 0
@@ -100,6 +111,7 @@ pub record Answers (words : List (List ℕ)) (s0 s1 : SourceState) (k0 k1 : Sink
   pub write_fault : status ≡ 4 → TookFront s0 s1 k0 k1
   pub no_memory : status ≡ 5 → k1 ≡ k0
   pub memory_within : status ≡ 5 → TookAtMost s0 s1 (scenario_limit + 1)
+  pub ends : EndedOnceAtMost s0 s1
   -- the counts stand as before the call after every other status
   pub read_kept : status ≢ 2 → s1.faults ≡ s0.faults
   pub write_kept : status ≢ 4 → (k1.faults ≡ k0.faults) × (k1.empty_takes ≡ k0.empty_takes)
@@ -111,6 +123,8 @@ pub record Wrote (k0 k1 : SinkState) (text : List ℕ) (good status : ℕ) : Typ
   pub known : (status ≡ good) ⊎ (status ≡ 4)
   pub whole : status ≡ good → Appends k0.taken k1.taken text
   pub flushed : status ≡ good → k1.flushed ≡ true
+  pub one_flush : status ≡ good → k1.flushes ≡ one_more k0.flushes
+  pub flushes : FlushedOnceAtMost k0 k1
   pub fault : status ≡ 4 → AppendsFront k0.taken k1.taken text × (Rose k0.faults k1.faults ⊎ Rose k0.empty_takes k1.empty_takes)
   pub kept : status ≢ 4 → (k1.faults ≡ k0.faults) × (k1.empty_takes ≡ k0.empty_takes)
 

@@ -18,5 +18,6 @@ returns-then-is_err g c =
       failed = λ e. cc;
       fault_within = λ e. cc;
       else_kept = λ _. grind arith;
+      no_end = λ fault e. grind arith;
       told = grind (arith, common_steps);
     }

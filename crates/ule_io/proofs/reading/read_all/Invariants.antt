@@ -11,6 +11,7 @@ invariant-loop-piece g l =
     record {
       given : Gives old.left new.left l.bytes.items;
       faults : new.faults ≡ old.faults;
+      ends : new.ends ≡ old.ends;
       within : vec_len l.bytes ≤ l.limit + 1;
       room : length l.piece ≡ PIECE;
     }

@@ -13,6 +13,7 @@ loop-rest-preserved g c =
       taken = grind (arith, writes);
       faults = grind arith;
       empty_takes = grind arith;
+      flushes = grind arith;
       unflushed = λ some. grind (arith, common_steps);
       still_flushed = λ none. grind (arith, common_steps);
     }

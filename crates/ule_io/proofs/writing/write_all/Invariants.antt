@@ -13,6 +13,7 @@ invariant-loop-rest g l =
       taken : Appends old.taken new.taken front;
       faults : new.faults ≡ old.faults;
       empty_takes : new.empty_takes ≡ old.empty_takes;
+      flushes : new.flushes ≡ old.flushes;
       unflushed : 0 < length front → new.flushed ≡ false;
       still_flushed : length front ≡ 0 → new.flushed ≡ old.flushed;
     }

@@ -13,6 +13,7 @@ invariant-loop-n g l =
       taken : List ℕ;
       given : Gives old.left new.left taken;
       faults : new.faults ≡ old.faults;
+      ends : new.ends ≡ old.ends;
       within : length taken + l.left ≡ l.limit;
       room : length l.piece ≡ PIECE;
       read : (before : List ℕ) → HasRead l.initial.r before → HasRead l.r (before ++ taken);
