@@ -1,7 +1,6 @@
 -- Each entry of the play of a setup is possible where it was made, so a world can be stepped through them.
 use Rattle.std.proofs.Common.{◌≡◌, ℕ, ◌+◌, List, [], ◌∷◌, ◌++◌, drop, slice_get, Some, sym, ap, subst}
 use Rattle.std.proofs.lemmas.Bool.{cond_both}
-use Rattle.ule_types.specs.Form.{IsOfForm}
 use Rattle.ule_types.specs.Outcome.{OutcomeValue}
 use Rattle.ule_types.specs.declared.event.Entry.{Entry}
 use Rattle.ule_types.specs.declared.event.Item.{Item}
@@ -63,15 +62,15 @@ turn_made s p worker so_far = record {
         (λ lost. so_far.entries)
 
 -- the entries of the play of a setup are possible
-play_made : (s : Setup) → IsOfForm s → IsMade s (play_of s)
-play_made s form =
+play_made : (s : Setup) → IsMade s (play_of s)
+play_made s =
     (rounds_keep (IsMadeSoFar s) (turn_made s) greatest_rounds (opening s)
-    (record { kept = under_way_opening s form; entries = HoldsOfEach-start IsPossibleEntry (world_at_start s) })).entries
+    (record { kept = under_way_opening s; entries = HoldsOfEach-start IsPossibleEntry (world_at_start s) })).entries
 
 -- a world at the start can be stepped through the outcome of the play
-pub start_replays : (s : Setup) (v : WorldValue) (o : OutcomeValue) → IsOfForm s → IsOutcomeOf s o → Shows v (world_at_start s) → CanReplay v o.entries
-start_replays s v o form is shown =
-    (world_at_start s, shown, subst (λ es. HoldsOfEach IsPossibleEntry (world_at_start s) es) (sym (ap (λ x. x.entries) is)) (play_made s form))
+pub start_replays : (s : Setup) (v : WorldValue) (o : OutcomeValue) → IsOutcomeOf s o → Shows v (world_at_start s) → CanReplay v o.entries
+start_replays s v o is shown =
+    (world_at_start s, shown, subst (λ es. HoldsOfEach IsPossibleEntry (world_at_start s) es) (sym (ap (λ x. x.entries) is)) (play_made s))
 
 -- ---- one entry more
 

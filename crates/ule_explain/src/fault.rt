@@ -14,9 +14,6 @@ pub enum Fault {
     /// The input spells no setup, or is too long.
     #[error("the input is no scenario")]
     NoScenario,
-    /// The scenario needs events that aren't built yet.
-    #[error("the scenario can't be played yet")]
-    NotPlayed,
     /// Standard output failed.
     #[error("a line could not be printed")]
     Print,

@@ -20,7 +20,6 @@ use replay::explain;
 use std::process::ExitCode;
 use ule_io::{StdSource, read_all};
 use ule_scenario::read;
-use ule_types::is_of_form;
 
 /// The most bytes that a scenario may have.
 const SCENARIO_LIMIT: usize = 1_048_576;
@@ -31,9 +30,6 @@ fn run(rt: &HostRuntime) -> Result<(), Fault> {
     let mut source = StdSource::over(rt.stdin());
     let input = read_all(alloc, &mut source, SCENARIO_LIMIT)?;
     let setup = read(alloc, input.as_slice())?;
-    if !is_of_form(&setup) {
-        return Err(Fault::NotPlayed);
-    }
     explain(rt, alloc, &setup)
 }
 

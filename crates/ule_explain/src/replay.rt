@@ -1,6 +1,5 @@
 //! The play of a setup, and a world that is stepped through it once more.
 ghost use Rattle.std.specs.Prelude.{◌≡◌, ◌+◌, ◌<◌, ◌≤◌, length};
-ghost use Rattle.ule_types.specs.Form.{IsOfForm};
 ghost use Rattle.ule_explain.specs.Replay.{CanReplay};
 
 use crate::entry::tell_entry;
@@ -24,9 +23,7 @@ const OTHER_LINES: usize = 300;
 const ENTRIES_AHEAD: u32 = 32;
 
 /// Plays a setup, and prints its trace with what each entry came from.
-pub fn explain(rt: &impl Print, alloc: Global, setup: &Setup) -> Result<(), Fault>
-    requires { IsOfForm setup.now }
-{
+pub fn explain(rt: &impl Print, alloc: Global, setup: &Setup) -> Result<(), Fault> {
     let outcome = play(alloc, setup)?;
     let trace = trace_of(alloc, setup, &outcome)?;
     let mut world = World::start(alloc, setup)?;

@@ -12,7 +12,6 @@ use Rattle.ule_score.specs.declared.record.ThreadRecord.{ThreadRecord}
 use Rattle.ule_sleep.specs.Chain.{ChainValue, IsEmptyChain}
 use Rattle.ule_sleep.specs.Limbo.{IsEmptyLimbo, LimboValue, with_still}
 use Rattle.ule_threads.specs.declared.standing.Standing.{Standing}
-use Rattle.ule_types.specs.Form.{IsOfForm}
 use Rattle.ule_types.specs.declared.setup.Setup.{Setup}
 use Rattle.ule_types.specs.declared.setup.ThreadSpec.{ThreadSpec}
 use Rattle.ule_model.specs.CpuStart.{StartsAs}
@@ -118,22 +117,22 @@ module _ (s : Setup) (c : ℕ) where
       by_test false = refl
 
   -- the CPU so far stands under its lock while declared threads are laid
-  pub queue_opens : IsOfForm s → c < s.cpus → (k : ℕ) → k ≤ length s.threads → IsQueueOf (laid_first s k) c (queue_so_far k)
-  queue_opens form within zero few = queue_before s c (bare_cpu s c) (balance_word_before s) within refl (bare_starts s c)
-  queue_opens form within (suc k) few = subst (λ i. IsQueueOf (laid_first s i) c (queue_so_far i)) next (further (slice_get s.threads k) refl (queue_opens form within k (omega arith)))
+  pub queue_opens : c < s.cpus → (k : ℕ) → k ≤ length s.threads → IsQueueOf (laid_first s k) c (queue_so_far k)
+  queue_opens within zero few = queue_before s c (bare_cpu s c) (balance_word_before s) within refl (bare_starts s c)
+  queue_opens within (suc k) few = subst (λ i. IsQueueOf (laid_first s i) c (queue_so_far i)) next (further (slice_get s.threads k) refl (queue_opens within k (omega arith)))
     where
       next : k + 1 ≡ suc k
       next = omega arith
 
       further : (o : Option ThreadSpec) → slice_get s.threads k ≡ o → IsQueueOf (laid_first s k) c (queue_so_far k) → IsQueueOf (laid_first s (k + 1)) c (queue_so_far (k + 1))
       further None at was = absurd (none_within s.threads k at (omega (arith, few)))
-      further (Some spec) at was = queue_laid s k c spec (queue_so_far k) (queue_so_far (k + 1)) form at
+      further (Some spec) at was = queue_laid s k c spec (queue_so_far k) (queue_so_far (k + 1)) at
           (λ same. queue_further k spec at ∙ cond-true (spec.cpu == c) (value_laid (record_of s.settings spec) (queue_so_far k)) (queue_so_far k) (eq-eqb spec.cpu c (sym same)))
           (λ far. queue_further k spec at ∙ cond-false (spec.cpu == c) (value_laid (record_of s.settings spec) (queue_so_far k)) (queue_so_far k) (ne_eqb spec.cpu c (λ same. far (sym same)))) was
 
   -- it stands there where there is a further declared thread
-  pub queue_opened_at : IsOfForm s → c < s.cpus → (k : ℕ) (spec : ThreadSpec) → slice_get s.threads k ≡ Some spec → IsQueueOf (laid_first s k) c (queue_so_far k)
-  queue_opened_at form within k spec at = queue_opens form within k (let low = slice_get_within s.threads k spec at in omega arith)
+  pub queue_opened_at : c < s.cpus → (k : ℕ) (spec : ThreadSpec) → slice_get s.threads k ≡ Some spec → IsQueueOf (laid_first s k) c (queue_so_far k)
+  queue_opened_at within k spec at = queue_opens within k (let low = slice_get_within s.threads k spec at in omega arith)
 
   -- what lays a declared thread on its own CPU, and leaves every other, lays one more
   pub queue_lays : (k : ℕ) (spec : ThreadSpec) → slice_get s.threads k ≡ Some spec → (v new : CpuValue) → v ≡ queue_so_far k → (c ≡ spec.cpu → new ≡ value_laid (record_of s.settings spec) v) → (c ≢ spec.cpu → new ≡ v)
@@ -148,9 +147,9 @@ module _ (s : Setup) (c : ℕ) where
   all_queued k all = ap (λ specs. with_all_laid s (declared_on c specs) (bare_cpu s c)) (take_all k s.threads all)
 
   -- the opening queue stands under its lock at the start
-  queue_opened : IsOfForm s → c < s.cpus → IsQueueOf (world_at_start s) c (opening_queue s c)
-  queue_opened form within = subst (IsQueueOf (world_at_start s) c) (all_queued (length s.threads) (omega arith))
-      (queue_at_start s c (queue_so_far (length s.threads)) (length s.threads) within (omega arith) (queue_opens form within (length s.threads) (omega arith)))
+  queue_opened : c < s.cpus → IsQueueOf (world_at_start s) c (opening_queue s c)
+  queue_opened within = subst (IsQueueOf (world_at_start s) c) (all_queued (length s.threads) (omega arith))
+      (queue_at_start s c (queue_so_far (length s.threads)) (length s.threads) within (omega arith) (queue_opens within (length s.threads) (omega arith)))
 
 -- ---- a chain, and limbo
 
@@ -183,61 +182,60 @@ module _ (s : Setup) where
       ∙ ap (λ x. with_still (unborn_record x) Unborn (limbo_so_far k)) (get_or_from_slice_get s.unborn k t t at)
 
   -- limbo so far stands under its lock while unborn threads come
-  pub limbo_opens : IsOfForm s → (k : ℕ) → k ≤ length s.unborn → IsLimboOf (unborn_first s k) 24 (limbo_so_far k)
-  limbo_opens form zero few = limbo_before s bare_limbo form (length-replicate {A = Option Standing} 256 None) (λ t. none_replicated 256 t)
-  limbo_opens form (suc k) few = subst (λ i. IsLimboOf (unborn_first s i) 24 (limbo_so_far i)) next (further (slice_get s.unborn k) refl (limbo_opens form k (omega arith)))
+  pub limbo_opens : (k : ℕ) → k ≤ length s.unborn → IsLimboOf (unborn_first s k) 24 (limbo_so_far k)
+  limbo_opens zero few = limbo_before s bare_limbo (length-replicate {A = Option Standing} 256 None) (λ t. none_replicated 256 t)
+  limbo_opens (suc k) few = subst (λ i. IsLimboOf (unborn_first s i) 24 (limbo_so_far i)) next (further (slice_get s.unborn k) refl (limbo_opens k (omega arith)))
     where
       next : k + 1 ≡ suc k
       next = omega arith
 
       further : (o : Option ℕ) → slice_get s.unborn k ≡ o → IsLimboOf (unborn_first s k) 24 (limbo_so_far k) → IsLimboOf (unborn_first s (k + 1)) 24 (limbo_so_far (k + 1))
       further None at was = absurd (none_within s.unborn k at (omega (arith, few)))
-      further (Some t) at was = subst (IsLimboOf (unborn_first s (k + 1)) 24) (sym (limbo_further k t at)) (limbo_next s k t (limbo_so_far k) form at was)
+      further (Some t) at was = subst (IsLimboOf (unborn_first s (k + 1)) 24) (sym (limbo_further k t at)) (limbo_next s k t (limbo_so_far k) at was)
 
   -- it stands there where there is a further unborn thread
-  pub limbo_opened_at : IsOfForm s → (k t : ℕ) → slice_get s.unborn k ≡ Some t → IsLimboOf (unborn_first s k) 24 (limbo_so_far k)
-  limbo_opened_at form k t at = limbo_opens form k (let low = slice_get_within s.unborn k t at in omega arith)
+  pub limbo_opened_at : (k t : ℕ) → slice_get s.unborn k ≡ Some t → IsLimboOf (unborn_first s k) 24 (limbo_so_far k)
+  limbo_opened_at k t at = limbo_opens k (let low = slice_get_within s.unborn k t at in omega arith)
 
   -- with all unborn threads it is the opening limbo
   pub all_unborn : (k : ℕ) → length s.unborn ≤ k → limbo_so_far k ≡ opening_limbo s
   all_unborn k all = ap (λ ts. with_all_unborn ts bare_limbo) (take_all k s.unborn all)
 
-  module _ (form : IsOfForm s) where
-    limbo_opened : IsLimboOf (world_at_start s) 24 (opening_limbo s)
-    limbo_opened = subst (IsLimboOf (world_at_start s) 24) (all_unborn (length s.unborn) (omega arith))
-        (limbo_at_start s (limbo_so_far (length s.unborn)) (length s.unborn) (omega arith) (limbo_opens form (length s.unborn) (omega arith)))
+  limbo_opened : IsLimboOf (world_at_start s) 24 (opening_limbo s)
+  limbo_opened = subst (IsLimboOf (world_at_start s) 24) (all_unborn (length s.unborn) (omega arith))
+      (limbo_at_start s (limbo_so_far (length s.unborn)) (length s.unborn) (omega arith) (limbo_opens (length s.unborn) (omega arith)))
 
-    chain_opened : (l : ℕ) → 16 ≤ l → l < 24 → StandsUnder (world_at_start s) l (chain (bare_chain (l - 16)))
-    chain_opened l past low = subst (λ i. StandsUnder (world_at_start s) i (chain (bare_chain (l - 16)))) whole
-        (chain_at_start s (l - 16) (bare_chain (l - 16)) form (omega (arith, past, low)) (length-replicate {A = Option Standing} 256 None) (bare_is_empty (l - 16)))
-      where
-        whole : 16 + (l - 16) ≡ l
-        whole = omega (arith, past)
+  chain_opened : (l : ℕ) → 16 ≤ l → l < 24 → StandsUnder (world_at_start s) l (chain (bare_chain (l - 16)))
+  chain_opened l past low = subst (λ i. StandsUnder (world_at_start s) i (chain (bare_chain (l - 16)))) whole
+      (chain_at_start s (l - 16) (bare_chain (l - 16)) (omega (arith, past, low)) (length-replicate {A = Option Standing} 256 None) (bare_is_empty (l - 16)))
+    where
+      whole : 16 + (l - 16) ≡ l
+      whole = omega (arith, past)
 
-    -- each opening value stands under its lock at the start
-    pub opening_stands : (l : ℕ) → l < 25 → StandsUnder (world_at_start s) l (opening_value s l)
-    opening_stands l low =
-        cond_both (nat_lt l s.cpus) (queue (opening_queue s l)) _ (StandsUnder (world_at_start s) l) (λ within. queue_opened s l form (ltb-true l s.cpus within))
-        (λ past. cond_both (nat_lt l 16) nothing _ (StandsUnder (world_at_start s) l) (λ queue_lock. nothing_at_start s l form (ltb-false l s.cpus past) (ltb-true l 16 queue_lock))
-        (λ others. cond_both (nat_lt l 24) (chain (bare_chain (l - 16))) (limbo (opening_limbo s)) (StandsUnder (world_at_start s) l)
-        (λ chain_lock. chain_opened l (ltb-false l 16 others) (ltb-true l 24 chain_lock)) (λ last. limbo_last (ltb-false l 24 last))))
-      where
-        limbo_last : 24 ≤ l → StandsUnder (world_at_start s) l (limbo (opening_limbo s))
-        limbo_last last = subst (λ i. StandsUnder (world_at_start s) i (limbo (opening_limbo s))) is limbo_opened
-          where
-            is : 24 ≡ l
-            is = omega (arith, last, low)
+  -- each opening value stands under its lock at the start
+  pub opening_stands : (l : ℕ) → l < 25 → StandsUnder (world_at_start s) l (opening_value s l)
+  opening_stands l low =
+      cond_both (nat_lt l s.cpus) (queue (opening_queue s l)) _ (StandsUnder (world_at_start s) l) (λ within. queue_opened s l (ltb-true l s.cpus within))
+      (λ past. cond_both (nat_lt l 16) nothing _ (StandsUnder (world_at_start s) l) (λ queue_lock. nothing_at_start s l (ltb-false l s.cpus past) (ltb-true l 16 queue_lock))
+      (λ others. cond_both (nat_lt l 24) (chain (bare_chain (l - 16))) (limbo (opening_limbo s)) (StandsUnder (world_at_start s) l)
+      (λ chain_lock. chain_opened l (ltb-false l 16 others) (ltb-true l 24 chain_lock)) (λ last. limbo_last (ltb-false l 24 last))))
+    where
+      limbo_last : 24 ≤ l → StandsUnder (world_at_start s) l (limbo (opening_limbo s))
+      limbo_last last = subst (λ i. StandsUnder (world_at_start s) i (limbo (opening_limbo s))) is limbo_opened
+        where
+          is : 24 ≡ l
+          is = omega (arith, last, low)
 
-    -- the opening scheduler shows the world at the start
-    pub opening_shows : Shows (opening_scheduler s) (world_at_start s)
-    opening_shows =
-        start_shows s (opening_scheduler s) form refl (length-map-range_with_len (opening_value s) 0 25)
-        (λ l. subst (λ i. IfSome (slice_get (opening_scheduler s).values l) (StandsUnder (world_at_start s) i)) (from_zero l)
-        (each_of_range (opening_value s) (StandsUnder (world_at_start s)) 0 25 (λ i low. opening_stands i low) l))
-        (length-replicate {A = Option ThreadRecord} s.cpus None) (λ h. none_replicated s.cpus h)
-      where
-        from_zero : (l : ℕ) → 0 + l ≡ l
-        from_zero l = omega arith
+  -- the opening scheduler shows the world at the start
+  pub opening_shows : Shows (opening_scheduler s) (world_at_start s)
+  opening_shows =
+      start_shows s (opening_scheduler s) refl (length-map-range_with_len (opening_value s) 0 25)
+      (λ l. subst (λ i. IfSome (slice_get (opening_scheduler s).values l) (StandsUnder (world_at_start s) i)) (from_zero l)
+      (each_of_range (opening_value s) (StandsUnder (world_at_start s)) 0 25 (λ i low. opening_stands i low) l))
+      (length-replicate {A = Option ThreadRecord} s.cpus None) (λ h. none_replicated s.cpus h)
+    where
+      from_zero : (l : ℕ) → 0 + l ≡ l
+      from_zero l = omega arith
 
 -- ---- what an opening value is, by its lock
 

@@ -14,7 +14,6 @@ use Rattle.ule_score.specs.declared.record.ThreadRecord.{ThreadRecord}
 use Rattle.ule_sleep.specs.Chain.{ChainValue, IsEmptyChain, standing_in}
 use Rattle.ule_sleep.specs.Limbo.{IsEmptyLimbo, LimboValue, with_still}
 use Rattle.ule_threads.specs.declared.standing.Standing.{Standing}
-use Rattle.ule_types.specs.Form.{IsOfForm}
 use Rattle.ule_types.specs.Rules.{declared_ids}
 use Rattle.ule_types.specs.declared.setup.Setup.{Setup}
 use Rattle.ule_types.specs.declared.setup.ThreadSpec.{ThreadSpec}
@@ -187,17 +186,17 @@ none_under l ms off t =
     (all_along (λ m. is_under l m.place ≡ false) (λ m. (is_numbered t m && is_under l m.place) ≡ false) ms (λ m fails. and_right (is_numbered t m) (is_under l m.place) fails) off)
 
 -- at the start no thread is under a lock from the number of CPUs on but limbo's
-pub start_none_under : (s : Setup) (l : ℕ) → IsOfForm s → s.cpus ≤ l → l ≢ 24 → HasNoneUnder (world_at_start s) l
-start_none_under s l form past other =
+pub start_none_under : (s : Setup) (l : ℕ) → s.cpus ≤ l → l ≢ 24 → HasNoneUnder (world_at_start s) l
+start_none_under s l past other =
     none_under l (world_at_start s).members
-    (all_along (λ m. IsPlaceAtStart s.cpus m.place) (λ m. is_under l m.place ≡ false) (world_at_start s).members (λ m is. start_off s.cpus l m.place past other is) (start_laid s form).places)
+    (all_along (λ m. IsPlaceAtStart s.cpus m.place) (λ m. is_under l m.place ≡ false) (world_at_start s).members (λ m is. start_off s.cpus l m.place past other is) (start_laid s).places)
 
 -- at the start no thread is in a hand
-pub start_no_hand : (s : Setup) (h : ℕ) → IsOfForm s → IsHandOf (world_at_start s) h None
-start_no_hand s h form t =
+pub start_no_hand : (s : Setup) (h : ℕ) → IsHandOf (world_at_start s) h None
+start_no_hand s h t =
     sym (ap (option_map (λ m. m.thread)) (find_nowhere (λ m. is_numbered t m && is_hand_of h m.place) (world_at_start s).members
     (all_along (λ m. hand_of m.place ≡ None) (λ m. (is_numbered t m && is_hand_of h m.place) ≡ false) (world_at_start s).members
-    (λ m free. and_right (is_numbered t m) (is_hand_of h m.place) (ap (is_number h) free)) (start_free s form))))
+    (λ m free. and_right (is_numbered t m) (is_hand_of h m.place) (ap (is_number h) free)) (start_free s))))
 
 -- ---- a queue lock, thread by thread
 
@@ -245,39 +244,39 @@ laid_next s k spec at =
     ap (laid (laid_first s k)) (get_or_from_slice_get s.threads k spec spec at)
 
 -- the next declared thread is not on a CPU yet
-pub queue_absent : (s : Setup) (k c : ℕ) (spec : ThreadSpec) (v : CpuValue) → IsOfForm s → slice_get s.threads k ≡ Some spec → IsQueueOf (laid_first s k) c v →
+pub queue_absent : (s : Setup) (k c : ℕ) (spec : ThreadSpec) (v : CpuValue) → slice_get s.threads k ≡ Some spec → IsQueueOf (laid_first s k) c v →
     thread_in v spec.id ≡ None
-queue_absent s k c spec v form at is =
-    is.stands.threads spec.id ∙ ap (option_map (λ m. m.thread)) (thread_at_none (is_on v.cpu) spec.id (laid_first s k).members (next_is_new s k spec form at))
+queue_absent s k c spec v at is =
+    is.stands.threads spec.id ∙ ap (option_map (λ m. m.thread)) (thread_at_none (is_on v.cpu) spec.id (laid_first s k).members (next_is_new s k spec at))
 
 -- under the lock of its CPU stands the CPU with the next declared thread laid
-pub queue_next : (s : Setup) (k : ℕ) (spec : ThreadSpec) (v : CpuValue) → IsOfForm s → slice_get s.threads k ≡ Some spec → IsQueueOf (laid_first s k) spec.cpu v →
+pub queue_next : (s : Setup) (k : ℕ) (spec : ThreadSpec) (v : CpuValue) → slice_get s.threads k ≡ Some spec → IsQueueOf (laid_first s k) spec.cpu v →
     IsQueueOf (laid_first s (k + 1)) spec.cpu (value_laid (record_of s.settings spec) v)
-queue_next s k spec v form at is =
+queue_next s k spec v at is =
     subst (λ (w : World). IsQueueOf w spec.cpu (value_laid (record_of s.settings spec) v)) (sym (laid_next s k spec at))
     (subst (λ (settings : Settings). IsQueueOf (laid (laid_first s k) spec) spec.cpu (value_laid (record_of settings spec) v)) so_far.settings_are
-    (laid_here (laid_first s k) spec v (next_is_new s k spec form at) so_far.made.members
-    (fresh_record s.cpus (laid_first s k).settings spec (all_got (IsGood s.cpus) s.threads k spec (good_numbers s form).queued at)).1 is))
+    (laid_here (laid_first s k) spec v (next_is_new s k spec at) so_far.made.members
+    (fresh_record s.cpus (laid_first s k).settings spec (all_got (IsGood s.cpus) s.threads k spec (good_numbers s).queued at)).1 is))
   where
     so_far : IsLaid (IsQueuedBelow s.cpus) s.cpus s.settings (queued_numbers (take k s.threads)) (laid_first s k)
-    so_far = laid_first_is s k form
+    so_far = laid_first_is s k
 
 -- under the lock of another CPU stands what stood there before the next declared thread is laid
-pub queue_kept : (s : Setup) (k c : ℕ) (spec : ThreadSpec) (v : CpuValue) → IsOfForm s → slice_get s.threads k ≡ Some spec → c ≢ spec.cpu → IsQueueOf (laid_first s k) c v →
+pub queue_kept : (s : Setup) (k c : ℕ) (spec : ThreadSpec) (v : CpuValue) → slice_get s.threads k ≡ Some spec → c ≢ spec.cpu → IsQueueOf (laid_first s k) c v →
     IsQueueOf (laid_first s (k + 1)) c v
-queue_kept s k c spec v form at other is =
-    subst (λ (w : World). IsQueueOf w c v) (sym (laid_next s k spec at)) (laid_elsewhere (laid_first s k) spec c (queue v) (next_is_new s k spec form at) other is)
+queue_kept s k c spec v at other is =
+    subst (λ (w : World). IsQueueOf w c v) (sym (laid_next s k spec at)) (laid_elsewhere (laid_first s k) spec c (queue v) (next_is_new s k spec at) other is)
 
 -- whether it is the next declared thread's CPU or another, its value stands with the thread laid
-pub queue_laid : (s : Setup) (k c : ℕ) (spec : ThreadSpec) (v new : CpuValue) → IsOfForm s → slice_get s.threads k ≡ Some spec →
+pub queue_laid : (s : Setup) (k c : ℕ) (spec : ThreadSpec) (v new : CpuValue) → slice_get s.threads k ≡ Some spec →
     (c ≡ spec.cpu → new ≡ value_laid (record_of s.settings spec) v) → (c ≢ spec.cpu → new ≡ v) → IsQueueOf (laid_first s k) c v → IsQueueOf (laid_first s (k + 1)) c new
-queue_laid s k c spec v new form at own elsewhere is =
+queue_laid s k c spec v new at own elsewhere is =
     ⊎_elim
     (λ (same : c ≡ spec.cpu).
     subst (λ (u : CpuValue). IsQueueOf (laid_first s (k + 1)) c u) (sym (own same))
     (subst (λ (d : ℕ). IsQueueOf (laid_first s (k + 1)) d (value_laid (record_of s.settings spec) v)) (sym same)
-    (queue_next s k spec v form at (subst (λ (d : ℕ). IsQueueOf (laid_first s k) d v) same is))))
-    (λ (other : c ≡ spec.cpu → ⊥). subst (λ (u : CpuValue). IsQueueOf (laid_first s (k + 1)) c u) (sym (elsewhere other)) (queue_kept s k c spec v form at other is))
+    (queue_next s k spec v at (subst (λ (d : ℕ). IsQueueOf (laid_first s k) d v) same is))))
+    (λ (other : c ≡ spec.cpu → ⊥). subst (λ (u : CpuValue). IsQueueOf (laid_first s (k + 1)) c u) (sym (elsewhere other)) (queue_kept s k c spec v at other is))
     (cases_eq c spec.cpu)
 
 -- what stands under another lock than limbo's stands there with these unborn threads
@@ -294,8 +293,8 @@ queue_at_start s c v k within all is =
 -- ---- the other locks
 
 -- a chain without sleepers stands under its lock at the start
-pub chain_at_start : (s : Setup) (number : ℕ) (v : ChainValue) → IsOfForm s → number < 8 → length v.slots ≡ 256 → IsEmptyChain v number → IsChainOf (world_at_start s) (16 + number) v
-chain_at_start s number v form small slots empty = record {
+pub chain_at_start : (s : Setup) (number : ℕ) (v : ChainValue) → number < 8 → length v.slots ≡ 256 → IsEmptyChain v number → IsChainOf (world_at_start s) (16 + number) v
+chain_at_start s number v small slots empty = record {
   number = ap (λ (k : ℕ). 16 + k) empty.number_is;
   small = subst (λ (k : ℕ). k < 8) (sym empty.number_is) small;
   slots = slots;
@@ -305,22 +304,22 @@ chain_at_start s number v form small slots empty = record {
   where
     none : HasNoneUnder (world_at_start s) (16 + number)
     none =
-        start_none_under s (16 + number) form (let cpus = (setup_scripts s).cpus in omega arith)
+        start_none_under s (16 + number) (let cpus = (setup_scripts s).cpus in omega arith)
         (λ (same : 16 + number ≡ 24). omega (arith, same, small))
 
 -- the lock of a CPU that there isn't has nothing at the start
-pub nothing_at_start : (s : Setup) (l : ℕ) → IsOfForm s → s.cpus ≤ l → l < 16 → IsNothingOf (world_at_start s) l
-nothing_at_start s l form past small = record {
-  past = subst (λ (i : ℕ). i ≤ l) (sym (start_laid s form).count) past;
+pub nothing_at_start : (s : Setup) (l : ℕ) → s.cpus ≤ l → l < 16 → IsNothingOf (world_at_start s) l
+nothing_at_start s l past small = record {
+  past = subst (λ (i : ℕ). i ≤ l) (sym (start_laid s).count) past;
   queue = small;
-  none = start_none_under s l form past (λ (same : l ≡ 24). omega (arith, same, small));
+  none = start_none_under s l past (λ (same : l ≡ 24). omega (arith, same, small));
 }
 
 -- ---- limbo, thread by thread
 
 -- limbo without threads stands under its lock before any unborn thread is there
-pub limbo_before : (s : Setup) (v : LimboValue) → IsOfForm s → length v.slots ≡ 256 → IsEmptyLimbo v → IsLimboOf (unborn_first s 0) 24 v
-limbo_before s v form slots empty = record {
+pub limbo_before : (s : Setup) (v : LimboValue) → length v.slots ≡ 256 → IsEmptyLimbo v → IsLimboOf (unborn_first s 0) 24 v
+limbo_before s v slots empty = record {
   number = refl;
   slots = slots;
   under = λ t. empty t ∙ ap (option_map standing_of) (sym (none_under 24 world.members off t));
@@ -333,19 +332,19 @@ limbo_before s v form slots empty = record {
     off : AllByRecursion (λ m. is_under 24 m.place ≡ false) world.members
     off =
         all_along (λ m. IsQueuedBelow s.cpus m.place) (λ m. is_under 24 m.place ≡ false) world.members
-        (λ m is. queued_off s.cpus 24 m.place (let cpus = (setup_scripts s).cpus in omega arith) is) (declared_laid s form).places
+        (λ m is. queued_off s.cpus 24 m.place (let cpus = (setup_scripts s).cpus in omega arith) is) (declared_laid s).places
 
 -- the next unborn thread is not in limbo yet
-pub limbo_absent : (s : Setup) (k t : ℕ) (v : LimboValue) → IsOfForm s → slice_get s.unborn k ≡ Some t → IsLimboOf (unborn_first s k) 24 v → standing_in v.slots t ≡ None
-limbo_absent s k t v form at is =
-    is.under t ∙ ap (option_map standing_of) (thread_at_none (is_under 24) t (unborn_first s k).members (next_unborn_is_new s k t form at))
+pub limbo_absent : (s : Setup) (k t : ℕ) (v : LimboValue) → slice_get s.unborn k ≡ Some t → IsLimboOf (unborn_first s k) 24 v → standing_in v.slots t ≡ None
+limbo_absent s k t v at is =
+    is.under t ∙ ap (option_map standing_of) (thread_at_none (is_under 24) t (unborn_first s k).members (next_unborn_is_new s k t at))
 
 -- under limbo's lock stands limbo with the next unborn thread put there
-pub limbo_next : (s : Setup) (k t : ℕ) (v : LimboValue) → IsOfForm s → slice_get s.unborn k ≡ Some t → IsLimboOf (unborn_first s k) 24 v →
+pub limbo_next : (s : Setup) (k t : ℕ) (v : LimboValue) → slice_get s.unborn k ≡ Some t → IsLimboOf (unborn_first s k) 24 v →
     IsLimboOf (unborn_first s (k + 1)) 24 (with_still (unborn_record t) Unborn v)
-limbo_next s k t v form at is =
+limbo_next s k t v at is =
     subst (λ (w : World). IsLimboOf w 24 (with_still (unborn_record t) Unborn v)) (sym more)
-    (unborn_here (unborn_first s k) t v (next_unborn_is_new s k t form at) (all_got (λ u. u < 256) s.unborn k t (good_numbers s form).unborn at) is)
+    (unborn_here (unborn_first s k) t v (next_unborn_is_new s k t at) (all_got (λ u. u < 256) s.unborn k t (good_numbers s).unborn at) is)
   where
     more : unborn_first s (k + 1) ≡ with_unborn (unborn_first s k) t
     more =
@@ -359,9 +358,9 @@ limbo_at_start s v k all is = subst (λ (us : List ℕ). IsLimboOf (fold with_un
 -- ---- the whole scheduler
 
 -- the scheduler with what stands under each lock at the start, and with empty hands, shows the world at the start
-pub start_shows : (s : Setup) (v : WorldValue) → IsOfForm s → v.settings ≡ s.settings → length v.values ≡ 25 →
+pub start_shows : (s : Setup) (v : WorldValue) → v.settings ≡ s.settings → length v.values ≡ 25 →
     ((l : ℕ) → IfSome (slice_get v.values l) (StandsUnder (world_at_start s) l)) → length v.hands ≡ s.cpus → ((h : ℕ) → held_by v h ≡ None) → Shows v (world_at_start s)
-start_shows s v form settings locks under workers empty = record {
+start_shows s v settings locks under workers empty = record {
   settings = settings ∙ sym start.settings_are;
   made = start.made.members;
   indexes = start.made.indexes;
@@ -369,9 +368,9 @@ start_shows s v form settings locks under workers empty = record {
   cpus = subst (λ (i : ℕ). i ≤ 16) (sym start.count) (setup_scripts s).cpus;
   workers = workers ∙ sym start.count;
   under = under;
-  past = λ l past. start_none_under s l form (let cpus = (setup_scripts s).cpus in omega arith) (λ (same : l ≡ 24). omega (arith, same, past));
-  hands = λ h. subst (IsHandOf (world_at_start s) h) (sym (empty h)) (start_no_hand s h form);
+  past = λ l past. start_none_under s l (let cpus = (setup_scripts s).cpus in omega arith) (λ (same : l ≡ 24). omega (arith, same, past));
+  hands = λ h. subst (IsHandOf (world_at_start s) h) (sym (empty h)) (start_no_hand s h);
 }
   where
     start : IsLaid (IsPlaceAtStart s.cpus) s.cpus s.settings (declared_ids s.threads s.unborn) (world_at_start s)
-    start = start_laid s form
+    start = start_laid s

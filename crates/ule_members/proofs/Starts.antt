@@ -20,7 +20,6 @@ use Rattle.ule_prio.specs.declared.class.Class.TheVariants as class
 pub use Rattle.ule_types.proofs.Numbers.{nice_is, within_byte}
 use Rattle.ule_types.specs.Commands.{is_among}
 use Rattle.ule_types.proofs.Repeats.{distinct_front}
-use Rattle.ule_types.specs.Form.{IsOfForm}
 use Rattle.ule_types.specs.Rules.{declared_ids, is_distinct, is_form, is_spec}
 use Rattle.ule_types.specs.declared.setup.Form.{Form}
 use Rattle.ule_types.specs.declared.setup.Form.TheVariants.{Ts, Ithd, Rt, Fifo, Idle}
@@ -347,9 +346,9 @@ pub record HasGoodNumbers (s : Setup) : Type 0 where
   pub unborn : AllByRecursion (λ t. t < 256) s.unborn
   pub distinct : is_distinct (queued_numbers s.threads) ≡ true
 
--- every setup that can be spelled so far has good numbers
-pub good_numbers : (s : Setup) → IsOfForm s → HasGoodNumbers s
-good_numbers s form = record {
+-- every setup has good numbers
+pub good_numbers : (s : Setup) → HasGoodNumbers s
+good_numbers s = record {
   queued = form_good s.cpus s.threads (setup_specs s).specs numbers.0;
   unborn = all_along (λ t. nat_lt t 256 ≡ true) (λ t. t < 256) s.unborn (λ t is. ltb-true t 256 is) (all_from_list_all (λ t. nat_lt t 256) s.unborn numbers.1);
   distinct = distinct_front (queued_numbers s.threads) s.unborn (setup_specs s).distinct;
@@ -379,21 +378,21 @@ some_laid s specs good distinct =
     put_all (λ (spec : ThreadSpec). spec.id) laid (IsLaid (IsQueuedBelow s.cpus) s.cpus s.settings) (IsGood s.cpus) (laid_once s.cpus s.settings) [] (empty_world s) specs good distinct (empty_laid s)
 
 -- the world in which the first k declared threads are laid keeps what is kept while threads are laid
-pub laid_first_is : (s : Setup) (k : ℕ) → IsOfForm s → IsLaid (IsQueuedBelow s.cpus) s.cpus s.settings (queued_numbers (take k s.threads)) (laid_first s k)
-laid_first_is s k form =
-    let good = good_numbers s form in
+pub laid_first_is : (s : Setup) (k : ℕ) → IsLaid (IsQueuedBelow s.cpus) s.cpus s.settings (queued_numbers (take k s.threads)) (laid_first s k)
+laid_first_is s k =
+    let good = good_numbers s in
     some_laid s (take k s.threads) (all_take (IsGood s.cpus) k s.threads good.queued)
     (distinct_front (queued_numbers (take k s.threads)) (queued_numbers (drop k s.threads))
     (ap is_distinct (sym (map-append (λ (spec : ThreadSpec). spec.id) (take k s.threads) (drop k s.threads)) ∙ ap queued_numbers (take-append-drop k s.threads)) ∙ good.distinct))
 
 -- the world with all declared threads laid keeps what is kept while threads are laid
-pub declared_laid : (s : Setup) → IsOfForm s → IsLaid (IsQueuedBelow s.cpus) s.cpus s.settings (queued_numbers s.threads) (fold laid (empty_world s) s.threads)
-declared_laid s form = let good = good_numbers s form in some_laid s s.threads good.queued good.distinct
+pub declared_laid : (s : Setup) → IsLaid (IsQueuedBelow s.cpus) s.cpus s.settings (queued_numbers s.threads) (fold laid (empty_world s) s.threads)
+declared_laid s = let good = good_numbers s in some_laid s s.threads good.queued good.distinct
 
 -- the world with all declared threads laid and these unborn ones keeps what is kept while threads are laid
-some_unborn : (s : Setup) (us : List ℕ) → IsOfForm s → AllByRecursion (λ t. t < 256) us → is_distinct (queued_numbers s.threads ++ us) ≡ true →
+some_unborn : (s : Setup) (us : List ℕ) → AllByRecursion (λ t. t < 256) us → is_distinct (queued_numbers s.threads ++ us) ≡ true →
     IsLaid (IsPlaceAtStart s.cpus) s.cpus s.settings (queued_numbers s.threads ++ us) (fold with_unborn (fold laid (empty_world s) s.threads) us)
-some_unborn s us form small distinct =
+some_unborn s us small distinct =
     subst (λ ts. IsLaid (IsPlaceAtStart s.cpus) s.cpus s.settings (queued_numbers s.threads ++ ts) (fold with_unborn world us)) (map-id us)
     (put_all (λ (t : ℕ). t) with_unborn (IsLaid (IsPlaceAtStart s.cpus) s.cpus s.settings) (λ t. t < 256) (unborn_once s.cpus s.settings) (queued_numbers s.threads) world us small
     (ap (λ ts. is_distinct (queued_numbers s.threads ++ ts)) (map-id us) ∙ distinct) also)
@@ -402,7 +401,7 @@ some_unborn s us form small distinct =
     world = fold laid (empty_world s) s.threads
 
     all : IsLaid (IsQueuedBelow s.cpus) s.cpus s.settings (queued_numbers s.threads) world
-    all = declared_laid s form
+    all = declared_laid s
 
     also : IsLaid (IsPlaceAtStart s.cpus) s.cpus s.settings (queued_numbers s.threads) world
     also = record {
@@ -415,33 +414,33 @@ some_unborn s us form small distinct =
     }
 
 -- the world with all declared threads laid and the first k unborn ones keeps what is kept while threads are laid
-pub unborn_first_is : (s : Setup) (k : ℕ) → IsOfForm s → IsLaid (IsPlaceAtStart s.cpus) s.cpus s.settings (queued_numbers s.threads ++ take k s.unborn) (unborn_first s k)
-unborn_first_is s k form =
-    some_unborn s (take k s.unborn) form (all_take (λ t. t < 256) k s.unborn (good_numbers s form).unborn)
+pub unborn_first_is : (s : Setup) (k : ℕ) → IsLaid (IsPlaceAtStart s.cpus) s.cpus s.settings (queued_numbers s.threads ++ take k s.unborn) (unborn_first s k)
+unborn_first_is s k =
+    some_unborn s (take k s.unborn) (all_take (λ t. t < 256) k s.unborn (good_numbers s).unborn)
     (distinct_front (queued_numbers s.threads ++ take k s.unborn) (drop k s.unborn)
     (ap is_distinct (append_assoc (queued_numbers s.threads) (take k s.unborn) (drop k s.unborn) ∙ ap (λ us. queued_numbers s.threads ++ us) (take-append-drop k s.unborn)) ∙ (setup_specs s).distinct))
 
 -- the world at the start of a setup keeps what is kept while threads are laid
-pub start_laid : (s : Setup) → IsOfForm s → IsLaid (IsPlaceAtStart s.cpus) s.cpus s.settings (declared_ids s.threads s.unborn) (world_at_start s)
-start_laid s form = some_unborn s s.unborn form (good_numbers s form).unborn (setup_specs s).distinct
+pub start_laid : (s : Setup) → IsLaid (IsPlaceAtStart s.cpus) s.cpus s.settings (declared_ids s.threads s.unborn) (world_at_start s)
+start_laid s = some_unborn s s.unborn (good_numbers s).unborn (setup_specs s).distinct
 
 -- ---- the next thread
 
 -- the number of the next declared thread is new in the world in which those before it are laid
-pub next_is_new : (s : Setup) (k : ℕ) (spec : ThreadSpec) → IsOfForm s → slice_get s.threads k ≡ Some spec → thread_of spec.id (laid_first s k).members ≡ None
-next_is_new s k spec form at =
+pub next_is_new : (s : Setup) (k : ℕ) (spec : ThreadSpec) → slice_get s.threads k ≡ Some spec → thread_of spec.id (laid_first s k).members ≡ None
+next_is_new s k spec at =
     laid_new (IsQueuedBelow s.cpus) s.cpus s.settings (queued_numbers (take k s.threads)) (laid_first s k) spec.id
     (distinct_new (queued_numbers (take k s.threads)) spec.id (queued_numbers (drop (k + 1) s.threads))
-    (ap is_distinct (sym (ap queued_numbers (parted_at s.threads k spec at) ∙ map-append (λ (x : ThreadSpec). x.id) (take k s.threads) (spec ∷ drop (k + 1) s.threads))) ∙ (good_numbers s form).distinct))
-    (laid_first_is s k form)
+    (ap is_distinct (sym (ap queued_numbers (parted_at s.threads k spec at) ∙ map-append (λ (x : ThreadSpec). x.id) (take k s.threads) (spec ∷ drop (k + 1) s.threads))) ∙ (good_numbers s).distinct))
+    (laid_first_is s k)
 
 -- the number of the next unborn thread is new in the world with those before it
-pub next_unborn_is_new : (s : Setup) (k t : ℕ) → IsOfForm s → slice_get s.unborn k ≡ Some t → thread_of t (unborn_first s k).members ≡ None
-next_unborn_is_new s k t form at =
+pub next_unborn_is_new : (s : Setup) (k t : ℕ) → slice_get s.unborn k ≡ Some t → thread_of t (unborn_first s k).members ≡ None
+next_unborn_is_new s k t at =
     laid_new (IsPlaceAtStart s.cpus) s.cpus s.settings (queued_numbers s.threads ++ take k s.unborn) (unborn_first s k) t
     (distinct_new (queued_numbers s.threads ++ take k s.unborn) t (drop (k + 1) s.unborn)
     (ap is_distinct (append_assoc (queued_numbers s.threads) (take k s.unborn) (t ∷ drop (k + 1) s.unborn) ∙ ap (λ us. queued_numbers s.threads ++ us) (sym (parted_at s.unborn k t at))) ∙ (setup_specs s).distinct))
-    (unborn_first_is s k form)
+    (unborn_first_is s k)
 
 -- ---- hands
 
@@ -459,6 +458,6 @@ no_hand cpus Gone is = absurd is
 no_hand cpus (Hand w) is = absurd is
 
 -- at the start of a setup no thread is in a hand
-pub start_free : (s : Setup) → IsOfForm s → AreFree (world_at_start s).members
-start_free s form =
-    all_along (λ (m : Member). IsPlaceAtStart s.cpus m.place) (λ m. hand_of m.place ≡ None) (world_at_start s).members (λ m is. no_hand s.cpus m.place is) (start_laid s form).places
+pub start_free : (s : Setup) → AreFree (world_at_start s).members
+start_free s =
+    all_along (λ (m : Member). IsPlaceAtStart s.cpus m.place) (λ m. hand_of m.place ≡ None) (world_at_start s).members (λ m is. no_hand s.cpus m.place is) (start_laid s).places

@@ -16,7 +16,6 @@ use Rattle.ule_score.specs.declared.record.Change.TheVariants as change
 use Rattle.ule_score.specs.declared.record.ThreadRecord.{ThreadRecord}
 use Rattle.ule_types.proofs.Repeats.{distinct_apart}
 use Rattle.ule_types.specs.Commands.{forked_by, is_among}
-use Rattle.ule_types.specs.Form.{IsOfForm}
 pub use Rattle.ule_types.specs.Needs.{hatched_by}
 use Rattle.ule_types.specs.Rules.{is_distinct}
 use Rattle.ule_types.specs.declared.event.Event.{Event}
@@ -314,11 +313,11 @@ unborn_behind t (m ∷ ms) us new among =
     unborn_behind t ms us parts.1 among
 
 -- each thread that a setup declares unborn is so at its start
-pub start_unborn : (s : Setup) (t : ℕ) → IsOfForm s → is_among s.unborn t ≡ true → IsStillUnborn t (world_at_start s).members
-start_unborn s t form among =
+pub start_unborn : (s : Setup) (t : ℕ) → is_among s.unborn t ≡ true → IsStillUnborn t (world_at_start s).members
+start_unborn s t among =
     ap (λ (ms : List Member). is_unborn_thread (thread_of t ms)) (unborn_appended (fold laid (empty_world s) s.threads) s.unborn) ∙
     unborn_behind t (fold laid (empty_world s) s.threads).members s.unborn
-    (ap (λ us. is_among us t) (declared_laid s form).ids_are ∙
+    (ap (λ us. is_among us t) (declared_laid s).ids_are ∙
     false_from_ne_true (is_among (queued_numbers s.threads) t) (λ queued. distinct_apart (queued_numbers s.threads) s.unborn t (setup_specs s).distinct queued among))
     among
 

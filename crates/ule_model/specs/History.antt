@@ -2,7 +2,6 @@
 use Rattle.std.specs.Prelude.{◌≡◌, ◌≢◌, ℕ, ◌<◌, ◌≤◌, ◌⊎◌, length, slice_get, Some, None}
 use Rattle.std.specs.List.{AllByRecursion}
 use Rattle.ule_score.specs.Bounds.{KeepsBounds}
-use Rattle.ule_types.specs.Form.{IsOfForm}
 use Rattle.ule_types.specs.declared.setup.Setup.{Setup}
 use Rattle.ule_model.specs.CalendarPromise.{HasCalendarPromise}
 use Rattle.ule_model.specs.Ends.{end_time, end_world}
@@ -40,9 +39,9 @@ pub record IsHistoryOf (s : Setup) (p : Play) : Type 0 where
   pub hands : HasEmptyHands p.world
   pub promise : HasCalendarPromise (world_at_start s) p.entries
 
--- the rounds of a setup that a scenario can spell so far make a legal and whole history of it
+-- the rounds of every setup make a legal and whole history of it
 abbrev pub RoundsAreLegal : Type 0
-RoundsAreLegal = (s : Setup) → IsOfForm s → IsHistoryOf s (play_of s)
+RoundsAreLegal = (s : Setup) → IsHistoryOf s (play_of s)
 
 -- a play went on: an event was entered, or time advanced
 abbrev pub GoesOn : Play → Play → Type 0
@@ -51,6 +50,6 @@ GoesOn p q = (length p.entries < length q.entries) ⊎ (p.now < q.now)
 -- each round performs an item where a worker has a further one
 abbrev pub RoundsGoOn : Type 0
 RoundsGoOn =
-    (s : Setup) (n worker : ℕ) (course : Course) → IsOfForm s →
+    (s : Setup) (n worker : ℕ) (course : Course) →
     slice_get (rounds n (opening s)).courses worker ≡ Some course → next_step course ≢ None →
     GoesOn (rounds n (opening s)) (round (rounds n (opening s)))

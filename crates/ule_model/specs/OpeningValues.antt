@@ -4,7 +4,6 @@ use Rattle.std.specs.List.{range_with_len}
 use Rattle.ule_score.specs.declared.place.Place.TheVariants.{Unborn}
 use Rattle.ule_sleep.specs.Chain.{ChainValue}
 use Rattle.ule_sleep.specs.Limbo.{LimboValue, with_still}
-use Rattle.ule_types.specs.Form.{IsOfForm}
 use Rattle.ule_types.specs.declared.setup.Setup.{Setup}
 use Rattle.ule_types.specs.declared.setup.ThreadSpec.{ThreadSpec}
 use Rattle.ule_model.specs.CpuStart.{line_at_start, word_at_start}
@@ -78,4 +77,4 @@ opening_scheduler s = record {
 
 -- opening values show: the scheduler at the start of a setup shows the world at the start
 abbrev pub OpeningValuesShow : Type 0
-OpeningValuesShow = (s : Setup) → IsOfForm s → Shows (opening_scheduler s) (world_at_start s)
+OpeningValuesShow = (s : Setup) → Shows (opening_scheduler s) (world_at_start s)

@@ -3,7 +3,6 @@ use Rattle.std.proofs.Common.{◌≡◌, ℕ, ◌++◌, true, false, List, [], f
 use Rattle.std.proofs.lemmas.Bool.{false_from_ne_true}
 use Rattle.ule_types.proofs.Repeats.{among_back, among_front, among_of_one, among_passes, distinct_apart, distinct_back, distinct_of_one, distinct_of_two}
 use Rattle.ule_types.specs.Commands.{forked_by, is_among}
-use Rattle.ule_types.specs.Form.{IsOfForm}
 use Rattle.ule_types.specs.Rules.{is_distinct}
 use Rattle.ule_types.specs.declared.command.Command.{Command}
 use Rattle.ule_types.specs.declared.setup.Setup.{Setup}
@@ -74,13 +73,13 @@ abbrev forked_in_script : List Command → List ℕ
 forked_in_script script = flat_map forked_by script
 
 -- before the first round what is to fork is so
-pub forks_opening : (s : Setup) → IsOfForm s → HasForksAhead (world_at_start s).members (opening_courses s)
-forks_opening s form = record {
+pub forks_opening : (s : Setup) → HasForksAhead (world_at_start s).members (opening_courses s)
+forks_opening s = record {
   once = λ worker course got. ap is_distinct (sym (ahead worker course got)) ∙ distinct_of_one forked_in_script [] refl s.scripts worker forks.distinct;
   one_worker = λ i j a b t at_i at_j first second.
       distinct_of_two forked_in_script [] refl s.scripts i j t forks.distinct (ap (λ us. is_among us t) (ahead i a at_i) ∙ first) (ap (λ us. is_among us t) (ahead j b at_j) ∙ second);
   unborn = λ worker course t got among.
-      start_unborn s t form
+      start_unborn s t
       (among_passes (is_among s.unborn) (flat_map forked_in_script s.scripts) t forks.unborn
       (among_of_one forked_in_script [] refl s.scripts worker t (ap (λ us. is_among us t) (ahead worker course got) ∙ among)));
 }

@@ -1,12 +1,13 @@
 -- The threads in hands: each worker has in hand the thread that its program says.
 use Rattle.std.proofs.Common.{◌≡◌, ◌≢◌, ℕ, ◌==◌, ◌&&◌, Bool, true, false, List, [], ◌∷◌, slice_get, slice_set, is_some, Option, Some, None, if◌then◌else◌, option_and_then, refl, sym, ◌∙◌, ap, subst, ⊎_elim, eq-eqb}
+use Rattle.std.specs.Option.{option_map}
 use Rattle.std.proofs.lemmas.Bool.{and_parts, cases_eq, eqb-true, false≢true, true≢false}
 use Rattle.std.proofs.lemmas.Option.{none-some, slice_get_within}
 use Rattle.ule_types.specs.Commands.{is_among}
 use Rattle.ule_types.specs.Needs.{FitsHand, handling, hatched_for}
-use Rattle.ule_types.specs.Words.{WordChange, block, blocks, change_of, point, taken_by}
+use Rattle.ule_types.specs.Words.{WordChange, block, blocks, change_of, moved_by, point, taken_by}
 use Rattle.ule_types.specs.declared.event.Event.{Event}
-use Rattle.ule_types.specs.declared.event.Event.TheVariants.{Bed, Bury, Drop, Exit, Hatch, Land, Return, Wake}
+use Rattle.ule_types.specs.declared.event.Event.TheVariants.{Bed, Bury, Drop, Exit, Hatch, Land, Move, Return, Wake}
 use Rattle.ule_program.specs.Courses.{Course}
 use Rattle.ule_program.specs.Laws.{hand_by_word}
 use Rattle.ule_model.specs.Conditions.{HasEmptyHand, IsHandled, IsPossible}
@@ -80,6 +81,7 @@ abbrev FitsChange : Handling → Option WordChange → Option ℕ → Type 0
 FitsChange needs None hand = Unit {0}
 FitsChange any (Some change) hand = ⊥
 FitsChange needs (Some (block t)) hand = hand ≡ None
+FitsChange empty (Some (point t l)) hand = hand ≡ None
 FitsChange needs (Some (point t l)) hand = hand ≡ Some t
 
 -- a thread is taken into an empty hand
@@ -92,11 +94,17 @@ unborn_fits : (u : ℕ) (taken hand : Option ℕ) → hand ≡ None → FitsChan
 unborn_fits u None hand none = tt
 unborn_fits u (Some t) hand none = none
 
+-- a thread goes from one place to another past an empty hand
+moved_fits : (b : ℕ) (moved hand : Option ℕ) → hand ≡ None → FitsChange empty (option_map (λ t. point t b) moved) hand
+moved_fits b None hand none = tt
+moved_fits b (Some t) hand none = none
+
 module _ (w : World) (worker : ℕ) (e : Event) (now : ℕ) (hand : Option ℕ) (made : IsWellMadeWorld w) (can : IsPossible w worker e now) where
   -- each event's change of a word fits the hand that it needs
   change_fits : (x : Event) → FitsHand hand (handling x) → FitsChange (handling x) (change_of x (step w worker x now).1) hand
   change_fits (Drop c channel) fits = blocks_fit (taken_by 0 (step w worker (Drop c channel) now).1) hand fits
   change_fits (Wake t) fits = blocks_fit (taken_by t (step w worker (Wake t) now).1) hand fits
+  change_fits (Move a b why) fits = moved_fits b (moved_by (step w worker (Move a b why) now).1) hand fits
   change_fits (Hatch t) fits = unborn_fits t (taken_by t (step w worker (Hatch t) now).1) hand fits
   change_fits (Exit c) fits = blocks_fit (taken_by 0 (step w worker (Exit c) now).1) hand fits
   change_fits (Bed t channel) fits = fits
@@ -116,6 +124,11 @@ module _ (w : World) (worker : ℕ) (e : Event) (now : ℕ) (hand : Option ℕ) 
       by_test : (b : Bool) → (if b then true else old) ≡ b
       by_test true = refl
       by_test false = was ∙ ap (is_number u) fits
+  hand_changes empty (Some (point t l)) fits u old was = by_test (u == t) (was ∙ ap (is_number u) fits)
+    where
+      by_test : (b : Bool) → old ≡ false → (if b then false else old) ≡ false
+      by_test true none = refl
+      by_test false none = none
   hand_changes _ (Some (point t l)) fits u old was = by_test (u == t) (was ∙ ap (is_number u) fits)
     where
       by_test : (b : Bool) → old ≡ b → (if b then false else old) ≡ false

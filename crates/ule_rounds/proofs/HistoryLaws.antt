@@ -1,9 +1,8 @@
--- The rounds of a setup that a scenario can spell so far make a legal and whole history of it.
+-- The rounds of every setup make a legal and whole history of it.
 use Rattle.std.proofs.Common.{◌≡◌, ℕ, ◌+◌, ◌<◌, ◌≤◌, List, [], ◌∷◌, inl, inr, get_or, length, map, slice_get, Option, Some, None, option_and_then, refl, sym, ◌∙◌, ap, subst, le_of_eq, le_trans, ⊎_elim, arith}
 use Rattle.std.specs.List.{AllByRecursion}
 use Rattle.std.proofs.lemmas.Bool.{cases_lt}
 use Rattle.std.proofs.lemmas.Option.{none-some, slice_get-get_or}
-use Rattle.ule_types.specs.Form.{IsOfForm}
 use Rattle.ule_types.specs.declared.event.Entry.{Entry}
 use Rattle.ule_types.specs.declared.setup.Setup.{Setup}
 use Rattle.ule_model.specs.Ends.{end_time}
@@ -116,14 +115,14 @@ history_of s p kept ended =
     }
 
 -- every play of rounds is under way
-pub rounds_kept : (s : Setup) (n : ℕ) → IsOfForm s → IsUnderWay s (rounds n (opening s))
-rounds_kept s n form = rounds_keep (IsUnderWay s) (under_way_turn s) n (opening s) (under_way_opening s form)
+pub rounds_kept : (s : Setup) (n : ℕ) → IsUnderWay s (rounds n (opening s))
+rounds_kept s n = rounds_keep (IsUnderWay s) (under_way_turn s) n (opening s) (under_way_opening s)
 
 -- the rounds of a setup make a legal and whole history of it
-pub history_of_rounds : (s : Setup) → IsOfForm s → IsHistoryOf s (play_of s)
-history_of_rounds s form =
-    history_of s (play_of s) (rounds_kept s greatest_rounds form)
-    (rounds_finish s greatest_rounds (opening s) (under_way_opening s form) (opening_left s))
+pub history_of_rounds : (s : Setup) → IsHistoryOf s (play_of s)
+history_of_rounds s =
+    history_of s (play_of s) (rounds_kept s greatest_rounds)
+    (rounds_finish s greatest_rounds (opening s) (under_way_opening s) (opening_left s))
 
 -- ---- that rounds go on
 
@@ -136,8 +135,8 @@ goes_on_from_further cpus p q further =
 
 -- each round performs an item where a worker has a further one
 pub rounds_go_on : RoundsGoOn
-rounds_go_on s n worker course form got unended =
+rounds_go_on s n worker course got unended =
     ⊎_elim
     (λ (further : IsFurther s.cpus (rounds n (opening s)) (round (rounds n (opening s)))). goes_on_from_further s.cpus (rounds n (opening s)) (round (rounds n (opening s))) further)
     (λ (ended : (worker : ℕ) → IsFinished (rounds n (opening s)) worker). absurd (unended (ended worker course got)))
-    (round_goes s (rounds n (opening s)) (rounds_kept s n form))
+    (round_goes s (rounds n (opening s)) (rounds_kept s n))

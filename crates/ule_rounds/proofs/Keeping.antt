@@ -1,4 +1,4 @@
--- What every play of a setup that can be spelled so far keeps, and what its next event needs.
+-- What every play of a setup keeps, and what its next event needs.
 use Rattle.std.proofs.Common.{◌≡◌, ℕ, ◌+◌, ◌*◌, ◌^◌, ◌<◌, ◌≤◌, ◌&&◌, ◌||◌, Bool, true, false, nat_le, List, [], ◌∷◌, flat_map, length, slice_get, take, Some, IfSome, IsSome, IsTrue, is_some, if◌then◌else◌, option_and_then, refl, sym, ◌∙◌, ap, subst, arith}
 use Rattle.std.specs.List.{AllByRecursion}
 use Rattle.std.proofs.lemmas.Bool.{and_parts, cond_both, false≢true, leb-true}
@@ -8,7 +8,6 @@ use Rattle.ule_score.specs.Bounds.{KeepsBounds}
 use Rattle.ule_score.specs.Changes.{HasSlice, IsBy}
 use Rattle.ule_types.proofs.Repeats.{among_front}
 use Rattle.ule_types.specs.Commands.{forked_by, is_among}
-use Rattle.ule_types.specs.Form.{IsOfForm}
 use Rattle.ule_types.specs.Words.{change_of}
 use Rattle.ule_types.specs.Rules.{declared_ids}
 use Rattle.ule_types.specs.declared.event.Event.{Event}
@@ -106,8 +105,8 @@ free_hands h t (m ∷ ms) free = by_test (is_numbered t m) (ap (is_number h) fre
     by_test false off rest = rest
 
 -- the opening play is under way
-pub under_way_opening : (s : Setup) → IsOfForm s → IsUnderWay s (opening s)
-under_way_opening s form = record {
+pub under_way_opening : (s : Setup) → IsUnderWay s (opening s)
+under_way_opening s = record {
   legal = legal_opening s (opening_count s) (opening_is s);
   courses = opening_order s starting_time;
   settings = start.settings_are;
@@ -119,9 +118,9 @@ under_way_opening s form = record {
   bound = all_along (λ (m : Member). IsFreshRecord s.cpus m.thread) (λ m. IfSome m.thread.bound (λ c. c < s.cpus)) (world_at_start s).members (λ m fresh. fresh.bound) start.records;
   last = start_lasts s;
   parents = start_parents s (ids_in s);
-  forks = forks_opening s form;
+  forks = forks_opening s;
   hands = λ h t.
-      free_hands h t (world_at_start s).members (start_free s form) ∙
+      free_hands h t (world_at_start s).members (start_free s) ∙
       sym (ap (is_number t) (hands_at_start s 0 (take s.cpus s.scripts) h));
   begun = omega arith;
   time = omega (arith, time_at_start s 0 (take s.cpus s.scripts), setup_end s);
@@ -132,7 +131,7 @@ under_way_opening s form = record {
 }
   where
     start : IsLaid (IsPlaceAtStart s.cpus) s.cpus s.settings (ids_in s) (world_at_start s)
-    start = start_laid s form
+    start = start_laid s
 
     bounds : KeepsRecords (world_at_start s)
     bounds = all_along (λ (m : Member). IsFreshRecord s.cpus m.thread) (λ m. KeepsBounds m.thread) (world_at_start s).members (λ m fresh. fresh.bounds) start.records
@@ -267,7 +266,7 @@ under_way_advanced s p worker k course after kept got found = record {
 pub next_replies : (s : Setup) (p : Play) (worker : ℕ) (course after : Course) (e : Event) → IsUnderWay s p → HasNext s p worker course e after →
     IsReplyTo (is_among (ids_in s)) s.cpus p.now e (step p.world worker e p.now).1
 next_replies s p worker course after e kept has =
-    step_replies (ids_in s) s.cpus p.world worker p.now (record { bound = kept.bound; last = kept.last; by_now = kept.by_now; parents = kept.parents; bounds = kept.bounds }) e has.declared has.finds
+    step_replies (ids_in s) s.cpus p.world worker p.now (record { bound = kept.bound; last = kept.last; by_now = kept.by_now; parents = kept.parents; bounds = kept.bounds; made = kept.made.members }) e has.declared has.finds
 
 -- the program that gave the event can hear the reply
 pub hears_reply : (s : Setup) (p : Play) (worker : ℕ) (course after : Course) (e : Event) → IsUnderWay s p → slice_get p.courses worker ≡ Some course →

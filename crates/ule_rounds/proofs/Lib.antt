@@ -1,8 +1,10 @@
 pub mod Bindings
 pub mod LastCpus
 pub mod Parents
+pub mod Looks
 pub mod Replies
 pub mod Courses
+pub mod ChargeLaws
 pub mod Hands
 pub mod Histories
 pub mod LegalLaws

@@ -1,5 +1,5 @@
 -- What a step replies: of a form that its event has, with CPUs and threads that there are.
-use Rattle.std.proofs.Common.{◌≡◌, ℕ, ◌<◌, ◌==◌, Bool, true, false, nat_le, List, Option, Some, None, IfSome, IsSome, refl, sym, subst, arith}
+use Rattle.std.proofs.Common.{◌≡◌, ℕ, ◌<◌, ◌==◌, Bool, true, false, ◌&&◌, is_none, nat_le, List, Option, Some, None, IfSome, IsSome, refl, sym, subst, arith}
 use Rattle.std.specs.List.{AllByRecursion}
 use Rattle.std.specs.Option.{option_map}
 use Rattle.std.proofs.lemmas.Bool.{and_parts, eqb-true, false≢true}
@@ -8,21 +8,21 @@ use Rattle.ule_score.specs.Changes.{IsBy, after_tick, ran, sleeps, woken as woke
 use Rattle.ule_score.specs.declared.place.Place.{Place}
 use Rattle.ule_score.specs.declared.place.Place.TheVariants.{Running, Queued, Asleep, Unborn, Gone, Hand}
 use Rattle.ule_score.specs.declared.record.ThreadRecord.{ThreadRecord}
-use Rattle.ule_threads.specs.declared.standing.Standing.{Standing}
 use Rattle.ule_types.specs.Commands.{is_among}
 use Rattle.ule_types.specs.Needs.{handling, sought_by}
 use Rattle.ule_types.specs.declared.event.Event.{Event}
 use Rattle.ule_types.specs.declared.event.Event.TheVariants.{Tick, Drop, Wake, Look, Hatch, Exit}
 use Rattle.ule_types.specs.declared.event.Reply.{Reply}
 use Rattle.ule_types.specs.declared.event.Reply.TheVariants.{Ticked, Dropped, Exited, Hatched}
-use Rattle.ule_program.specs.Hearing.{ChargesSoundly, IsDueOn, IsReplyTo, IsWokenWithin, is_of_drop, is_of_exit, is_of_wake}
+use Rattle.ule_program.specs.Hearing.{ChargesSoundly, IsDueOn, IsReplyTo, IsSmallLook, IsWokenWithin, is_of_drop, is_of_exit, is_of_wake}
 use Rattle.ule_model.specs.Actions.{Seen, go_action, leave_action, tick_action, wake_action, wake_action_at}
 use Rattle.ule_model.specs.ActionStep.{seen_on, seen_under}
 use Rattle.ule_model.specs.Events.{is_unborn_thread}
 use Rattle.ule_model.specs.Landing.{current_record}
-use Rattle.ule_model.specs.Places.{runs_on}
+use Rattle.ule_model.specs.Places.{is_on, runs_on, waits_on}
 use Rattle.ule_model.specs.Step.{step}
 use Rattle.ule_model.specs.Tick.{is_due}
+use Rattle.ule_model.specs.WellMade.{IsWellMade}
 use Rattle.ule_model.specs.World.{Member, Side, World, current_of, standing_of, thread_of}
 use Rattle.ule_members.proofs.Membership.{Has, all_has, has_between, has_thread_of}
 use Rattle.ule_members.proofs.Steps.{step_reply}
@@ -31,6 +31,7 @@ use Rattle.ule_score.proofs.ChangeLaws.{change_by_now}
 use Rattle.ule_rounds.proofs.Bindings.{change_binds}
 use Rattle.ule_rounds.proofs.Hands.{FindsUnborn}
 use Rattle.ule_rounds.proofs.LastCpus.{woken_last}
+use Rattle.ule_rounds.proofs.Looks.{few_counted}
 use Rattle.ule_rounds.proofs.Parents.{HasDeclaredParent}
 
 -- a balance is due as its CPU says
@@ -38,14 +39,15 @@ due_on : (c : ℕ) (cur : Option ℕ) (due end : Bool) → (due ≡ true → c �
 due_on c cur true end says = says refl
 due_on c cur false end says = tt
 
--- what a world keeps of its threads for its replies to be sound: their CPUs are there, nothing is noted of them after now, their parents are
--- declared, and they keep their bounds
+-- what a world keeps of its threads for its replies to be sound: they are well made, their CPUs are there, nothing is noted of them after now,
+-- their parents are declared, and they keep their bounds
 pub record AreSoundThreads (ids : List ℕ) (cpus now : ℕ) (ms : List Member) : Type 0 where
   pub bound : AllByRecursion (λ m. IfSome m.thread.bound (λ c. c < cpus)) ms
   pub last : AllByRecursion (λ m. m.thread.last < cpus) ms
   pub by_now : AllByRecursion (λ m. IsBy now m.thread) ms
   pub parents : AllByRecursion (HasDeclaredParent ids) ms
   pub bounds : AllByRecursion (λ m. KeepsBounds m.thread) ms
+  pub made : IsWellMade ms
 
 -- a reply that an exit can have, whose parent is declared; and one that a wake can have, with CPUs that there are
 abbrev IsExitReply : List ℕ → Reply → Type 0
@@ -112,6 +114,11 @@ module _ (ids : List ℕ) (cpus : ℕ) (w : World) (worker now : ℕ) (kept : Ar
           at_place Gone = (refl, tt)
           at_place (Hand h) = (refl, tt)
 
+  -- a look counts no more threads than there are
+  look_replies : (c : ℕ) → IsSmallLook (step w worker (Look c) now).1
+  look_replies c =
+      (few_counted (λ m. is_on c m.place) w.members kept.made, few_counted (λ m. waits_on c m.place && is_none m.thread.bound) w.members kept.made)
+
   -- a hatch takes the unborn thread
   hatch_replies : (t : ℕ) (o : Option Member) → is_unborn_thread o ≡ true → (into : Option ℕ) →
       IsReplyTo (is_among ids) cpus now (Hatch t) ((go_action t (Hand worker) Hatched (option_map standing_of o)).reply into)
@@ -124,7 +131,7 @@ module _ (ids : List ℕ) (cpus : ℕ) (w : World) (worker now : ℕ) (kept : Ar
   step_replies (Tick c) there finds = tick_replies c
   step_replies (Drop c channel) there finds = drop_replies (current_record c w.members) (seen_under w worker now (Drop c channel) c) _
   step_replies (Wake t) there finds = wake_replies t there
-  step_replies (Look c) there finds = tt
+  step_replies (Look c) there finds = look_replies c
   step_replies (Hatch t) there finds = hatch_replies t (thread_of t w.members) finds _
   step_replies (Exit c) there finds = exit_replies c (current_of c w.members) refl (seen_under w worker now (Exit c) c) _
   step_replies _ there finds = tt

@@ -2,7 +2,7 @@
 -- which it shares neither a lock nor the worker.
 use Rattle.std.specs.Prelude.{pos, true, false, List, [], ◌∷◌, replicate, Some, None, refl}
 use Rattle.ule_score.specs.declared.record.Why.TheVariants as why
-use Rattle.ule_types.specs.Form.{default_settings}
+use Rattle.ule_types.specs.Defaults.{default_settings}
 use Rattle.ule_types.specs.declared.command.Command.{Command}
 use Rattle.ule_types.specs.declared.command.Command.TheVariants.{Time, Yield}
 use Rattle.ule_types.specs.declared.event.Entry.{Entry}

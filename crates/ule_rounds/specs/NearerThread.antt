@@ -1,7 +1,7 @@
 -- An example of a stretch: a thread that stays queued in a calendar comes nearer by one bucket at a tick.
 use Rattle.std.specs.Prelude.{◌≡◌, pos, false, List, [], ◌∷◌, replicate, Some, None, refl}
 use Rattle.ule_score.specs.declared.record.Why.TheVariants as why
-use Rattle.ule_types.specs.Form.{default_settings}
+use Rattle.ule_types.specs.Defaults.{default_settings}
 use Rattle.ule_types.specs.declared.command.Command.{Command}
 use Rattle.ule_types.specs.declared.command.Command.TheVariants as command
 use Rattle.ule_types.specs.declared.event.Entry.{Entry}

@@ -1,14 +1,14 @@
 ghost use Rattle.ule_model.specs.History.{RoundsAreLegal, RoundsGoOn};
 
-/// The law of the rounds: for every setup that a scenario can spell so far, the history of its
-/// rounds is legal and whole, it replays to the world at its end, each record keeps its bounds all
-/// along, and it ends when all scripts do. It does nothing when it runs.
+/// The law of the rounds: for every setup, the history of its rounds is legal and whole, it replays
+/// to the world at its end, each record keeps its bounds all along, and it ends when all scripts do.
+/// It does nothing when it runs.
 pub fn rounds_are_legal()
     ensures { RoundsAreLegal }
 {}
 
-/// The law that rounds go on: for every such setup, each round performs an item where a worker
-/// has a further one, so that no turns are lost for good. It does nothing when it runs.
+/// The law that rounds go on: for every setup, each round performs an item where a worker has a
+/// further one, so that no turns are lost for good. It does nothing when it runs.
 pub fn rounds_go_on()
     ensures { RoundsGoOn }
 {}

@@ -2,7 +2,7 @@
 use Rattle.std.specs.Prelude.{ℕ, ◌-◌, Bool, ◌||◌, List, [], map, replicate}
 use Rattle.ule_score.specs.declared.record.Settings.{Settings}
 use Rattle.ule_types.specs.Commands.{is_among}
-use Rattle.ule_types.specs.Form.{default_settings}
+use Rattle.ule_types.specs.Defaults.{default_settings}
 use Rattle.ule_types.specs.Rules.{budget_from, forked_in_all}
 use Rattle.ule_types.specs.declared.command.Command.{Command}
 use Rattle.ule_topo.specs.declared.group.GroupLine.{GroupLine}

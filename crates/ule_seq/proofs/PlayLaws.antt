@@ -4,7 +4,6 @@ use Rattle.std.specs.Option.{option_map}
 use Rattle.std.proofs.lemmas.Bool.{cases_eq, false≢true, true≢false}
 use Rattle.std.proofs.lemmas.List.{drop_all, length-set, length_push}
 use Rattle.std.proofs.lemmas.Option.{none-some, same_Some, slice_get-get_or, slice_get_within}
-use Rattle.ule_types.specs.Form.{IsOfForm}
 use Rattle.ule_types.specs.Outcome.{OutcomeValue}
 use Rattle.ule_types.specs.declared.command.Command.{Command}
 use Rattle.ule_types.specs.declared.event.Entry.{Entry}
@@ -146,16 +145,16 @@ reached_keeps s I first step p (opens) = first
 reached_keeps s I first step p (goes_on q worker reached) = step q worker (reached_keeps s I first step q reached)
 
 -- each play that is reached is under way
-pub reached_kept : (s : Setup) → IsOfForm s → (p : Play) → IsReached s p → IsUnderWay s p
-reached_kept s form = reached_keeps s (IsUnderWay s) (under_way_opening s form) (under_way_turn s)
+pub reached_kept : (s : Setup) (p : Play) → IsReached s p → IsUnderWay s p
+reached_kept s = reached_keeps s (IsUnderWay s) (under_way_opening s) (under_way_turn s)
 
 -- a play has as many courses as the setup has CPUs
-pub play_count : (s : Setup) (v : PlayerValue) (p : Play) → IsOfForm s → IsPlay s v p → length p.courses ≡ s.cpus
-play_count s v p form play = (reached_kept s form p play.reached).legal.count
+pub play_count : (s : Setup) (v : PlayerValue) (p : Play) → IsPlay s v p → length p.courses ≡ s.cpus
+play_count s v p play = (reached_kept s p play.reached).legal.count
 
 -- a player has a course for each worker
-pub courses_count : (s : Setup) (v : PlayerValue) (p : Play) → IsOfForm s → IsPlay s v p → length v.courses ≡ s.cpus
-courses_count s v p form play = play.courses.count ∙ play_count s v p form play
+pub courses_count : (s : Setup) (v : PlayerValue) (p : Play) → IsPlay s v p → length v.courses ≡ s.cpus
+courses_count s v p play = play.courses.count ∙ play_count s v p play
 
 -- a course that a player has of a worker is ahead of that of its play
 pub course_ahead : (s : Setup) (v : PlayerValue) (p : Play) (worker : ℕ) (c : Course) → IsPlay s v p → slice_get v.courses worker ≡ Some c →
@@ -225,7 +224,6 @@ own_is_yes worker (Some holder) own = ap (λ (b : Bool). if b then Yes else InHa
 
 -- a player of a play with a worker's course, which has this item waiting, and where the play has the worker
 pub record IsAtTurn (s : Setup) (v : PlayerValue) (p : Play) (worker : ℕ) (i : Item) : Type 0 where
-  pub form : IsOfForm s
   pub play : IsPlay s v p
   pub course : Course
   pub got : slice_get v.courses worker ≡ Some course
@@ -234,16 +232,15 @@ pub record IsAtTurn (s : Setup) (v : PlayerValue) (p : Play) (worker : ℕ) (i :
   pub next : next_step stands ≡ Some (i, course_at s worker course None)
 
 -- what a player finds waiting is its turn
-pub turn_found : (s : Setup) (v : PlayerValue) (p : Play) (worker : ℕ) (i : Item) → IsOfForm s → IsPlay s v p →
+pub turn_found : (s : Setup) (v : PlayerValue) (p : Play) (worker : ℕ) (i : Item) → IsPlay s v p →
     option_and_then (λ (c : Course). c.item) (slice_get v.courses worker) ≡ Some i → IsAtTurn s v p worker i
-turn_found s v p worker i form play found = at_course (slice_get v.courses worker) refl found
+turn_found s v p worker i play found = at_course (slice_get v.courses worker) refl found
   where
     at_course : (o : Option Course) → slice_get v.courses worker ≡ o → option_and_then (λ (c : Course). c.item) o ≡ Some i → IsAtTurn s v p worker i
     at_course None none is = absurd (none-some i is)
     at_course (Some c) got is =
         let ahead = course_ahead s v p worker c play got in
         record {
-          form = form;
           play = play;
           course = c;
           got = got;
@@ -254,7 +251,7 @@ turn_found s v p worker i form play found = at_course (slice_get v.courses worke
 
 -- the play at a turn is under way
 pub turn_kept : (s : Setup) (v : PlayerValue) (p : Play) (worker : ℕ) (i : Item) → IsAtTurn s v p worker i → IsUnderWay s p
-turn_kept s v p worker i at = reached_kept s at.form p at.play.reached
+turn_kept s v p worker i at = reached_kept s p at.play.reached
 
 -- where the worker stands once the item is given
 abbrev pub given_course : Setup → ℕ → Course → program.Course
@@ -489,11 +486,11 @@ told_outcome o w now es same lines =
     ap (λ (n : ℕ). outcome_at w n es) lines.end
 
 -- the outcome of a player that has the play of the setup
-pub outcome_of_play : (s : Setup) (v : PlayerValue) (o : OutcomeValue) → IsOfForm s → IsPlay s v (play_of s) → HasFinals v.world v.outcome o v.now → IsOutcomeOf s o
-outcome_of_play s v o form play finals =
+pub outcome_of_play : (s : Setup) (v : PlayerValue) (o : OutcomeValue) → IsPlay s v (play_of s) → HasFinals v.world v.outcome o v.now → IsOutcomeOf s o
+outcome_of_play s v o play finals =
     told_outcome o (play_of s).world v.now (play_of s).entries (finals.entries ∙ sym play.entries) (finals.lines (play_of s).world play.world) ∙
     ap (λ (n : ℕ). outcome_at (play_of s).world n (play_of s).entries) (sym play.now ∙ history.time) ∙
     ap (λ (w : World). outcome_at w (end_time s.scripts) (play_of s).entries) (sym history.world)
   where
     history : IsHistoryOf s (play_of s)
-    history = history_of_rounds s form
+    history = history_of_rounds s

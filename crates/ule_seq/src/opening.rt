@@ -3,7 +3,6 @@ ghost use Rattle.ule_model.specs.CpuValue.{thread_in, value_laid};
 ghost use Rattle.ule_model.specs.OpeningValues.{balance_word_before, opening_limbo, opening_queue, opening_value};
 ghost use Rattle.ule_model.specs.Start.{record_of};
 ghost use Rattle.ule_score.specs.Settings.{are_settings};
-ghost use Rattle.ule_types.specs.Form.{IsOfForm};
 
 use crate::lock::{FIRST_CHAIN_LOCK, Guarded, LIMBO_LOCK};
 use crate::records::{record_of, unborn_record};
@@ -19,7 +18,6 @@ use ule_types::{Setup, ThreadSpec};
 /// their order, a chain without sleepers, limbo with the unborn threads, or nothing where the CPU
 /// isn't there. It takes all the memory that the lock's value ever needs.
 pub fn opening(alloc: Global, s: &Setup, l: LockId) -> Result<Guarded, Memory>
-    requires { IsOfForm s.now }
     ensures { IfOk result (λ g. g ≡ opening_value s.now l) }
 {
     let l = l.0;
@@ -36,8 +34,7 @@ pub fn opening(alloc: Global, s: &Setup, l: LockId) -> Result<Guarded, Memory>
 
 /// A CPU with its declared threads queued in their order.
 fn opening_queue(alloc: Global, s: &Setup, c: Cpu) -> Result<Tdq, Memory>
-    requires form { IsOfForm s.now }
-    requires there { c < s.now.cpus }
+    requires { c < s.now.cpus }
     ensures { IfOk result (λ v. v ≡ opening_queue s.now c) }
 {
     let mut tdq = Tdq::start(alloc, c, &s.settings, balance_word(s.jitter))?;
@@ -69,7 +66,6 @@ fn lay_own(settings: &Settings, c: Cpu, spec: &ThreadSpec, tdq: &mut Tdq)
 
 /// Limbo with the unborn threads of a setup.
 fn opening_limbo(alloc: Global, s: &Setup) -> Result<Limbo, Memory>
-    requires { IsOfForm s.now }
     ensures { IfOk result (λ v. v ≡ opening_limbo s.now) }
 {
     let mut limbo = Limbo::start(alloc)?;

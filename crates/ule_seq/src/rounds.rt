@@ -1,5 +1,4 @@
 ghost use Rattle.std.specs.Prelude.{◌≡◌, ◌+◌, ◌^◌, ◌<◌, ◌≤◌, length, slice_get, false, IfOk, None, Some, option_and_then};
-ghost use Rattle.ule_types.specs.Form.{IsOfForm};
 ghost use Rattle.ule_model.specs.Rounds.{opening_courses};
 ghost use Rattle.ule_seq.specs.Outcomes.{IsOutcomeOf};
 ghost use Rattle.ule_seq.specs.Playing.{AreAhead};
@@ -103,7 +102,6 @@ impl Player {
     ghost use Rattle.ule_seq.specs.declared.world.Ready.TheVariants.{Yes};
 
     fn start(alloc: Global, s: &Setup) -> Result<Player, Memory>
-        requires { IsOfForm s.now }
         ensures { IfOk result (λ v. IsPlay s.now v (opening s.now)) }
     {
         let world = World::start(alloc, s)?;
@@ -120,7 +118,6 @@ impl Player {
     /// One turn of a worker: its next item, if there is one, unless that seeks a thread in another
     /// worker's hand: then the turn is lost. Says whether there was an item.
     fn turn(&mut self, s: &Setup, worker: u8) -> bool
-        requires form { IsOfForm s.now }
         requires worker { worker < s.now.cpus }
         requires play { (p : Play) × IsPlay s.now self.old p }
         ensures turned { (p : Play) → IsPlay s.now self.old p → IsPlay s.now self.new (turn p worker) }
@@ -191,8 +188,7 @@ impl Player {
 
     /// A round: each worker has one turn, in rising number. Says whether any had a further item.
     fn round(&mut self, s: &Setup) -> bool
-        requires form { IsOfForm s.now }
-        requires play { (p : Play) × IsPlay s.now self.old p }
+        requires { (p : Play) × IsPlay s.now self.old p }
         ensures played { (p : Play) → IsPlay s.now self.old p → IsPlay s.now self.new (round p) }
         ensures ended { result ≡ false → (p : Play) → IsPlay s.now self.old p → round p ≡ p }
     {
@@ -207,8 +203,7 @@ impl Player {
 
     /// All rounds, until every worker is at the end of its script.
     fn run(&mut self, s: &Setup)
-        requires form { IsOfForm s.now }
-        requires play { (p : Play) × IsPlay s.now self.old p }
+        requires { (p : Play) × IsPlay s.now self.old p }
         ensures { (p : Play) → IsPlay s.now self.old p → IsPlay s.now self.new (rounds 65536 p) }
     {
         for _round in 0..GREATEST_ROUNDS {
@@ -251,7 +246,6 @@ fn opening_courses(alloc: Global, s: &Setup) -> Result<Vec<Course>, Memory>
 /// Plays a setup in rounds, until every worker is at the end of its script. All memory is taken
 /// before the first turn.
 pub fn play(alloc: Global, s: &Setup) -> Result<Outcome, Memory>
-    requires { IsOfForm s.now }
     ensures { IfOk result (λ o. IsOutcomeOf s.now o) }
 {
     let mut player = Player::start(alloc, s)?;

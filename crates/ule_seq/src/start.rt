@@ -2,7 +2,6 @@ ghost use Rattle.std.specs.Prelude.{◌≡◌, None, replicate, IfOk};
 ghost use Rattle.ule_model.specs.OpeningValues.{opening_scheduler};
 ghost use Rattle.ule_model.specs.Start.{world_at_start};
 ghost use Rattle.ule_model.specs.WorldValue.{Shows};
-ghost use Rattle.ule_types.specs.Form.{IsOfForm};
 
 use crate::hand::Hand;
 use crate::lock::{Guarded, LOCKS};
@@ -15,7 +14,6 @@ use ule_types::Setup;
 
 /// What each lock guards at the start, by its number.
 fn opening_values(alloc: Global, s: &Setup) -> Result<Vec<Guarded>, Memory>
-    requires { IsOfForm s.now }
     ensures { IfOk result (λ values. values.items ≡ (opening_scheduler s.now).values) }
 {
     let mut values = Vec::new(alloc);
@@ -46,7 +44,6 @@ impl World {
     /// order, and no worker has anything in hand. It takes all the memory that the world ever
     /// needs; without that memory there is no world.
     pub fn start(alloc: Global, s: &Setup) -> Result<World, Memory>
-        requires { IsOfForm s.now }
         ensures value { IfOk result (λ v. v ≡ opening_scheduler s.now) }
         ensures shows { IfOk result (λ v. Shows v (world_at_start s.now)) }
     {

@@ -22,7 +22,7 @@ use Rattle.ule_types.specs.Outcome.{OutcomeValue}
 use Rattle.ule_types.specs.declared.setup.Setup.{Setup}
 use Rattle.ule_scenario.specs.Scenario.{Spells}
 use Rattle.ule_scenario.specs.declared.reason.Refusal.{Refusal}
-use Rattle.ule_top.specs.Run.{Answers, AnswersInput, AnswersRefusal, AnswersSetup, HasRun, IsDue, IsRefused, NamesItsLock, ReadRefused, Refuses, TookAtMost, TookFront, Wrote, first_offence, no_memory, not_played, played, refusal_due, refused, refusal_text, rounds_text, run_words, scenario_limit, too_long, trace_due, traced, unmade, unplayed, unplayed_refusal, whole}
+use Rattle.ule_top.specs.Run.{Answers, AnswersInput, AnswersRefusal, AnswersSetup, HasRun, IsDue, IsRefused, NamesItsLock, ReadRefused, Refuses, TookAtMost, TookFront, Wrote, no_memory, played, refusal_due, refused, refusal_text, rounds_text, run_words, scenario_limit, too_long, trace_due, traced, unmade, whole}
 
 -- ---- the text of an outcome
 
@@ -158,7 +158,7 @@ cause_told : (s0 s1 : SourceState) (x : Refusal) → ReadRefused s0 s1 x → (in
 cause_told s0 s1 x (whole input reads refuses) left told = rw (sym (reads.all left told)) refuses
 cause_told s0 s1 x (too_long taken given count is) left told =
     let longer = longer_left s1.left left taken (sym told ∙ given) in
-    first_offence (rw (is, lt-ltb 1048576 (length left) (omega arith)) refl)
+    rw (is, lt-ltb 1048576 (length left) (omega arith)) refl
 
 -- a refusal is the answer where what was read is refused
 pub answers_refusal : (s0 s1 : SourceState) (k0 k1 : SinkState) (status : ℕ) (x : Refusal) → ReadRefused s0 s1 x → s1.faults ≡ s0.faults → AnswersRefusal x k0 k1 status → Answers run_words s0 s1 k0 k1 status
@@ -173,7 +173,7 @@ answers_refusal s0 s1 k0 k1 status x read faults w =
 -- what the whole input comes to is the answer of the command
 pub answers_input : (s0 s1 : SourceState) (k0 k1 : SinkState) (input : List ℕ) (status : ℕ) → ReadsWhole s0 s1 scenario_limit input → s1.faults ≡ s0.faults →
     AnswersInput input k0 k1 status → Answers run_words s0 s1 k0 k1 status
-answers_input s0 s1 k0 k1 input status reads faults (traced s spells form w) =
+answers_input s0 s1 k0 k1 input status reads faults (traced s spells w) =
     ⊎_elim
     (λ (is : status ≡ 0). answers_done s0 s1 k0 k1 status is
     (record {
@@ -181,14 +181,13 @@ answers_input s0 s1 k0 k1 input status reads faults (traced s spells form w) =
       setup = s;
       read = reads;
       spelled = spells;
-      form = form;
       written = w.whole is;
       flushed = w.flushed is;
-      history = history_of_rounds s form;
-      words = words_name s (history_of_rounds s form);
+      history = history_of_rounds s;
+      words = words_name s (history_of_rounds s);
     })
     faults (w.kept (λ e. omega arith)))
-    (λ (is : status ≡ 4). answers_fault s0 s1 k0 k1 status is (took_front s0 s1 k0 k1 (rounds_text s) 0 status (trace_due input s reads spells form refl) w is) faults)
+    (λ (is : status ≡ 4). answers_fault s0 s1 k0 k1 status is (took_front s0 s1 k0 k1 (rounds_text s) 0 status (trace_due input s reads spells refl) w is) faults)
     w.known
 answers_input s0 s1 k0 k1 input status reads faults (refused x refuses w) =
     answers_refusal s0 s1 k0 k1 status x (whole input reads refuses) faults w
@@ -197,8 +196,7 @@ answers_input s0 s1 k0 k1 input status reads faults (no_memory is same) =
 
 -- what a setup that the bytes spell comes to is what they come to
 pub answers_setup : (input : List ℕ) (s : Setup) (k0 k1 : SinkState) (status : ℕ) → Spells input s → AnswersSetup s k0 k1 status → AnswersInput input k0 k1 status
-answers_setup input s k0 k1 status spells (played form w) = traced s spells form w
-answers_setup input s k0 k1 status spells (not_played other w) = refused unplayed_refusal (unplayed s spells other refl) w
+answers_setup input s k0 k1 status spells (played w) = traced s spells w
 answers_setup input s k0 k1 status spells (unmade is same) = no_memory is same
 
 -- a list of one item

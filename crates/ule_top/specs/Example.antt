@@ -3,7 +3,7 @@ use Rattle.std.specs.Prelude.{◌≡◌, ℕ, pos, true, false, List, [], ◌∷
 use Rattle.ule_model.specs.Ends.{outcome_of}
 use Rattle.ule_model.specs.Rounds.{play_of}
 use Rattle.ule_trace.specs.Trace.{trace_text}
-use Rattle.ule_types.specs.Form.{default_settings}
+use Rattle.ule_types.specs.Defaults.{default_settings}
 use Rattle.ule_types.specs.declared.command.Command.TheVariants.{Yield, Sleep, Time, Wake}
 use Rattle.ule_types.specs.declared.setup.Form.TheVariants.{Ts}
 use Rattle.ule_types.specs.declared.setup.Setup.{Setup}

@@ -13,7 +13,6 @@ use Rattle.ule_model.specs.Rounds.{play_of}
 use Rattle.ule_scenario.specs.Scenario.{Spells, read_bytes}
 use Rattle.ule_scenario.specs.declared.reason.Refusal.{Refusal}
 use Rattle.ule_trace.specs.Trace.{trace_text}
-use Rattle.ule_types.specs.Form.{IsOfForm}
 use Rattle.ule_types.specs.declared.outcome.ThreadLine.{ThreadLine}
 use Rattle.ule_types.specs.declared.setup.Setup.{Setup}
 
@@ -41,27 +40,21 @@ refusal_text x = codes "refused " ++ (decimal x.line ++ 32 ∷ (decimal x.reason
 abbrev pub too_long_refusal : Refusal
 too_long_refusal = record { line = 0; reason = 5; detail = 0 }
 
--- the refusal of a setup that can't be played yet
-abbrev pub unplayed_refusal : Refusal
-unplayed_refusal = record { line = 0; reason = 0; detail = 0 }
-
--- the headline for `run`: the whole input spells a setup that can be played; the trace of its history of rounds was written and flushed;
+-- the headline for `run`: the whole input spells a setup; the trace of its history of rounds was written and flushed;
 -- that history is legal and whole, and each thread's word names the lock of its place
 pub record HasRun (s0 s1 : SourceState) (k0 k1 : SinkState) : Type 0 where
   pub input : List ℕ
   pub setup : Setup
   pub read : ReadsWhole s0 s1 scenario_limit input
   pub spelled : Spells input setup
-  pub form : IsOfForm setup
   pub written : Appends k0.taken k1.taken (trace_text (outcome_of setup setup.scripts (play_of setup).entries))
   pub flushed : k1.flushed ≡ true
   pub history : IsHistoryOf setup (play_of setup)
   pub words : AllByRecursion NamesItsLock (outcome_of setup setup.scripts (play_of setup).entries).threads
 
--- the input is refused so: this is the first offence of its bytes, or they spell a setup that can't be played yet
-pub data Refuses (input : List ℕ) (x : Refusal) : Type 0 where
-  first_offence : read_bytes input ≡ Err x → Refuses input x
-  unplayed : (s : Setup) → Spells input s → (IsOfForm s → ⊥) → x ≡ unplayed_refusal → Refuses input x
+-- the input is refused so: this is the first offence of its bytes
+abbrev pub Refuses : List ℕ → Refusal → Type 0
+Refuses input x = read_bytes input ≡ Err x
 
 -- what was read is refused so: it is the whole input, or one byte more than a scenario may have
 pub data ReadRefused (s0 s1 : SourceState) (x : Refusal) : Type 0 where
@@ -79,7 +72,7 @@ pub record IsRefused (s0 s1 : SourceState) (k0 k1 : SinkState) : Type 0 where
 
 -- the text that is due: the trace of the setup that the whole input spells, or the line of the refusal of what was read
 pub data IsDue (s0 s1 : SourceState) (text : List ℕ) : Type 0 where
-  trace_due : (input : List ℕ) (s : Setup) → ReadsWhole s0 s1 scenario_limit input → Spells input s → IsOfForm s → text ≡ rounds_text s → IsDue s0 s1 text
+  trace_due : (input : List ℕ) (s : Setup) → ReadsWhole s0 s1 scenario_limit input → Spells input s → text ≡ rounds_text s → IsDue s0 s1 text
   refusal_due : (x : Refusal) → ReadRefused s0 s1 x → text ≡ refusal_text x → IsDue s0 s1 text
 
 -- a fault of writing: a front of the text that is due was taken, and nothing else
@@ -129,14 +122,13 @@ Finishes k k1 written good status = (k0 : SinkState) (text : List ℕ) → Wrote
 abbrev pub AnswersRefusal : Refusal → SinkState → SinkState → ℕ → Type 0
 AnswersRefusal x k0 k1 status = Wrote k0 k1 (refusal_text x) 3 status
 
--- what a setup comes to: its trace was written, or it can't be played yet and was refused, or there was no memory
+-- what a setup comes to: its trace was written, or there was no memory
 pub data AnswersSetup (s : Setup) (k0 k1 : SinkState) (status : ℕ) : Type 0 where
-  played : IsOfForm s → Wrote k0 k1 (rounds_text s) 0 status → AnswersSetup s k0 k1 status
-  not_played : (IsOfForm s → ⊥) → AnswersRefusal unplayed_refusal k0 k1 status → AnswersSetup s k0 k1 status
+  played : Wrote k0 k1 (rounds_text s) 0 status → AnswersSetup s k0 k1 status
   unmade : status ≡ 5 → k1 ≡ k0 → AnswersSetup s k0 k1 status
 
 -- what an input comes to: it spells a setup whose trace was written, or it is refused, or there was no memory
 pub data AnswersInput (input : List ℕ) (k0 k1 : SinkState) (status : ℕ) : Type 0 where
-  traced : (s : Setup) → Spells input s → IsOfForm s → Wrote k0 k1 (rounds_text s) 0 status → AnswersInput input k0 k1 status
+  traced : (s : Setup) → Spells input s → Wrote k0 k1 (rounds_text s) 0 status → AnswersInput input k0 k1 status
   refused : (x : Refusal) → Refuses input x → AnswersRefusal x k0 k1 status → AnswersInput input k0 k1 status
   no_memory : status ≡ 5 → k1 ≡ k0 → AnswersInput input k0 k1 status

@@ -1,5 +1,4 @@
 ghost use Rattle.std.specs.Prelude.{◌≡◌, ◌↔◌, ◌≢◌, ◌≤◌, ℕ, List, length, IsTrue, map, string_bytes};
-ghost use Rattle.ule_types.specs.Form.{IsOfForm};
 ghost use Rattle.ule_scenario.specs.ReaderKept.{HasRead};
 ghost use Rattle.ule_scenario.specs.Scenario.{IsFaultFor, read_bytes};
 ghost use Rattle.ule_scenario.specs.declared.reason.Refusal.{Refusal};
@@ -11,7 +10,7 @@ use ule_scenario::{Reader, Refusal, feed_all};
 use ule_seq::play;
 use ule_text::LineText;
 use ule_trace::write_trace;
-use ule_types::{ScenarioFault, Setup, is_of_form};
+use ule_types::{ScenarioFault, Setup};
 
 /// The most bytes that a scenario may have.
 const SCENARIO_LIMIT: usize = 1_048_576;
@@ -20,13 +19,6 @@ const SCENARIO_LIMIT: usize = 1_048_576;
 const TOO_LONG: Refusal = Refusal {
     line: 0,
     reason: 5,
-    detail: 0,
-};
-
-/// The refusal of a setup that can't be played yet.
-const UNPLAYED: Refusal = Refusal {
-    line: 0,
-    reason: 0,
     detail: 0,
 };
 
@@ -55,9 +47,9 @@ const NO_MEMORY: u8 = 5;
 /// 0: done, and the trace was written and flushed. 1: the words are no command, and nothing is read
 /// or written. 2: a read failed, within the first 1,048,576 bytes, and nothing is written. 3: the
 /// input spells no setup or has more bytes than that, and the line `refused LINE REASON DETAIL` was
-/// written and flushed, which tells the first offence; `refused 0 0 0` tells a setup that can't be
-/// played yet. 4: a write or a flush failed or a write took no byte, and a front of the text of 0
-/// or 3 was taken, after as much was read as there. 5: memory ran out, and nothing is written.
+/// written and flushed, which tells the first offence. 4: a write or a flush failed or a write took
+/// no byte, and a front of the text of 0 or 3 was taken, after as much was read as there. 5: memory
+/// ran out, and nothing is written.
 pub fn top<S: Source, K: Sink>(alloc: Global, words: &[String], src: &mut S, out: &mut K) -> u8
     ensures { Answers (map string_bytes words.now) (S.state src.old) (S.state src.new)
         (K.state out.old) (K.state out.new) result }
@@ -99,7 +91,7 @@ fn run_input<K: Sink>(alloc: Global, reader: Reader, out: &mut K) -> u8
     ensures { (input : List ℕ) → HasRead reader input → AnswersInput input (K.state out.old) (K.state out.new) result }
 {
     match reader.finish() {
-        Ok(setup) => run_setup(alloc, &setup, out),
+        Ok(setup) => play_setup(alloc, &setup, out),
         Err(fault) => refuse_for(fault, out),
     }
 }
@@ -125,20 +117,8 @@ fn refuse_for<K: Sink>(fault: ScenarioFault, out: &mut K) -> u8
     }
 }
 
-/// Plays a setup and writes the trace, if it can be played yet.
-fn run_setup<K: Sink>(alloc: Global, setup: &Setup, out: &mut K) -> u8
-    ensures { AnswersSetup setup.now (K.state out.old) (K.state out.new) result }
-{
-    if is_of_form(setup) {
-        play_setup(alloc, setup, out)
-    } else {
-        refuse(UNPLAYED, out)
-    }
-}
-
-/// Plays a setup that can be played and writes the trace.
+/// Plays a setup and writes the trace.
 fn play_setup<K: Sink>(alloc: Global, setup: &Setup, out: &mut K) -> u8
-    requires { IsOfForm setup.now }
     ensures { AnswersSetup setup.now (K.state out.old) (K.state out.new) result }
 {
     match play(alloc, setup) {

@@ -1,6 +1,6 @@
 pub mod Commands
 pub mod Rules
-pub mod Form
+pub mod Defaults
 pub mod Outcome
 pub mod Needs
 pub mod Words

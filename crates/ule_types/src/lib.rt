@@ -5,7 +5,6 @@
 pub use command::{Command, greatest};
 pub use event::{Entry, Event, Item, MoveWhy, Reply};
 pub use fault::ScenarioFault;
-pub use form::is_of_form;
 pub use items::Items;
 pub use outcome::{Outcome, ThreadLine};
 pub use scripts::Scripts;
@@ -14,7 +13,6 @@ pub use setup::{Form, Groups, Setup, Specs, ThreadSpec, Turns, Unborn};
 pub mod command;
 pub mod event;
 pub mod fault;
-pub mod form;
 pub mod items;
 pub mod outcome;
 pub mod scripts;

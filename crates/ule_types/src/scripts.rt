@@ -1,9 +1,6 @@
 ghost use Rattle.std.specs.Prelude.{◌≡◌, ℕ, ◌+◌, ◌<◌, ◌≤◌, List, [], ◌∷◌, ◌++◌, length, vec_len, slice_get, slice_set, slice_index_or, IfOk, OnOk, OnErr, Some, replicate, ◌==◌};
-ghost use Rattle.std.specs.List.{list_all};
-ghost use Rattle.ule_types.specs.Form.{is_built_for};
 
 use crate::command::Command;
-use crate::form::is_built_for;
 use crate::items::Items;
 use std::alloc::Global;
 use std::marker::Model;
@@ -79,21 +76,5 @@ impl Scripts {
         ensures { result.now ≡ slice_index_or self.now worker [] }
     {
         self.scripts[usize::from(worker)].as_slice()
-    }
-
-    /// Whether each command of each worker can be played on so many CPUs.
-    pub fn are_built_for(&self, cpus: u8) -> bool
-        ensures { result ≡ list_all (λ script. list_all (is_built_for cpus) script) self.now }
-    {
-        self.scripts.iter().all(|script| script.are_built_for(cpus))
-    }
-}
-
-impl Items<Command> {
-    /// Whether each command can be played on so many CPUs.
-    pub fn are_built_for(&self, cpus: u8) -> bool
-        ensures { result ≡ list_all (is_built_for cpus) self.now }
-    {
-        self.as_slice().iter().all(|c| is_built_for(c, cpus))
     }
 }

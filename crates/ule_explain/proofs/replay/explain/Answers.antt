@@ -4,4 +4,4 @@ use Rattle.ule_explain.proofs.replay.explain.Goals as goal
 
 pub replay-requires : goal.replay-requires
 replay-requires g c =
-    start_replays c.args.setup.now c.in_ok-world.world c.in_ok-outcome.outcome c.requires c.in_ok-outcome.ensures c.in_ok-world.ensures.shows
+    start_replays c.args.setup.now c.in_ok-world.world c.in_ok-outcome.outcome c.in_ok-outcome.ensures c.in_ok-world.ensures.shows

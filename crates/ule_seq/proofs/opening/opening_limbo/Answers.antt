@@ -21,7 +21,7 @@ unborn-requires-clause-absent c =
     let unborn = c.as_slice-unborn.result.now in
     let here : slice_get s.unborn k ≡ Some t =
     subst (λ (ts : List ℕ). slice_get ts k ≡ Some t) c.as_slice-unborn.ensures (slice_get_read unborn (length unborn) k t refl c.loop-t-test.true c.t-item.is) in
-    rw c.unborn_record.ensures.record (subst (λ (v : LimboValue). standing_in v.slots t ≡ None) (sym c.loop-t.invariant) (limbo_absent s k t (limbo_so_far s k) c.requires here (limbo_opened_at s c.requires k t here)))
+    rw c.unborn_record.ensures.record (subst (λ (v : LimboValue). standing_in v.slots t ≡ None) (sym c.loop-t.invariant) (limbo_absent s k t (limbo_so_far s k) here (limbo_opened_at s k t here)))
 
 pub loop-t-preserved : goal.loop-t-preserved
 loop-t-preserved c =

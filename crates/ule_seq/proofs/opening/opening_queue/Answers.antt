@@ -19,7 +19,7 @@ lay_own-requires-clause-absent c =
     let specs = c.as_slice-specs.result.now in
     let here : slice_get s.threads k ≡ Some spec =
     subst (λ (xs : List ThreadSpec). slice_get xs k ≡ Some spec) c.as_slice-specs.ensures (slice_get_read specs (length specs) k spec refl c.loop-spec-test.true c.spec-item.is) in
-    subst (λ (v : CpuValue). thread_in v spec.id ≡ None) (sym c.loop-spec.invariant) (queue_absent s k c.args.c spec (queue_so_far s c.args.c k) c.requires.form here (queue_opened_at s c.args.c c.requires.form c.requires.there k spec here))
+    subst (λ (v : CpuValue). thread_in v spec.id ≡ None) (sym c.loop-spec.invariant) (queue_absent s k c.args.c spec (queue_so_far s c.args.c k) here (queue_opened_at s c.args.c c.requires k spec here))
 
 pub loop-spec-preserved : goal.loop-spec-preserved
 loop-spec-preserved c =

@@ -5,7 +5,7 @@ use Rattle.ule_top.proofs.command.play_setup.Goals as goal
 
 pub returns-in-Ok : goal.returns-in-Ok
 returns-in-Ok g c =
-    played c.requires (subst (λ (text : List ℕ). Wrote (g.K.Sink.state c.args.out.now) (g.K.Sink.state c.finish.new.out) text 0 c.finish.result)
+    played (subst (λ (text : List ℕ). Wrote (g.K.Sink.state c.args.out.now) (g.K.Sink.state c.finish.new.out) text 0 c.finish.result)
     (trace_of c.args.setup.now c.in-Ok.outcome c.in-Ok.ensures) (c.finish.ensures _ _ c.write_trace-written.ensures))
 
 pub returns-in-Err : goal.returns-in-Err

@@ -21,10 +21,10 @@ loop-worker-preserved c = record {
 
 pub returns-clause-played : goal.returns-clause-played
 returns-clause-played c p play =
-    let all : c.loop-worker.worker ≡ length p.courses = omega (arith, play_count c.args.s.now c.args.self.now p c.requires.form play) in
+    let all : c.loop-worker.worker ≡ length p.courses = omega (arith, play_count c.args.s.now c.args.self.now p play) in
     subst (λ n. IsPlay c.args.s.now c.loop-worker.self (turns n p)) all (c.loop-worker.invariant.played p play)
 
 pub returns-clause-ended : goal.returns-clause-ended
 returns-clause-ended c still p play =
-    let all : c.loop-worker.worker ≡ length p.courses = omega (arith, play_count c.args.s.now c.args.self.now p c.requires.form play) in
+    let all : c.loop-worker.worker ≡ length p.courses = omega (arith, play_count c.args.s.now c.args.self.now p play) in
     subst (λ n. turns n p ≡ p) all (c.loop-worker.invariant.ended still p play)

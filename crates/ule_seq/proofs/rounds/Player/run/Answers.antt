@@ -8,9 +8,9 @@ use Rattle.ule_seq.proofs.rounds.Player.run.Goals as goal
 pub loop-round-init : goal.loop-round-init
 loop-round-init c p play = subst (IsPlay c.args.s.now c.args.self.now) (sym (rounds_none p)) play
 
-pub round-requires-clause-play : goal.round-requires-clause-play
-round-requires-clause-play c =
-    (rounds c.loop-round._round c.requires.play.0, c.loop-round.invariant c.requires.play.0 c.requires.play.1)
+pub round-requires : goal.round-requires
+round-requires c =
+    (rounds c.loop-round._round c.requires.0, c.loop-round.invariant c.requires.0 c.requires.1)
 
 pub loop-round-preserved : goal.loop-round-preserved
 loop-round-preserved c p play =

@@ -5,7 +5,7 @@ use Rattle.ule_seq.proofs.PlayLaws.{advance_fits, can_attempt, courses_count, ha
 use Rattle.ule_seq.proofs.rounds.Player.turn.Goals as goal
 
 pub item_of-requires : goal.item_of-requires
-item_of-requires c = omega (arith, c.requires.worker, courses_count c.args.s.now c.args.self.now c.requires.play.0 c.requires.form c.requires.play.1)
+item_of-requires c = omega (arith, c.requires.worker, courses_count c.args.s.now c.args.self.now c.requires.play.0 c.requires.play.1)
 
 pub returns-in_default-clause-turned : goal.returns-in_default-clause-turned
 returns-in_default-clause-turned c p play =
@@ -17,27 +17,27 @@ returns-in_default-clause-ended c still p play = turn_ended c.args.s.now c.args.
 pub attempt-requires-clause-step : goal.attempt-requires-clause-step
 attempt-requires-clause-step c ready =
     can_attempt c.args.s.now c.args.self.now c.requires.play.0 c.args.worker c.in-Event.event
-    (turn_found c.args.s.now c.args.self.now c.requires.play.0 c.args.worker _ c.requires.form c.requires.play.1 (c.item_of.ensures ∙ c.in-Some.is ∙ ap Some c.in-Event.is)) ready
+    (turn_found c.args.s.now c.args.self.now c.requires.play.0 c.args.worker _ c.requires.play.1 (c.item_of.ensures ∙ c.in-Some.is ∙ ap Some c.in-Event.is)) ready
 
 pub attempt-requires-clause-room : goal.attempt-requires-clause-room
 attempt-requires-clause-room c =
     has_room c.args.s.now c.args.self.now c.requires.play.0 c.args.worker c.in-Event.event
-    (turn_found c.args.s.now c.args.self.now c.requires.play.0 c.args.worker _ c.requires.form c.requires.play.1 (c.item_of.ensures ∙ c.in-Some.is ∙ ap Some c.in-Event.is))
+    (turn_found c.args.s.now c.args.self.now c.requires.play.0 c.args.worker _ c.requires.play.1 (c.item_of.ensures ∙ c.in-Some.is ∙ ap Some c.in-Event.is))
 
 pub advance-requires-clause-worker : goal.advance-requires-clause-worker
-advance-requires-clause-worker c = omega (arith, c.requires.worker, courses_count c.args.s.now c.args.self.now c.requires.play.0 c.requires.form c.requires.play.1)
+advance-requires-clause-worker c = omega (arith, c.requires.worker, courses_count c.args.s.now c.args.self.now c.requires.play.0 c.requires.play.1)
 
 pub advance-requires-clause-fits : goal.advance-requires-clause-fits
 advance-requires-clause-fits c =
     advance_fits c.args.s.now c.args.self.now c.requires.play.0 c.args.worker c.in-Advance.ticks
-    (turn_found c.args.s.now c.args.self.now c.requires.play.0 c.args.worker _ c.requires.form c.requires.play.1 (c.item_of.ensures ∙ c.in-Some.is ∙ ap Some c.in-Advance.is))
+    (turn_found c.args.s.now c.args.self.now c.requires.play.0 c.args.worker _ c.requires.play.1 (c.item_of.ensures ∙ c.in-Some.is ∙ ap Some c.in-Advance.is))
 
 pub returns-in-Event-clause-turned : goal.returns-in-Event-clause-turned
 returns-in-Event-clause-turned c p play =
     turn_attempted c.args.s.now c.args.self.now c.attempt.new.self p c.args.worker c.in-Event.event
-    (turn_found c.args.s.now c.args.self.now p c.args.worker _ c.requires.form play (c.item_of.ensures ∙ c.in-Some.is ∙ ap Some c.in-Event.is)) c.attempt.ensures
+    (turn_found c.args.s.now c.args.self.now p c.args.worker _ play (c.item_of.ensures ∙ c.in-Some.is ∙ ap Some c.in-Event.is)) c.attempt.ensures
 
 pub returns-in-Advance-clause-turned : goal.returns-in-Advance-clause-turned
 returns-in-Advance-clause-turned c p play =
     turn_advanced c.args.s.now c.args.self.now c.advance.new.self p c.args.worker c.in-Advance.ticks
-    (turn_found c.args.s.now c.args.self.now p c.args.worker _ c.requires.form play (c.item_of.ensures ∙ c.in-Some.is ∙ ap Some c.in-Advance.is)) c.advance.ensures
+    (turn_found c.args.s.now c.args.self.now p c.args.worker _ play (c.item_of.ensures ∙ c.in-Some.is ∙ ap Some c.in-Advance.is)) c.advance.ensures
