@@ -22,7 +22,7 @@ use Rattle.ule_types.specs.declared.event.Event.{Event}
 use Rattle.ule_types.specs.declared.event.Event.TheVariants.{Tick, Switch, Drop, Bed, Wake, Look, Land, Move, Lend, Unlend, Renice, Hatch, Fork, Return, Exit, Bury, Inherit}
 use Rattle.ule_types.specs.declared.event.Reply.{Reply}
 use Rattle.ule_types.specs.declared.event.Reply.TheVariants.{Bedded, Buried, Hatched, Returned, Unmarked}
-use Rattle.ule_model.specs.Action.{Action, answers, parts_done}
+use Rattle.ule_model.specs.Action.{Action, action_done, answers, parts_done}
 use Rattle.ule_model.specs.Actions.{Seen, action_of, change_action, change_action_at, fork_action, give_way_action, go_action, land_action, leave_action, note_action, requeue_action, tick_action, unborn_action, wake_action, wake_action_at}
 use Rattle.ule_model.specs.ActionStep.{named_by, named_held, on_chain, on_limbo, on_queue, seen_in, seen_off, seen_on}
 use Rattle.ule_model.specs.ActionValue.{HandAndCpu, HandAndSlots, action_in_slots, action_on_cpu, parts_in_slots, parts_on_cpu}
@@ -35,11 +35,11 @@ use Rattle.ule_model.specs.LockConditions.{IsOnCpu}
 use Rattle.ule_model.specs.LockValue.{LockValue, chain, found_in, limbo, nothing, queue}
 use Rattle.ule_model.specs.Places.{is_hand_of, is_number, is_under, lock_of}
 use Rattle.ule_model.specs.Actions.{unborn_answer}
-use Rattle.ule_model.specs.Step.{Stepped, lock_step, step, step_under_locks}
+use Rattle.ule_model.specs.Step.{Stepped, lock_step}
 use Rattle.ule_model.specs.Steal.{given_in}
 use Rattle.ule_model.specs.Switch.{is_preemption, is_unasked}
 use Rattle.ule_model.specs.WellMade.{IsWellMade, IsWellMadeWorld}
-use Rattle.ule_model.specs.World.{Member, Side, World, current_of, fresh_line, side_of, standing_of, thread_of, with_side}
+use Rattle.ule_model.specs.World.{Member, Side, World, current_of, fresh_line, on_side, side_of, standing_of, thread_of, with_side}
 use Rattle.ule_model.specs.WorldValue.{IsAsleepOn, IsChainOf, IsLimboOf, IsQueueOf, Shows, StandsUnder, WorldValue, held_by}
 use Rattle.ule_members.proofs.ActionFits.{IsUnder, event_fits, sought_under}
 use Rattle.ule_members.proofs.Membership.{has_thread_of}
@@ -53,7 +53,7 @@ use Rattle.ule_laws.proofs.GivenStands.{given_stands}
 use Rattle.ule_laws.proofs.PartStands.{ArePartsAlike, FollowsHere, hand_is, parts_alike}
 use Rattle.ule_laws.proofs.SeekLaws.{found_stands}
 use Rattle.ule_laws.proofs.SlotStands.{AreAlikeUnder, AreHeldUnder, AreSlots, FollowsUnder, GoesUnder, IsStill, chain_slots, is_chain, is_limbo, limbo_slots, parts_under_alike}
-use Rattle.ule_laws.proofs.StepFrom.{chain_at, empty_hand, limbo_at, queue_at}
+use Rattle.ule_laws.proofs.StepFrom.{chain_at, empty_hand, limbo_at, queue_at, two_locks}
 use Rattle.ule_laws.proofs.WorldLaws.{IsMadeFor, at_some}
 
 -- ---- what is seen on a CPU
@@ -116,16 +116,6 @@ module _ (v : WorldValue) (w : World) (worker now : ℕ) (shows : Shows v w) whe
   world_made : IsWellMadeWorld w
   world_made = record { members = shows.made; indexes = shows.indexes }
 
-  -- what an event makes of the value under lock l and of the hand is what its action makes of the world there
-  abbrev pub IsMadeBy : Event → ℕ → LockValue → Type 0
-  IsMadeBy e l value = IsMadeFor (step w worker e now).0 worker l (step w worker e now).1 (lock_step v.settings worker e now (held_by v worker) value)
-
-  -- what is made of the value under lock l and of the hand is what the parts of an event's action make of the side
-  abbrev IsGivenBy : Event → ℕ → Stepped → Type 0
-  IsGivenBy e l made =
-      let done = parts_done l now (action_of e (seen_on l worker now (named_by w e) (side_of l w))).parts (side_of l w, None) in
-      IsMadeFor (with_side l done.0 w) worker l ((action_of e (seen_on l worker now (named_by w e) (side_of l w))).reply done.1) made
-
   -- the event names on the value and the hand whom it names in the world
   abbrev pub NamesAlike : Event → LockValue → Type 0
   NamesAlike e value = named_held (locking e) (handling e) worker value (held_by v worker) ≡ option_map standing_of (named_by w e)
@@ -133,6 +123,18 @@ module _ (v : WorldValue) (w : World) (worker now : ℕ) (shows : Shows v w) whe
   -- the action of an event as the world shows it, under lock l
   abbrev pub action_at : Event → ℕ → Action
   action_at e l = action_of e (seen_on l worker now (named_by w e) (side_of l w))
+
+  -- the world after it, and the reply
+  abbrev under_lock : Event → ℕ → World × Reply
+  under_lock e l = on_side l (action_done l now (action_at e l)) w
+
+  -- this was made of the value under lock l and of the hand, as the world has it then
+  abbrev IsGivenBy : Event → ℕ → Stepped → Type 0
+  IsGivenBy e l made = IsMadeFor (under_lock e l).0 worker l (under_lock e l).1 made
+
+  -- what an event makes of the value under lock l and of the hand is what its action makes of the world there
+  abbrev pub IsMadeBy : Event → ℕ → LockValue → Type 0
+  IsMadeBy e l value = IsGivenBy e l (lock_step v.settings worker e now (held_by v worker) value)
 
   -- that the worker's hand is empty
   abbrev pub IsEmpty : Type 0
@@ -158,10 +160,9 @@ module _ (v : WorldValue) (w : World) (worker now : ℕ) (shows : Shows v w) whe
   made_on_cpu : (e : Event) (c : ℕ) (u : CpuValue) → IsPossible w worker e now → locks_of w e ≡ c ∷ [] → IsQueueOf w c u → NamesAlike e (queue u) →
       FollowsHere c worker (Unit {0}) IsEmpty (action_at e c).parts → IsMadeBy e c (queue u)
   made_on_cpu e c u possible locks is names here =
-      subst (λ (ls : List ℕ). IsMadeFor (step_under_locks ls w worker e now).0 worker c (step_under_locks ls w worker e now).1 (lock_step v.settings worker e now (held_by v worker) (queue u))) (sym locks)
-      (subst (λ (named : Option Standing). IsGivenBy e c (on_queue (action_on_cpu now (action_of e (seen_in worker now named u)) h))) (sym names)
+      subst (λ (named : Option Standing). IsGivenBy e c (on_queue (action_on_cpu now (action_of e (seen_in worker now named u)) h))) (sym names)
       (subst (λ (x : Seen). IsGivenBy e c (on_queue (action_on_cpu now (action_of e x) h))) (sym (seen_alike worker now (named_by w e) u s is.stands shows.made ∙ ap (λ (x : ℕ). seen_on x worker now (named_by w e) s) is.cpu))
-      (record { value = queue_stands w c u both_made.0.value meant.0 is both.held.stands both.cpu settings; hand = both.held.hand tt; answer = ap a.reply both.answer })))
+      (record { value = queue_stands w c u both_made.0.value meant.0 is both.held.stands both.cpu settings; hand = both.held.hand tt; answer = ap a.reply both.answer }))
     where
       s : Side
       s = side_of c w
@@ -194,18 +195,14 @@ module _ (v : WorldValue) (w : World) (worker now : ℕ) (shows : Shows v w) whe
 
     -- is what its action makes of the side
     pub record IsMadeOfSlots (e : Event) (made : HandAndSlots × Reply) : Type 0 where
-      pub held : AreHeldUnder l worker P made.0 (step w worker e now).0.members
-      pub answer : made.1 ≡ (step w worker e now).1
+      pub held : AreHeldUnder l worker P made.0 (under_lock e l).0.members
+      pub answer : made.1 ≡ (under_lock e l).1
 
     pub made_in_slots : (e : Event) → IsPossible w worker e now → locks_of w e ≡ l ∷ [] → action_of e (seen_off worker now w.settings (option_map standing_of (named_by w e))) ≡ action_at e l →
         FollowsUnder l worker P IsEmpty (action_at e l).parts → IsMadeOfSlots e (made_of_slots e (option_map standing_of (named_by w e)))
     made_in_slots e possible locks same here =
         subst (λ (x : Settings). IsMadeOfSlots e (action_in_slots v.settings now (action_of e (seen_off worker now x (option_map standing_of (named_by w e)))) h)) (sym shows.settings)
-        (subst (λ (x : Action). IsMadeOfSlots e (action_in_slots v.settings now x h)) (sym same) (record {
-          held =
-              subst (λ (ls : List ℕ). AreHeldUnder l worker P (parts_in_slots v.settings now a.parts h) (step_under_locks ls w worker e now).0.members) (sym locks) both.held;
-          answer = ap a.reply both.answer ∙ sym (ap (λ (ls : List ℕ). (step_under_locks ls w worker e now).1) locks);
-        }))
+        (subst (λ (x : Action). IsMadeOfSlots e (action_in_slots v.settings now x h)) (sym same) (record { held = both.held; answer = ap a.reply both.answer }))
       where
         a : Action
         a = action_at e l
@@ -222,10 +219,10 @@ module _ (v : WorldValue) (w : World) (worker now : ℕ) (shows : Shows v w) whe
   made_on_chain : (e : Event) (l : ℕ) (c : ChainValue) → IsPossible w worker e now → locks_of w e ≡ l ∷ [] → IsChainOf w l c → NamesAlike e (chain c) →
       action_of e (seen_off worker now w.settings (option_map standing_of (named_by w e))) ≡ action_at e l → FollowsUnder l worker (IsAsleepOn c.number) IsEmpty (action_at e l).parts → IsMadeBy e l (chain c)
   made_on_chain e l c possible locks is names same here =
-      subst (λ (named : Option Standing). IsMadeFor (step w worker e now).0 worker l (step w worker e now).1 (on_chain c (action_in_slots v.settings now (action_of e (seen_off worker now v.settings named)) (record { hand = held_by v worker; slots = c.slots })))) (sym names)
+      subst (λ (named : Option Standing). IsGivenBy e l (on_chain c (action_in_slots v.settings now (action_of e (seen_off worker now v.settings named)) (record { hand = held_by v worker; slots = c.slots })))) (sym names)
       (let made = made_in_slots l (IsAsleepOn c.number) (λ x r so. record { channel = so.channel; place = so.place; chain = so.chain }) c.slots
       (chain_slots w l c is) e possible locks same here in record {
-        value = is_chain w (step w worker e now).0 l c _ is made.held.slots;
+        value = is_chain w (under_lock e l).0 l c _ is made.held.slots;
         hand = made.held.hand;
         answer = made.answer;
       })
@@ -234,9 +231,9 @@ module _ (v : WorldValue) (w : World) (worker now : ℕ) (shows : Shows v w) whe
   made_in_limbo : (e : Event) (l : ℕ) (c : LimboValue) → IsPossible w worker e now → locks_of w e ≡ l ∷ [] → IsLimboOf w l c → NamesAlike e (limbo c) →
       action_of e (seen_off worker now w.settings (option_map standing_of (named_by w e))) ≡ action_at e l → FollowsUnder l worker IsStill IsEmpty (action_at e l).parts → IsMadeBy e l (limbo c)
   made_in_limbo e l c possible locks is names same here =
-      subst (λ (named : Option Standing). IsMadeFor (step w worker e now).0 worker l (step w worker e now).1 (on_limbo c (action_in_slots v.settings now (action_of e (seen_off worker now v.settings named)) (record { hand = held_by v worker; slots = c.slots })))) (sym names)
+      subst (λ (named : Option Standing). IsGivenBy e l (on_limbo c (action_in_slots v.settings now (action_of e (seen_off worker now v.settings named)) (record { hand = held_by v worker; slots = c.slots })))) (sym names)
       (let made = made_in_slots l IsStill (λ x r so. so) c.slots (limbo_slots w l c is) e possible locks same here in record {
-        value = is_limbo w (step w worker e now).0 l c _ is made.held.slots;
+        value = is_limbo w (under_lock e l).0 l c _ is made.held.slots;
         hand = made.held.hand;
         answer = made.answer;
       })
@@ -471,9 +468,6 @@ module _ (v : WorldValue) (w : World) (worker now : ℕ) (shows : Shows v w) whe
       (fork_here c t (seen_on c worker now (thread_of t w.members) (side_of c w)) (current_record c w.members) (option_map standing_of (thread_of t w.members)) refl refl)
   action_made (Look c) l possible locks value stands = of_cpu (Look c) c l possible (ltb-true c (length w.lines) possible.cpus) refl locks value stands (λ u. refl) tt
   action_made (Move a b why) l possible locks value stands = absurd (two_locks (min a b) (max a b) l locks)
-    where
-      two_locks : (a b l : ℕ) → a ∷ b ∷ [] ≡ l ∷ [] → ⊥
-      two_locks a b l is = cc
   action_made (Bed t channel) l possible locks value stands =
       subst (λ (k : ℕ). StandsUnder w k value → IsMadeBy (Bed t channel) k value) (same_lock (16 + channel % 8) l locks)
       (λ stands. let q = chain_at w channel value shows.cpus stands in

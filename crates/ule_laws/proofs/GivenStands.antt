@@ -1,56 +1,30 @@
 -- The thread that a CPU's value gives to another CPU is the one that the side gives which the value stands for.
-use Rattle.std.proofs.Common.{◌≡◌, ℕ, ◌<◌, Bool, true, false, ◌&&◌, ◌||◌, List, [], ◌∷◌, filter, slice_get, Option, Some, None, if◌then◌else◌, option_and_then, refl, sym, ◌∙◌, ap, subst, arith}
+use Rattle.std.proofs.Common.{◌≡◌, ℕ, ◌<◌, Bool, true, false, ◌&&◌, ◌||◌, List, [], ◌∷◌, Option, Some, None, if◌then◌else◌, option_and_then, refl, sym, ◌∙◌, ap, subst, arith}
 use Rattle.std.proofs.Math.Bool.{or-false}
 use Rattle.std.proofs.Math.Path.{fun_ext}
 use Rattle.std.specs.Prelude.{is_none}
-use Rattle.std.specs.List.{AllByRecursion, concat, list_any}
+use Rattle.std.specs.List.{AllByRecursion, list_any}
 use Rattle.std.specs.Option.{option_map}
-use Rattle.std.proofs.lemmas.Bool.{eqb-true, or_right, true≢false}
+use Rattle.std.proofs.lemmas.Bool.{eq-eqb, eqb-true}
 use Rattle.std.proofs.lemmas.List.{ext_get_or}
 use Rattle.std.proofs.lemmas.List.FromFn.{get_or-map-range_with_len, length-map-range_with_len}
-use Rattle.std.proofs.lemmas.Option.{none-some, same_Some}
 use Rattle.ule_prio.specs.declared.kind.Kind.{Kind}
 use Rattle.ule_prio.specs.declared.kind.Kind.TheVariants.{Real, Batch, Idle}
-use Rattle.ule_runq.specs.Runq.{threads_from}
 use Rattle.ule_model.specs.CpuNumbers.{is_movable, is_unbound}
-use Rattle.ule_model.specs.CpuValue.{CpuValue, StandsFor, first_found, thread_on}
+use Rattle.ule_model.specs.CpuValue.{CpuValue, StandsFor, thread_on}
 use Rattle.ule_model.specs.LockValue.{found_on}
-use Rattle.ule_model.specs.Places.{runs_on, waits_on}
+use Rattle.ule_model.specs.Places.{is_on, waits_on}
 use Rattle.ule_model.specs.Shows.{ShowsQueue, bucket_ids}
-use Rattle.ule_model.specs.Steal.{buckets_of, calendar_pick, first_movable, given_by, given_in, is_movable_on, plain_pick, queues_pick, stolen_in, with_first_last}
+use Rattle.ule_model.specs.Steal.{buckets_of, given_by, given_in, is_movable_on, queues_pick, stolen_in}
 use Rattle.ule_model.specs.WellMade.{AllApart, IsWellMade}
 use Rattle.ule_model.specs.World.{Member, Side, is_numbered, standing_of, thread_of}
-use Rattle.ule_members.proofs.Membership.{has_thread_of}
-use Rattle.ule_members.proofs.Threads.{find_nowhere, none_passes, thread_on_within}
+use Rattle.ule_members.proofs.Given.{given_queued}
+use Rattle.ule_members.proofs.CalendarPlaces.{made_finds}
+use Rattle.ule_members.proofs.PlaceFinds.{thread_at_none}
+use Rattle.ule_members.proofs.Threads.{find_nowhere, thread_on_within}
 use Rattle.ule_members.proofs.Within.{Lacks, lacks_from_apart, within_thread}
-use Rattle.ule_laws.proofs.CpuNumbers.{found_where, lacks_where, queued_table, thread_where}
+use Rattle.ule_laws.proofs.CpuNumbers.{lacks_where, queued_table, thread_where}
 use Rattle.ule_laws.proofs.SeekLaws.{cpu_finds}
-
--- ---- what the steal rule gives is movable
-
--- the first movable thread of a line is movable
-first_passes : (movable : ℕ → Bool) (line : List ℕ) (t : ℕ) → first_movable movable line ≡ Some t → movable t ≡ true
-first_passes movable [] t found = absurd (none-some t found)
-first_passes movable (u ∷ line) t found = step (movable u) refl found (first_passes movable line t)
-  where
-    step : (d : Bool) → movable u ≡ d → slice_get (if d then u ∷ filter movable line else filter movable line) 0 ≡ Some t →
-        (first_movable movable line ≡ Some t → movable t ≡ true) → movable t ≡ true
-    step true is found rest = ap movable (sym (same_Some u t found)) ∙ is
-    step false is found rest = rest found
-
--- the first of two that there is passes where both do
-either_passes : (movable : ℕ → Bool) (t : ℕ) (a b : Option ℕ) → (a ≡ Some t → movable t ≡ true) → (b ≡ Some t → movable t ≡ true) →
-    first_found a b ≡ Some t → movable t ≡ true
-either_passes movable t None b one other found = other found
-either_passes movable t (Some u) b one other found = one found
-
--- three queues give a movable thread
-pub pick_is_movable : (movable : ℕ → Bool) (ridx : ℕ) (real batch idle : List (List ℕ)) (t : ℕ) → queues_pick movable ridx real batch idle ≡ Some t → movable t ≡ true
-pick_is_movable movable ridx real batch idle t =
-    either_passes movable t (plain_pick movable real) (first_found (calendar_pick movable batch ridx) (plain_pick movable idle))
-    (first_passes movable (concat real) t)
-    (either_passes movable t (calendar_pick movable batch ridx) (plain_pick movable idle)
-    (first_passes movable (with_first_last (threads_from batch ridx)) t) (first_passes movable (concat idle) t))
 
 -- ---- the lists
 
@@ -94,43 +68,6 @@ pub movable_thread_stands : (v : CpuValue) (s : Side) → StandsFor v s → IsWe
 movable_thread_stands v s stands made t =
     ap is_unbound (queued_table v s stands made t) ∙ unbound_where (λ m. waits_on v.cpu m.place) t s.members made.apart
 
--- a movable thread waits on its CPU
-movable_waits : (c t : ℕ) (m : Member) (ms : List Member) → IsWellMade ms → is_movable_on c ms t ≡ true → thread_of t ms ≡ Some m → waits_on c m.place ≡ true
-movable_waits c t m ms made movable found = at (waits_on c m.place) refl
-  where
-    waits : Member → Bool
-    waits n = waits_on c n.place
-
-    unbound : is_unbound (option_map (λ n. n.thread) (if waits m then Some m else None)) ≡ true
-    unbound =
-        ap (λ o. is_unbound (option_map (λ (n : Member). n.thread) o)) (sym (found_where waits t m ms (within_thread t ms m made found))) ∙
-        unbound_where waits t ms made.apart ∙ movable
-
-    at : (d : Bool) → waits m ≡ d → d ≡ true
-    at true is = refl
-    at false is = ap (λ d. is_unbound (option_map (λ (n : Member). n.thread) (if d then Some m else None))) (sym is) ∙ unbound
-
--- a movable thread is there
-movable_there : (c t : ℕ) (ms : List Member) → AllApart ms → is_movable_on c ms t ≡ true → thread_of t ms ≡ None → ⊥
-movable_there c t ms apart movable none =
-    true≢false (
-    sym (unbound_where waits t ms apart ∙ movable) ∙
-    ap (λ o. is_unbound (option_map (λ (m : Member). m.thread) o))
-    (find_nowhere (λ m. is_numbered t m && waits m) ms (lacks_where waits t ms (none_passes (is_numbered t) ms none))))
-  where
-    waits : Member → Bool
-    waits m = waits_on c m.place
-
--- a movable thread is found on its CPU
-movable_on : (c t : ℕ) (ms : List Member) → IsWellMade ms → is_movable_on c ms t ≡ true → thread_on c t ms ≡ thread_of t ms
-movable_on c t ms made movable = split (thread_of t ms) refl
-  where
-    split : (o : Option Member) → thread_of t ms ≡ o → thread_on c t ms ≡ o
-    split None none = absurd (movable_there c t ms made.apart movable none)
-    split (Some m) found =
-        thread_on_within c t m ms (within_thread t ms m made found) ∙
-        ap (λ d. if d then Some m else None) (or_right (runs_on c m.place) (waits_on c m.place) (movable_waits c t m ms made movable found))
-
 -- ---- the thread
 
 -- the thread that is given
@@ -151,24 +88,15 @@ given_stands v s stands made = ap (option_and_then (found_on v)) picks ∙ split
         ap (λ q. pick s.line.ridx (of_side Real) q v.idle) (lists_stand v.batch v.cpu Batch s.members (stands.queues Batch)) ∙
         ap (λ q. pick s.line.ridx (of_side Real) (of_side Batch) q) (lists_stand v.idle v.cpu Idle s.members (stands.queues Idle))
 
+    -- the thread of a number that is picked is on the CPU
+    there : (t : ℕ) (o : Option Member) → pick s.line.ridx (of_side Real) (of_side Batch) (of_side Idle) ≡ Some t → thread_of t s.members ≡ o → thread_on v.cpu t s.members ≡ o
+    there t None picked none = thread_at_none (is_on v.cpu) t s.members none
+    there t (Some m) picked found =
+        let queued = given_queued v.cpu s m (made_finds s.members made) (ap (option_and_then (λ u. thread_of u s.members)) picked ∙ found) in
+        thread_on_within v.cpu t m s.members (within_thread t s.members m made found) ∙
+        ap (λ d. if d then Some m else None) (ap (is_on v.cpu) queued.place_is ∙ eq-eqb v.cpu v.cpu refl)
+
     split : (o : Option ℕ) → pick s.line.ridx (of_side Real) (of_side Batch) (of_side Idle) ≡ o →
         option_and_then (found_on v) o ≡ option_map standing_of (option_and_then (λ t. thread_of t s.members) o)
     split None none = refl
-    split (Some t) given =
-        cpu_finds v s t stands made ∙
-        ap (option_map standing_of) (movable_on v.cpu t s.members made (pick_is_movable (is_movable_on v.cpu s.members) s.line.ridx (of_side Real) (of_side Batch) (of_side Idle) t given))
-
--- it is a thread of the side that waits on the CPU
-pub given_waits : (c : ℕ) (s : Side) (m : Member) → IsWellMade s.members → given_by c s ≡ Some m → (thread_of m.thread.id s.members ≡ Some m) × (waits_on c m.place ≡ true)
-given_waits c s m made given = split (queues_pick (is_movable_on c s.members) s.line.ridx (of_side Real) (of_side Batch) (of_side Idle)) refl given
-  where
-    of_side : Kind → List (List ℕ)
-    of_side k = buckets_of c k s.members
-
-    split : (o : Option ℕ) → queues_pick (is_movable_on c s.members) s.line.ridx (of_side Real) (of_side Batch) (of_side Idle) ≡ o →
-        option_and_then (λ t. thread_of t s.members) o ≡ Some m → (thread_of m.thread.id s.members ≡ Some m) × (waits_on c m.place ≡ true)
-    split None none found = absurd (none-some m found)
-    split (Some t) pick found = (
-      ap (λ u. thread_of u s.members) (has_thread_of t m s.members found).1 ∙ found,
-      movable_waits c t m s.members made (pick_is_movable (is_movable_on c s.members) s.line.ridx (of_side Real) (of_side Batch) (of_side Idle) t pick) found,
-    )
+    split (Some t) picked = cpu_finds v s t stands made ∙ ap (option_map standing_of) (there t (thread_of t s.members) picked refl)

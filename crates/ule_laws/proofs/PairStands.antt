@@ -1,35 +1,32 @@
 -- A move on the values of two CPUs and on the worker's hand is that move on the world that they stand for. It has two halves, each
 -- under one lock, and the world between them has the thread in the worker's hand.
-use Rattle.std.proofs.Common.{◌≡◌, ◌≢◌, ℕ, ◌<◌, Bool, true, false, List, [], ◌∷◌, length, slice_set, Option, Some, None, if◌then◌else◌, refl, sym, ◌∙◌, ap, subst, arith}
-use Rattle.std.specs.Option.{option_map}
+use Rattle.std.proofs.Common.{◌≡◌, ◌≢◌, ℕ, ◌<◌, List, [], ◌∷◌, length, slice_set, Option, Some, None, refl, sym, ◌∙◌, ap, subst, arith}
 use Rattle.std.proofs.lemmas.List.{length-set, set-set}
 use Rattle.ule_prio.specs.declared.kind.Kind.{Kind}
-use Rattle.ule_score.specs.declared.place.Place.{Place}
 use Rattle.ule_score.specs.declared.place.Place.TheVariants.{Queued, Hand}
 use Rattle.ule_score.specs.declared.record.ThreadRecord.{ThreadRecord}
 use Rattle.ule_types.specs.declared.event.Event.TheVariants.{Look}
 use Rattle.ule_types.specs.declared.event.MoveWhy.{MoveWhy}
 use Rattle.ule_types.specs.declared.event.Reply.TheVariants.{Nothing}
 use Rattle.ule_model.specs.Action.{PairAction, Part, parts_done}
-use Rattle.ule_model.specs.Actions.{Seen, given_action, is_refused, move_action, refused_action}
+use Rattle.ule_model.specs.Actions.{Seen, given_action, move_action, refused_action}
 use Rattle.ule_model.specs.ActionStep.{Stepped, seen_in, seen_on}
 use Rattle.ule_model.specs.ActionValue.{HandAndCpu, parts_on_cpu}
 use Rattle.ule_model.specs.CpuValue.{CpuValue}
 use Rattle.ule_model.specs.LockValue.{LockValue, queue}
-use Rattle.ule_model.specs.Steal.{given_by}
 use Rattle.ule_model.specs.Step.{pair_done, pair_on_cpus}
 use Rattle.ule_model.specs.WellMade.{IsWellMadeWorld}
-use Rattle.ule_model.specs.World.{Member, Side, World, current_of, side_of, standing_of, with_side}
+use Rattle.ule_model.specs.World.{Side, World, current_of, side_of, with_side}
 use Rattle.ule_model.specs.WorldValue.{IsHandOf, IsQueueOf, Shows, WorldValue, held_by, put_back, put_back_pair}
+use Rattle.ule_members.proofs.Given.{each_move, move_sees}
+use Rattle.ule_members.proofs.CalendarPlaces.{made_finds}
 use Rattle.ule_members.proofs.PartDone.{ArePartsDone, Follows, IsKnown, IsReady, Known, StandsAt, known_after_all, parts_follow}
 use Rattle.ule_members.proofs.PartRest.{KeepsSide, parts_kept}
 use Rattle.ule_members.proofs.Reach.{reached_by_hand, reached_by_lock, takes_itself}
 use Rattle.ule_members.proofs.Rest.{index_of, side_indexes, side_leaves}
 use Rattle.ule_laws.proofs.EventStands.{queue_stands, seen_alike}
 use Rattle.ule_laws.proofs.FrameLaws.{touched_frame}
-use Rattle.ule_laws.proofs.GivenStands.{given_waits}
 use Rattle.ule_laws.proofs.PartStands.{ArePartsAlike, FollowsHere, parts_alike}
-use Rattle.ule_laws.proofs.PlaceLaws.{place_from_waits_on}
 use Rattle.ule_laws.proofs.StepFrom.{ShowsWithReply, shown_made}
 use Rattle.ule_laws.proofs.WorldLaws.{IsFrame, other_lock, put_back_shows, under_left}
 
@@ -99,24 +96,24 @@ module _ (v : WorldValue) (w : World) (worker now a b : ℕ) (u x : CpuValue) (s
   abbrev Truth : Known
   Truth = λ t place. StandsAt t place w.members
 
-  -- the world between the halves of an action, and the hand then
+  -- the world between the halves of an action
   abbrev between : PairAction → World
   between action = after_parts a now action.from w
 
-  abbrev hand_between : PairAction → Option ThreadRecord
-  hand_between action = (made_by_parts now action.from (held_by v worker) u).hand
-
   -- both halves of an action have what they need
-  pub record IsPairFit (action : PairAction) : Type 0 where
+  pub record AreHalvesFit (action : PairAction) : Type 0 where
     pub from : Follows w worker (Look a) now a Truth (current_of a w.members ≡ None) action.from
     pub from_here : FollowsHere a worker (Unit {0}) (held_by v worker ≡ None) action.from
     pub to : Follows (between action) worker (Look b) now b (known_after_all action.from Truth) ⊥ action.to
     pub to_here : FollowsHere b worker (Unit {0}) ⊥ action.to
 
   -- so they come to the values of both CPUs and the hand as the world has them then
-  pub pair_shows : (action : PairAction) → IsPairFit action →
+  pub pair_shows : (action : PairAction) → AreHalvesFit action →
       ShowsWithReply (pair_done a b now action w).0 (pair_done a b now action w).1 (put_back_pair a b worker (Some (pair_on_cpus now action (held_by v worker) u x)) v)
-  pair_shows action fit = (subst (λ (hands : List (Option ThreadRecord)). Shows (record { settings = v.settings; values = values; hands = hands }) after) (set-set v.hands worker one.hand two.hand) second, refl)
+  pair_shows action fit = (
+    subst (λ (hands : List (Option ThreadRecord)). Shows (record { settings = v.settings; values = values; hands = hands }) after) (set-set v.hands worker one.hand two.hand) second,
+    refl,
+  )
     where
       one : HandAndCpu
       one = made_by_parts now action.from (held_by v worker) u
@@ -136,7 +133,16 @@ module _ (v : WorldValue) (w : World) (worker now a b : ℕ) (u x : CpuValue) (s
       half : IsHalfMade w worker now a u (held_by v worker) Truth (current_of a w.members ≡ None) (held_by v worker ≡ None) action.from middle one
       half =
           half_made w worker now a u (held_by v worker) Truth (current_of a w.members ≡ None) (held_by v worker ≡ None) action.from
-          (record { made = shown_made v w shows; value = is_a; hand = shows.hands worker; known_is = λ t place is. is; idle_is = λ is. is; empty_is = λ is. is; follows = fit.from; here = fit.from_here })
+          (record {
+            made = shown_made v w shows;
+            value = is_a;
+            hand = shows.hands worker;
+            known_is = λ t place is. is;
+            idle_is = λ is. is;
+            empty_is = λ is. is;
+            follows = fit.from;
+            here = fit.from_here;
+          })
 
       made_one : Stepped
       made_one = record { hand = one.hand; value = queue one.value; reply = Nothing }
@@ -155,7 +161,16 @@ module _ (v : WorldValue) (w : World) (worker now a b : ℕ) (u x : CpuValue) (s
       rest : IsHalfMade middle worker now b x one.hand (known_after_all action.from Truth) ⊥ ⊥ action.to after two
       rest =
           half_made middle worker now b x one.hand (known_after_all action.from Truth) ⊥ ⊥ action.to
-          (record { made = shown_made halfway middle first; value = other; hand = half.hand; known_is = half.known_after; idle_is = λ is. absurd is; empty_is = λ is. absurd is; follows = fit.to; here = fit.to_here })
+          (record {
+            made = shown_made halfway middle first;
+            value = other;
+            hand = half.hand;
+            known_is = half.known_after;
+            idle_is = λ is. absurd is;
+            empty_is = λ is. absurd is;
+            follows = fit.to;
+            here = fit.to_here;
+          })
 
       made_two : Stepped
       made_two = record { hand = two.hand; value = queue two.value; reply = Nothing }
@@ -167,22 +182,15 @@ module _ (v : WorldValue) (w : World) (worker now a b : ℕ) (u x : CpuValue) (s
 
   -- ---- a move
 
-  -- what a move sees of both CPUs
-  abbrev from_seen : Seen
-  from_seen = seen_on a worker now None (side_of a w)
-
-  abbrev to_seen : Seen
-  to_seen = seen_on b worker now None (side_of b w)
-
   -- a move that is refused does nothing
-  refused_fits : IsPairFit (refused_action from_seen to_seen)
+  refused_fits : AreHalvesFit (refused_action (move_sees w worker now a) (move_sees w worker now b))
   refused_fits = record { from = tt; from_here = tt; to = tt; to_here = tt }
 
-  -- a thread that waits on the first CPU goes to the empty hand, and is queued on the second
-  queued_fits : (m : Member) (k : Kind) (l : ℕ) → held_by v worker ≡ None → StandsAt m.thread.id (Queued a k l) w.members →
-      IsPairFit (given_action (Some (record { thread = m.thread; place = Queued a k l })) from_seen to_seen)
-  queued_fits m k l none at =
-      let action = given_action (Some (record { thread = m.thread; place = Queued a k l })) from_seen to_seen in
+  -- a thread that is queued on the first CPU goes to the empty hand, and is queued on the second
+  queued_fits : (r : ThreadRecord) (k : Kind) (l : ℕ) → held_by v worker ≡ None → StandsAt r.id (Queued a k l) w.members →
+      AreHalvesFit (given_action (Some (record { thread = r; place = Queued a k l })) (move_sees w worker now a) (move_sees w worker now b))
+  queued_fits r k l none at =
+      let action = given_action (Some (record { thread = r; place = Queued a k l })) (move_sees w worker now a) (move_sees w worker now b) in
       let left = reached_by_lock w worker (Look a) a (Queued a k l) (takes_itself a) refl in
       let put = reached_by_hand w worker (Look a) (Hand worker) refl in
       let taken = reached_by_hand (between action) worker (Look b) (Hand worker) refl in
@@ -193,39 +201,28 @@ module _ (v : WorldValue) (w : World) (worker now a b : ℕ) (u x : CpuValue) (s
         to_here = (refl, ((tt, refl), (tt, tt)));
       }
 
-  -- the thread that the first CPU gives, if it gives one
-  given_fits : (o : Option Member) → given_by a (side_of a w) ≡ o → held_by v worker ≡ None → IsPairFit (given_action (option_map standing_of o) from_seen to_seen)
-  given_fits None given none = refused_fits
-  given_fits (Some m) given none =
-      let waits = given_waits a (side_of a w) m shows.made given in
-      let place = place_from_waits_on a m.place waits.1 in
-      subst (λ (p : Place). IsPairFit (given_action (Some (record { thread = m.thread; place = p })) from_seen to_seen)) (sym place.1.1)
-      (queued_fits m place.0 place.1.0 none (record { member = m; found = waits.0; place_is = place.1.1 }))
-
-  -- a move from an empty hand
-  move_fits : (why : MoveWhy) → held_by v worker ≡ None → IsPairFit (move_action why from_seen to_seen)
-  move_fits why none = if_refused (is_refused why from_seen to_seen)
-    where
-      if_refused : (d : Bool) → IsPairFit (if d then refused_action from_seen to_seen else given_action from_seen.given from_seen to_seen)
-      if_refused true = refused_fits
-      if_refused false = given_fits (given_by a (side_of a w)) refl none
+  -- every move from an empty hand
+  move_fits : (why : MoveWhy) → held_by v worker ≡ None → AreHalvesFit (move_action why (move_sees w worker now a) (move_sees w worker now b))
+  move_fits why none =
+      each_move w worker now a b AreHalvesFit why (made_finds w.members shows.made) refused_fits (λ r k l other at. queued_fits r k l none at)
 
   -- what it sees on the values is what it sees of the world
-  from_alike : seen_in worker now None u ≡ from_seen
+  from_alike : seen_in worker now None u ≡ move_sees w worker now a
   from_alike = seen_alike worker now None u (side_of a w) is_a.stands shows.made ∙ ap (λ (c : ℕ). seen_on c worker now None (side_of a w)) is_a.cpu
 
-  to_alike : seen_in worker now None x ≡ to_seen
+  to_alike : seen_in worker now None x ≡ move_sees w worker now b
   to_alike = seen_alike worker now None x (side_of b w) is_b.stands shows.made ∙ ap (λ (c : ℕ). seen_on c worker now None (side_of b w)) is_b.cpu
 
   -- a move on the values of both CPUs and the hand, by what it sees there, is the move of the world
   pub move_shows : (why : MoveWhy) → held_by v worker ≡ None →
-      ShowsWithReply (pair_done a b now (move_action why from_seen to_seen) w).0 (pair_done a b now (move_action why from_seen to_seen) w).1
-      (put_back_pair a b worker (Some (pair_on_cpus now (move_action why (seen_in worker now None u) (seen_in worker now None x)) (held_by v worker) u x)) v)
+      let done = pair_done a b now (move_action why (move_sees w worker now a) (move_sees w worker now b)) w in
+      ShowsWithReply done.0 done.1 (put_back_pair a b worker (Some (pair_on_cpus now (move_action why (seen_in worker now None u) (seen_in worker now None x)) (held_by v worker) u x)) v)
   move_shows why none =
       subst (λ (s : Seen). IsMadeOf (move_action why s (seen_in worker now None x))) (sym from_alike)
-      (subst (λ (s : Seen). IsMadeOf (move_action why from_seen s)) (sym to_alike) (pair_shows (move_action why from_seen to_seen) (move_fits why none)))
+      (subst (λ (s : Seen). IsMadeOf (move_action why (move_sees w worker now a) s)) (sym to_alike)
+      (pair_shows (move_action why (move_sees w worker now a) (move_sees w worker now b)) (move_fits why none)))
     where
       IsMadeOf : PairAction → Type 0
       IsMadeOf action =
-          ShowsWithReply (pair_done a b now (move_action why from_seen to_seen) w).0 (pair_done a b now (move_action why from_seen to_seen) w).1
-          (put_back_pair a b worker (Some (pair_on_cpus now action (held_by v worker) u x)) v)
+          let done = pair_done a b now (move_action why (move_sees w worker now a) (move_sees w worker now b)) w in
+          ShowsWithReply done.0 done.1 (put_back_pair a b worker (Some (pair_on_cpus now action (held_by v worker) u x)) v)

@@ -1,10 +1,10 @@
--- Where a worker can perform an event in a world, the scheduler that shows it has what the step under the
--- event's lock needs.
-use Rattle.std.proofs.Common.{◌≡◌, ℕ, ◌+◌, ◌%◌, ◌<◌, ◌≤◌, Bool, true, false, ◌==◌, ◌||◌, List, [], ◌∷◌, length, slice_get, Option, Some, None, IfSome, ⊎_elim, refl, sym, ◌∙◌, ap, subst, arith}
+-- Where a worker can perform an event in a world, the scheduler that shows it has what the step under the event's lock needs, or
+-- that under its two locks.
+use Rattle.std.proofs.Common.{◌≡◌, ◌≢◌, ℕ, ◌+◌, ◌%◌, ◌<◌, ◌≤◌, Bool, true, false, ◌==◌, ◌||◌, List, [], ◌∷◌, length, slice_get, Option, Some, None, IfSome, ⊎_elim, refl, sym, ◌∙◌, ap, subst, arith}
 use Rattle.std.specs.List.{list_any}
 use Rattle.std.specs.Option.{option_map}
 use Rattle.std.proofs.lemmas.Bool.{cond-false, cond-true, eq-eqb, eqb-true, true≢false}
-use Rattle.std.proofs.lemmas.Option.{none-some, same_Some}
+use Rattle.std.proofs.lemmas.Option.{none-some, same_Some, slice_get_within}
 use Rattle.ule_score.specs.Changes.{IsBy}
 use Rattle.ule_score.specs.declared.place.Place.{Place}
 use Rattle.ule_score.specs.declared.record.ThreadRecord.{ThreadRecord}
@@ -12,27 +12,29 @@ use Rattle.ule_sleep.specs.Chain.{standing_in}
 use Rattle.ule_threads.specs.declared.standing.Standing.{Standing}
 use Rattle.ule_types.specs.Commands.{is_among}
 use Rattle.ule_types.specs.declared.event.Event.{Event}
-use Rattle.ule_types.specs.declared.event.Event.TheVariants.{Hatch}
+use Rattle.ule_types.specs.declared.event.Event.TheVariants.{Hatch, Move}
+use Rattle.ule_types.specs.declared.event.MoveWhy.{MoveWhy}
 use Rattle.ule_model.specs.Conditions.{IsByIfReached, IsHandled, IsPossible}
-use Rattle.ule_model.specs.CpuValue.{thread_in, thread_on}
+use Rattle.ule_model.specs.CpuValue.{CpuValue, thread_in, thread_on}
 use Rattle.ule_model.specs.Events.{handling, is_reached, locking, locks_of, sought_by}
 use Rattle.ule_model.specs.Frames.{thread_in_hand, thread_under}
-use Rattle.ule_model.specs.LockConditions.{CanStepAt, HasPlaced, HasSleeper, HasStill}
+use Rattle.ule_model.specs.LockConditions.{CanStepAt, CanStepPair, HasPlaced, HasSleeper, HasStill}
 use Rattle.ule_model.specs.LockValue.{LockValue, chain, limbo, nothing, queue}
 use Rattle.ule_model.specs.Places.{hand_of, is_hand_of, is_number, is_under}
 use Rattle.ule_model.specs.WellMade.{IsWellMade}
 use Rattle.ule_sleep.specs.Limbo.{HasUnborn}
 use Rattle.ule_model.specs.World.{Member, World, side_of}
-use Rattle.ule_model.specs.WorldValue.{CanStep, Shows, StandsUnder, WorldValue, held_by, if_thread, lock_for, standing_of}
+use Rattle.ule_model.specs.WorldValue.{CanStep, IsQueueOf, Shows, StandsUnder, WorldValue, held_by, if_thread, lock_for, standing_of}
 use Rattle.ule_members.proofs.ActionFits.{IsUnder, sought_under}
 use Rattle.ule_members.proofs.Membership.{all_has, has_within}
-use Rattle.ule_members.proofs.Reach.{place_from_hand, takes_itself}
+use Rattle.ule_members.proofs.Reach.{lock_where_on, place_from_hand, takes_itself}
 use Rattle.ule_members.proofs.PlaceFinds.{thread_at_stands, thread_at_within, within_thread_at}
-use Rattle.ule_laws.proofs.SeekLaws.{on_is_under}
+use Rattle.ule_members.proofs.Threads.{thread_of_within, thread_on_stands, within_thread_on}
+use Rattle.ule_laws.proofs.SeekLaws.{on_is_under, one_lock}
 use Rattle.ule_laws.proofs.EventStands.{same_lock}
 use Rattle.ule_laws.proofs.SoughtLaws.{current_numbered, has_placed, has_sleeper, has_still, sought_locks, takes_chain, takes_limbo, takes_queue}
-use Rattle.ule_laws.proofs.StepFrom.{IsAtEvent, slot_of}
-use Rattle.ule_laws.proofs.StepLaws.{HasLock, event_lock, is_pair, pair_unlocked, unborn_stands}
+use Rattle.ule_laws.proofs.StepFrom.{IsAtEvent, empty_hand, slot_of}
+use Rattle.ule_laws.proofs.StepLaws.{AreBoth, HasLock, IsPair, both_there, event_lock, unborn_stands}
 use Rattle.ule_laws.proofs.WorldLaws.{HasValue, if_some, value_at}
 
 -- ---- reach
@@ -135,8 +137,8 @@ pub record IsLockOf (w : World) (e : Event) (l : ℕ) : Type 0 where
 pub lock_is_events : (v : WorldValue) (w : World) (worker : ℕ) (e : Event) (now l : ℕ) → IsAtEvent v w worker e now → lock_for v.values (locking e) ≡ Some l → IsLockOf w e l
 lock_is_events v w worker e now l at lock = ⊎_elim two one (event_lock v w worker e now at)
   where
-    two : is_pair (locking e) ≡ true → IsLockOf w e l
-    two pair = absurd (none-some l (sym (pair_unlocked v.values (locking e) pair) ∙ lock))
+    two : IsPair e → IsLockOf w e l
+    two pair = absurd (none-some l (sym (ap (lock_for v.values) pair.locks) ∙ lock))
 
     one : HasLock v w e → IsLockOf w e l
     one has = subst (IsLockOf w e) (same_Some has.lock l (sym has.lock_is ∙ lock)) (record { within = has.within; locks = has.locks })
@@ -159,4 +161,49 @@ can_step_under v worker e now l can lock =
       value = has.value;
       found = has.found;
       can = can_step_at v can.0 worker e now l has.value at is.locks has.stands;
+    }
+
+-- ---- two locks
+
+-- no thread is on two CPUs
+on_one : (w : World) (a b : ℕ) (u x : CpuValue) → IsWellMade w.members → length w.lines ≤ 16 → a ≢ b → IsQueueOf w a u → IsQueueOf w b x → (t : ℕ) →
+    IfSome (thread_in u t) (λ r. thread_in x t ≡ None)
+on_one w a b u x made few apart is_a is_b t =
+    subst (λ (o : Option ThreadRecord). IfSome o (λ r. thread_in x t ≡ None)) (sym (is_a.stands.threads t)) (at_thread (thread_on u.cpu t w.members) refl)
+  where
+    at_thread : (o : Option Member) → thread_on u.cpu t w.members ≡ o → IfSome (option_map (λ m. m.thread) o) (λ r. thread_in x t ≡ None)
+    at_thread None found = tt
+    at_thread (Some m) found =
+        is_b.stands.threads t ∙ ap (option_map (λ (n : Member). n.thread))
+        (on_is_under x.cpu t w.members (let there = is_b.there in let cpu = is_b.cpu in omega arith) ∙ ap (λ (c : ℕ). thread_under c t w.members) is_b.cpu ∙
+        one_lock w a b t m made (thread_of_within t m w.members (within_thread_on u.cpu t m w.members made found))
+        (lock_where_on u.cpu m.place (thread_on_stands u.cpu t m w.members found) ∙ ap (λ (c : ℕ). Some c) is_a.cpu) (λ same. apart (sym same)))
+
+-- what a scheduler has where a worker can perform a move
+pub record CanStepBoth (v : WorldValue) (worker a b : ℕ) : Type 0 where
+  pub apart : a ≢ b
+  pub within_from : a < length v.values
+  pub within_to : b < length v.values
+  pub worker_is : worker < length v.hands
+  pub from : CpuValue
+  pub to : CpuValue
+  pub found_from : slice_get v.values a ≡ Some (queue from)
+  pub found_to : slice_get v.values b ≡ Some (queue to)
+  pub can : CanStepPair (queue from) (queue to) (held_by v worker)
+
+pub can_step_both : (v : WorldValue) (worker a b : ℕ) (why : MoveWhy) (now : ℕ) → CanStep v worker (Move a b why) now → CanStepBoth v worker a b
+can_step_both v worker a b why now can =
+    let both : AreBoth v can.0 a b = both_there v can.0 worker a b why now (record { shows = can.1; possible = can.2 }) in record {
+      apart = both.apart;
+      within_from = slice_get_within v.values a (queue both.from) both.found_from;
+      within_to = slice_get_within v.values b (queue both.to) both.found_to;
+      worker_is = subst (λ (i : ℕ). worker < i) (sym can.1.workers) can.2.worker_is;
+      from = both.from;
+      to = both.to;
+      found_from = both.found_from;
+      found_to = both.found_to;
+      can = record {
+        empty = empty_hand can.0 worker (held_by v worker) can.1.made (can.1.hands worker) can.2.hand;
+        apart = on_one can.0 a b both.from both.to can.1.made can.1.cpus both.apart both.is_from both.is_to;
+      };
     }

@@ -2,6 +2,7 @@
 -- hand; and what is known of hands and values where an event is performed.
 use Rattle.std.proofs.Common.{◌≡◌, ℕ, ◌+◌, ◌%◌, ◌<◌, ◌≤◌, true, ◌==◌, List, [], ◌∷◌, length, slice_set, Option, Some, None, IfSome, option_and_then, ⊎_elim, refl, sym, ◌∙◌, ap, subst, arith, mod-lt}
 use Rattle.std.specs.Option.{option_map}
+use Rattle.std.specs.Prelude.{max, min}
 use Rattle.std.proofs.lemmas.Bool.{cases_eq, cases_lt, cond-true, eq-eqb, eqb-true, true≢false}
 use Rattle.std.proofs.lemmas.List.{get_or-set_other, get_or-set_same, set_past}
 use Rattle.std.proofs.lemmas.Option.{none-some}
@@ -13,14 +14,15 @@ use Rattle.ule_types.specs.declared.event.Event.{Event}
 use Rattle.ule_types.specs.declared.event.Reply.{Reply}
 use Rattle.ule_model.specs.Conditions.{HasEmptyHand, IsPossible}
 use Rattle.ule_model.specs.CpuValue.{CpuValue}
-use Rattle.ule_model.specs.Events.{locking, locks_of}
+use Rattle.ule_model.specs.Events.{Locking, lock_numbers, locking, locks_of, place_of, queues}
+use Rattle.ule_model.specs.Events as events
 use Rattle.ule_model.specs.Frames.{thread_in_hand}
 use Rattle.ule_model.specs.LockValue.{LockValue, chain, limbo, nothing, queue}
-use Rattle.ule_model.specs.Step.{Stepped, lock_step, step}
+use Rattle.ule_model.specs.Step.{Stepped, lock_step, step, step_under_locks, step_with}
 use Rattle.ule_model.specs.Places.{hand_of, is_hand_of, is_number, is_under}
 use Rattle.ule_model.specs.WellMade.{IsWellMade, IsWellMadeWorld}
 use Rattle.ule_model.specs.World.{Member, World, thread_of}
-use Rattle.ule_model.specs.WorldValue.{IsChainOf, IsHandOf, IsLimboOf, IsQueueOf, Shows, StandsUnder, WorldValue, held_by, lock_for, put_back, standing_of, value_step, value_step_at}
+use Rattle.ule_model.specs.WorldValue.{IsChainOf, IsHandOf, IsLimboOf, IsQueueOf, Shows, StandsUnder, WorldValue, held_by, lock_for, put_back, standing_of, value_step, value_step_at, value_step_with}
 use Rattle.ule_members.proofs.PlaceFinds.{thread_at_is, thread_at_stands, thread_at_within}
 use Rattle.ule_members.proofs.Within.{within_thread}
 use Rattle.ule_laws.proofs.FrameLaws.{touched_frame}
@@ -109,6 +111,10 @@ take_each P slots t each u =
 
 -- ---- one event
 
+-- two locks aren't one
+pub two_locks : (a b l : ℕ) → a ∷ b ∷ [] ≡ l ∷ [] → ⊥
+two_locks a b l is = cc
+
 -- what is known where an event is performed
 pub record IsAtEvent (v : WorldValue) (w : World) (worker : ℕ) (e : Event) (now : ℕ) : Type 0 where
   pub shows : Shows v w
@@ -132,9 +138,26 @@ ShowsWithReply n reply done = Shows done.0 n × (done.1 ≡ reply)
 abbrev pub IsStepOf : WorldValue → World → ℕ → Event → ℕ → Type 0
 IsStepOf v w worker e now = ShowsWithReply (step w worker e now).0 (step w worker e now).1 (value_step v worker e now)
 
--- what an event makes of its lock's value and the worker's hand is what the world has there
+-- the step of a scheduler under the one lock that it finds
+pub one_lock_found : (v : WorldValue) (worker : ℕ) (e : Event) (now l : ℕ) (k : Locking) → lock_for v.values k ≡ Some l → value_step_with k worker e now v ≡ value_step_at (Some l) worker e now v
+one_lock_found v worker e now l (events.queue c) lock = ap (λ (o : Option ℕ). value_step_at o worker e now v) lock
+one_lock_found v worker e now l (queues a b) lock = absurd (none-some l lock)
+one_lock_found v worker e now l (events.chain channel) lock = ap (λ (o : Option ℕ). value_step_at o worker e now v) lock
+one_lock_found v worker e now l events.limbo lock = ap (λ (o : Option ℕ). value_step_at o worker e now v) lock
+one_lock_found v worker e now l (place_of t) lock = ap (λ (o : Option ℕ). value_step_at o worker e now v) lock
+
+-- the step of a world under one lock is that of the event's action there
+pub one_lock_taken : (w : World) (worker : ℕ) (e : Event) (now l : ℕ) (k : Locking) → lock_numbers w.members k ≡ l ∷ [] → step_with k w worker e now ≡ step_under_locks (l ∷ []) w worker e now
+one_lock_taken w worker e now l (events.queue c) locks = ap (λ (ls : List ℕ). step_under_locks ls w worker e now) locks
+one_lock_taken w worker e now l (queues a b) locks = absurd (two_locks (min a b) (max a b) l locks)
+one_lock_taken w worker e now l (events.chain channel) locks = ap (λ (ls : List ℕ). step_under_locks ls w worker e now) locks
+one_lock_taken w worker e now l events.limbo locks = ap (λ (ls : List ℕ). step_under_locks ls w worker e now) locks
+one_lock_taken w worker e now l (place_of t) locks = ap (λ (ls : List ℕ). step_under_locks ls w worker e now) locks
+
+-- what an event makes of its one lock's value and the worker's hand is what the world has there
 abbrev pub IsStepUnder : WorldValue → World → ℕ → Event → ℕ → ℕ → LockValue → Type 0
-IsStepUnder v w worker e now l value = IsMadeFor (step w worker e now).0 worker l (step w worker e now).1 (lock_step v.settings worker e now (held_by v worker) value)
+IsStepUnder v w worker e now l value =
+    IsMadeFor (step_under_locks (l ∷ []) w worker e now).0 worker l (step_under_locks (l ∷ []) w worker e now).1 (lock_step v.settings worker e now (held_by v worker) value)
 
 -- so the step is that of the world
 pub step_from : (v : WorldValue) (w : World) (worker : ℕ) (e : Event) (now l : ℕ) → IsAtEvent v w worker e now → lock_for v.values (locking e) ≡ Some l →
@@ -144,6 +167,7 @@ step_from v w worker e now l at lock locks within made =
     let reply : Reply = (step w worker e now).1 in
     let has : HasValue v w l = value_at v w l at.shows within in
     let stepped : Stepped = lock_step v.settings worker e now (held_by v worker) has.value in
-    subst (λ (o : Option ℕ). ShowsWithReply n reply (value_step_at o worker e now v)) (sym lock)
+    subst (λ (x : WorldValue × Reply). ShowsWithReply n reply x) (sym (one_lock_found v worker e now l (locking e) lock))
     (subst (λ (o : Option LockValue). ShowsWithReply n reply (put_back l worker (option_map (lock_step v.settings worker e now (held_by v worker)) o) v)) (sym has.found)
-    (put_back_shows v w worker l e n reply stepped at.shows (step_frame v w worker e now at) locks within at.possible.worker_is (made has)))
+    (put_back_shows v w worker l e n reply stepped at.shows (step_frame v w worker e now at) locks within at.possible.worker_is
+    (subst (λ (done : World × Reply). IsMadeFor done.0 worker l done.1 stepped) (sym (one_lock_taken w worker e now l (locking e) locks)) (made has))))

@@ -1,30 +1,29 @@
 -- A step of the whole scheduler is that of the world that it shows: the value under the event's lock and the worker's hand
 -- are what its action makes of them.
-use Rattle.std.proofs.Common.{◌≡◌, ℕ, ◌+◌, ◌%◌, ◌<◌, Bool, true, false, List, [], ◌∷◌, length, Option, Some, None, IsSome, option_and_then, ◌⊎◌, inl, inr, ⊎_elim, refl, sym, ◌∙◌, ap, subst, arith, mod-lt}
-use Rattle.std.specs.Option.{option_to_list}
-use Rattle.std.specs.Prelude.{IfSome}
-use Rattle.std.proofs.lemmas.Bool.{eqb-true, false≢true, ltb-true, true≢false}
-use Rattle.std.proofs.lemmas.List.{set-get_or}
-use Rattle.ule_score.specs.declared.record.CpuLine.{CpuLine}
+use Rattle.std.proofs.Common.{◌≡◌, ◌≢◌, ◌==◌, ◌&&◌, not, ℕ, ◌+◌, ◌%◌, ◌<◌, Bool, true, false, [], ◌∷◌, length, Option, Some, None, IsSome, option_and_then, ◌⊎◌, inl, inr, ⊎_elim, refl, sym, ◌∙◌, ap, subst, arith, mod-lt}
+use Rattle.std.specs.Option.{option_map, option_to_list}
+use Rattle.std.specs.Prelude.{IfSome, nat_lt, slice_get}
+use Rattle.std.proofs.lemmas.Bool.{and_parts, both_ways, eq-eqb, eqb-true, false≢true, ltb-true, true≢false}
 use Rattle.ule_score.specs.declared.place.Place.{Place}
 use Rattle.ule_score.specs.declared.place.Place.TheVariants.{Running, Queued, Asleep, Unborn, Gone, Hand}
 use Rattle.ule_types.specs.declared.event.Event.{Event}
 use Rattle.ule_types.specs.declared.event.Event.TheVariants.{Wake, Move, Lend, Unlend, Renice, Inherit}
-use Rattle.ule_types.specs.declared.event.Reply.{Reply}
-use Rattle.ule_types.specs.declared.event.Reply.TheVariants.{Nothing}
-use Rattle.ule_model.specs.Action.{Action, action_done, answers}
-use Rattle.ule_model.specs.Actions.{Seen, action_of}
-use Rattle.ule_model.specs.ActionStep.{bare_side, named_by, seen_on, seen_under}
+use Rattle.ule_types.specs.declared.event.MoveWhy.{MoveWhy}
 use Rattle.ule_model.specs.Conditions.{HasEmptyHand, IsHandled}
-use Rattle.ule_model.specs.Events.{Locking, are_cpus, chain, empty, handling, holder_of, is_no_others, is_unborn, is_unborn_thread, limbo, lock_numbers, lock_of_thread, locking, locks_of, place_of, queue, queues, sought_in}
+use Rattle.ule_model.specs.Events.{Locking, are_cpus, empty, handling, holder_of, is_no_others, is_unborn, is_unborn_thread, lock_numbers, lock_of_thread, locking, locks_of, place_of, queues, sought_in}
+use Rattle.ule_model.specs.Events as events
 use Rattle.ule_model.specs.Places.{hand_of, lock_of}
-use Rattle.ule_model.specs.World.{Member, World, fresh_line, on_side, side_of, thread_of, with_side}
-use Rattle.ule_model.specs.WorldValue.{Shows, WorldValue, lock_for, lock_with, value_step, value_step_at}
-use Rattle.ule_model.specs.LockValue.{LockValue}
-use Rattle.ule_model.specs.Step.{step, step_under_locks}
+use Rattle.ule_model.specs.World.{Member, World, thread_of}
+use Rattle.ule_model.specs.WorldValue.{IsQueueOf, Shows, WorldValue, held_by, lock_for, lock_with, put_back_pair}
+use Rattle.ule_model.specs.CpuValue.{CpuValue}
+use Rattle.ule_model.specs.LockValue.{LockValue, queue}
+use Rattle.ule_model.specs.Step.{PairStepped, pair_step, step}
+use Rattle.ule_members.proofs.PairDone.{IsMove, move_where}
 use Rattle.ule_laws.proofs.EventStands.{action_made}
+use Rattle.ule_laws.proofs.PairStands.{move_shows}
 use Rattle.ule_laws.proofs.SeekLaws.{lock_found}
-use Rattle.ule_laws.proofs.StepFrom.{IsAtEvent, IsStepOf, ShowsWithReply, step_from}
+use Rattle.ule_laws.proofs.StepFrom.{IsAtEvent, IsStepOf, ShowsWithReply, empty_hand, queue_at, step_from}
+use Rattle.ule_laws.proofs.WorldLaws.{value_at}
 
 -- ---- the thread that an event seeks
 
@@ -94,19 +93,16 @@ pub record HasLock (v : WorldValue) (w : World) (e : Event) : Type 0 where
   pub locks : locks_of w e ≡ lock ∷ []
   pub within : lock < 25
 
--- whether locks are those of two CPUs, and whether a lock is that of a thread's place
-abbrev pub is_pair : Locking → Bool
-is_pair (queues a b) = true
-is_pair _ = false
+-- an event that takes two locks
+pub record IsPair (e : Event) : Type 0 where
+  pub from : ℕ
+  pub to : ℕ
+  pub locks : locking e ≡ queues from to
 
+-- whether a lock is that of a thread's place
 abbrev is_sought : Locking → Bool
 is_sought (place_of t) = true
 is_sought _ = false
-
--- an event that takes two locks does nothing so far
-pair_answers : (e : Event) → is_pair (locking e) ≡ true → (at : Seen) → action_of e at ≡ answers Nothing
-pair_answers (Move a b why) is at = refl
-pair_answers _ is at = absurd (false≢true is)
 
 -- an event that seeks a thread needs an empty hand
 seeks_empty : (e : Event) → is_sought (locking e) ≡ true → handling e ≡ empty
@@ -118,7 +114,7 @@ seeks_empty (Inherit t run) is = refl
 seeks_empty _ is = absurd (false≢true is)
 
 -- an event that a worker can perform takes two locks, or has one
-pub event_lock : (v : WorldValue) (w : World) (worker : ℕ) (e : Event) (now : ℕ) → IsAtEvent v w worker e now → (is_pair (locking e) ≡ true) ⊎ HasLock v w e
+pub event_lock : (v : WorldValue) (w : World) (worker : ℕ) (e : Event) (now : ℕ) → IsAtEvent v w worker e now → IsPair e ⊎ HasLock v w e
 event_lock v w worker e now at = by_locks (locking e) refl
   where
     one : (k : Locking) → locking e ≡ k → (l : ℕ) → lock_for v.values k ≡ Some l → lock_numbers w.members k ≡ l ∷ [] → l < 25 → HasLock v w e
@@ -131,43 +127,74 @@ event_lock v w worker e now at = by_locks (locking e) refl
         (subst (IsHandled w worker) (seeks_empty e (ap is_sought is)) at.possible.hand) in
         one (place_of t) is s.lock s.lock_is s.locks s.within
 
-    by_locks : (k : Locking) → locking e ≡ k → (is_pair (locking e) ≡ true) ⊎ HasLock v w e
-    by_locks (queue c) is =
+    by_locks : (k : Locking) → locking e ≡ k → IsPair e ⊎ HasLock v w e
+    by_locks (events.queue c) is =
         let there = ltb-true c (length w.lines) (sym (ap (are_cpus (length w.lines)) is) ∙ at.possible.cpus) in let few = at.shows.cpus in
-        inr (one (queue c) is c refl refl (omega arith))
-    by_locks (queues a b) is = inl (ap is_pair is)
-    by_locks (chain channel) is = inr (one (chain channel) is (16 + channel % 8) refl refl (let small : channel % 8 < 8 = mod-lt channel (omega arith) in omega arith))
-    by_locks limbo is = inr (one limbo is 24 refl refl (omega arith))
+        inr (one (events.queue c) is c refl refl (omega arith))
+    by_locks (queues a b) is = inl (record { from = a; to = b; locks = is })
+    by_locks (events.chain channel) is = inr (one (events.chain channel) is (16 + channel % 8) refl refl (let small : channel % 8 < 8 = mod-lt channel (omega arith) in omega arith))
+    by_locks events.limbo is = inr (one events.limbo is 24 refl refl (omega arith))
     by_locks (place_of t) is = inr (sought t is)
 
 -- ---- the step
 
--- a side put back as it was leaves the world
-side_put_back : (l : ℕ) (w : World) → with_side l (side_of l w) w ≡ w
-side_put_back l w = ap (λ (lines : List CpuLine). record w { lines = lines }) (set-get_or w.lines l fresh_line)
+-- the values of two CPUs that there are
+pub record AreBoth (v : WorldValue) (w : World) (a b : ℕ) : Type 0 where
+  pub apart : a ≢ b
+  pub from : CpuValue
+  pub to : CpuValue
+  pub found_from : slice_get v.values a ≡ Some (queue from)
+  pub found_to : slice_get v.values b ≡ Some (queue to)
+  pub is_from : IsQueueOf w a from
+  pub is_to : IsQueueOf w b to
 
--- an event that takes two locks leaves a world
-pair_leaves : (w : World) (worker : ℕ) (e : Event) (now : ℕ) → is_pair (locking e) ≡ true → step w worker e now ≡ (w, Nothing)
-pair_leaves w worker e now pair = split (locks_of w e)
+-- where a worker can perform a move, the scheduler has the values of both
+pub both_there : (v : WorldValue) (w : World) (worker a b : ℕ) (why : MoveWhy) (now : ℕ) → IsAtEvent v w worker (Move a b why) now → AreBoth v w a b
+both_there v w worker a b why now at =
+    let first = and_parts (nat_lt a (length w.lines)) (nat_lt b (length w.lines) && not (a == b)) at.possible.cpus in
+    let second = and_parts (nat_lt b (length w.lines)) (not (a == b)) first.1 in
+    let from = there a (ltb-true a (length w.lines) first.0) in
+    let to = there b (ltb-true b (length w.lines) second.0) in record {
+      apart = λ same. both_ways (not (a == b)) (ap not (eq-eqb a b same)) second.1;
+      from = from.0;
+      to = to.0;
+      found_from = from.1;
+      found_to = to.1;
+      is_from = from.2;
+      is_to = to.2;
+    }
   where
-    split : (ls : List ℕ) → step_under_locks ls w worker e now ≡ (w, Nothing)
-    split [] = ap (λ (a : Action). (w, a.reply None)) (pair_answers e pair (seen_on 0 worker now (named_by w e) (bare_side w)))
-    split (l ∷ ls) =
-        ap (λ (a : Action). on_side l (action_done l now a) w) (pair_answers e pair (seen_under w worker now e l)) ∙ ap (λ (x : World). (x, Nothing)) (side_put_back l w)
+    there : (c : ℕ) → c < length w.lines → (u : CpuValue) × (slice_get v.values c ≡ Some (queue u)) × IsQueueOf w c u
+    there c below =
+        let few = at.shows.cpus in
+        let has = value_at v w c at.shows (omega arith) in
+        let q = queue_at w c has.value below at.shows.cpus has.stands in (q.0, has.found ∙ ap (λ (x : LockValue). Some x) q.1, q.2)
 
--- the scheduler finds no lock for two
-pub pair_unlocked : (values : List LockValue) (k : Locking) → is_pair k ≡ true → lock_for values k ≡ None
-pair_unlocked values (queues a b) pair = refl
-pair_unlocked values _ pair = absurd (false≢true pair)
+-- a move
+move_steps : (v : WorldValue) (w : World) (worker a b : ℕ) (why : MoveWhy) (now : ℕ) → IsAtEvent v w worker (Move a b why) now → IsStepOf v w worker (Move a b why) now
+move_steps v w worker a b why now at =
+    subst (λ (o : Option LockValue). IsMoved (option_and_then (λ from. option_map (made from) (slice_get v.values b)) o)) (sym both.found_from)
+    (subst (λ (o : Option LockValue). IsMoved (option_map (made (queue both.from)) o)) (sym both.found_to)
+    (move_shows v w worker now a b both.from both.to at.shows at.possible.worker_is both.apart both.is_from both.is_to why
+    (empty_hand w worker (held_by v worker) at.shows.made (at.shows.hands worker) at.possible.hand)))
+  where
+    both : AreBoth v w a b
+    both = both_there v w worker a b why now at
+
+    made : LockValue → LockValue → PairStepped
+    made from to = pair_step worker (Move a b why) now (held_by v worker) from to
+
+    IsMoved : Option PairStepped → Type 0
+    IsMoved o = ShowsWithReply (step w worker (Move a b why) now).0 (step w worker (Move a b why) now).1 (put_back_pair a b worker o v)
 
 -- a step of the whole scheduler, where an event is performed
 pub step_shows : (v : WorldValue) (w : World) (worker : ℕ) (e : Event) (now : ℕ) → IsAtEvent v w worker e now → IsStepOf v w worker e now
 step_shows v w worker e now at = ⊎_elim two one (event_lock v w worker e now at)
   where
-    two : is_pair (locking e) ≡ true → IsStepOf v w worker e now
+    two : IsPair e → IsStepOf v w worker e now
     two pair =
-        subst (λ (done : World × Reply). ShowsWithReply done.0 done.1 (value_step v worker e now)) (sym (pair_leaves w worker e now pair))
-        (subst (λ (o : Option ℕ). ShowsWithReply w Nothing (value_step_at o worker e now v)) (sym (pair_unlocked v.values (locking e) pair)) (at.shows, refl))
+        let is : IsMove e pair.from pair.to = move_where e pair.from pair.to pair.locks in
+        subst (λ (x : Event). IsAtEvent v w worker x now → IsStepOf v w worker x now) (sym is.event_is) (move_steps v w worker pair.from pair.to is.why now) at
 
     one : HasLock v w e → IsStepOf v w worker e now
     one has =

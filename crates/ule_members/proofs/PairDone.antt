@@ -31,7 +31,7 @@ use Rattle.ule_members.proofs.Rest.{index_of, side_indexes}
 -- ---- the two locks
 
 -- whether locks are those of two CPUs
-abbrev are_two : Locking → Bool
+abbrev pub are_two : Locking → Bool
 are_two (queues a b) = true
 are_two k = false
 

@@ -10,7 +10,7 @@ use Rattle.ule_types.specs.Commands.{is_among}
 use Rattle.ule_types.specs.declared.event.Event.{Event}
 use Rattle.ule_model.specs.Conditions.{IsPossible}
 use Rattle.ule_model.specs.Events.{is_reached, locks_of}
-use Rattle.ule_model.specs.Frames.{AreTouched, IsTouched, left, reached, thread_in_hand, thread_under}
+use Rattle.ule_model.specs.Frames.{AreTouched, IsTouched, left, reached, thread_in_hand}
 use Rattle.ule_model.specs.Places.{hand_of, is_hand_of, is_on, is_under, lock_of}
 use Rattle.ule_model.specs.Step.{step}
 use Rattle.ule_model.specs.WellMade.{IsWellMadeWorld}
@@ -98,24 +98,8 @@ module _ (w : World) (worker : ℕ) (e : Event) (now : ℕ) where
   -- ---- after a step
 
   module _ (made : IsWellMadeWorld w) (possible : IsPossible w worker e now) where
-    -- a filter of threads that sees none within reach keeps after a step what it kept
-    pub step_filter : (p : Member → Bool) → SeesNone p → filter p (step w worker e now).0.members ≡ filter p w.members
-    step_filter p fails = touched_filter p w.members (step w worker e now).0.members fails (step_touches w worker e now made possible)
-
-    -- a look-up of a thread that sees none within reach finds after a step what it found
-    pub step_find : (p : Member → Bool) → SeesNone p → find p (step w worker e now).0.members ≡ find p w.members
-    step_find p fails = touched_find p w.members (step w worker e now).0.members fails (step_touches w worker e now made possible)
-
-    -- a count of threads that sees none within reach counts after a step what it counted
-    pub step_count_by : (p : Member → Bool) → SeesNone p → count_by p (step w worker e now).0.members ≡ count_by p w.members
-    step_count_by p fails = touched_count p w.members (step w worker e now).0.members fails (step_touches w worker e now made possible)
-
-    -- what stands under a lock that the event doesn't take is found there as it was
-    pub step_under : (l t : ℕ) → is_among (locks_of w e) l ≡ false → thread_under l t (step w worker e now).0.members ≡ thread_under l t w.members
-    step_under l t none =
-        step_find (λ m. is_numbered t m && is_under l m.place) (λ m here. and_right (is_numbered t m) (is_under l m.place) (reached_no_other w worker e l m.place none here))
-
     -- what is in another worker's hand is found there as it was
     pub step_in_hand : (h t : ℕ) → h ≢ worker → thread_in_hand h t (step w worker e now).0.members ≡ thread_in_hand h t w.members
     step_in_hand h t other =
-        step_find (λ m. is_numbered t m && is_hand_of h m.place) (λ m here. and_right (is_numbered t m) (is_hand_of h m.place) (reached_no_other_hand w worker e h m.place other here))
+        touched_find (λ m. is_numbered t m && is_hand_of h m.place) w.members (step w worker e now).0.members
+        (λ m here. and_right (is_numbered t m) (is_hand_of h m.place) (reached_no_other_hand w worker e h m.place other here)) (step_touches w worker e now made possible)
