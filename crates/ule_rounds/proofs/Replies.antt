@@ -9,7 +9,7 @@ use Rattle.ule_score.specs.declared.place.Place.{Place}
 use Rattle.ule_score.specs.declared.place.Place.TheVariants.{Running, Queued, Asleep, Unborn, Gone, Hand}
 use Rattle.ule_score.specs.declared.record.ThreadRecord.{ThreadRecord}
 use Rattle.ule_types.specs.Commands.{is_among}
-use Rattle.ule_types.specs.Needs.{handling, sought_by}
+use Rattle.ule_types.specs.Needs.{handling, locking, queues, sought_by}
 use Rattle.ule_types.specs.declared.event.Event.{Event}
 use Rattle.ule_types.specs.declared.event.Event.TheVariants.{Tick, Drop, Wake, Look, Hatch, Exit}
 use Rattle.ule_types.specs.declared.event.Reply.{Reply}
@@ -89,8 +89,11 @@ module _ (ids : List ℕ) (cpus : ℕ) (w : World) (worker now : ℕ) (kept : Ar
   -- a wake takes the thread, if it sleeps
   wake_replies : (t : ℕ) → IsSome (thread_of t w.members) → IsWakeReply cpus now (step w worker (Wake t) now).1
   wake_replies t there =
-      step_reply (IsWakeReply cpus now) w worker (Wake t) now (λ l s settings into. at_thread l s into (thread_of t w.members) refl there)
+      step_reply (IsWakeReply cpus now) w worker (Wake t) now (λ l s settings into. at_thread l s into (thread_of t w.members) refl there) (λ a b is. absurd (one_lock a b is))
     where
+      one_lock : (a b : ℕ) → locking (Wake t) ≡ queues a b → ⊥
+      one_lock a b is = cc
+
       at_thread : (l : ℕ) (s : Side) (into : Option ℕ) (o : Option Member) → thread_of t w.members ≡ o → IsSome o →
           IsWakeReply cpus now ((wake_action t (option_map standing_of o) (seen_on l worker now o s)).reply into)
       at_thread l s into None none there = absurd (false≢true there)
