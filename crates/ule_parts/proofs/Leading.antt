@@ -11,7 +11,7 @@ use Rattle.ule_micro.proofs.Lists.{get_map, map_set, set_same}
 
 module _ {H O G E R C : Type 0} (m : Means H O G E R C) (orders : ℕ → List C) (laws : IsLawful m) (lists : AreOrders m orders) where
   -- hands of: the hands of the workers where they stand
-  abbrev hands_of : List (WorkerCourse O E R) → List H
+  abbrev pub hands_of : List (WorkerCourse O E R) → List H
   hands_of cs = map (λ c. m.hand c.own) cs
 
   -- at the start

@@ -48,7 +48,7 @@ next_at script own (standing.has (todo.Advance k)) = Some (item.Advance k, cours
 next_at script own rests = next_of_rest script own
 
 -- a worker that was told its next item stands where the item is
-told_next : (script : List Command) (own : Own) (told : Option (Reply × ℕ)) → next_in script own told ≡ next_at script (next_of told own).1 (standing_with (todo_of (next_of told own).0))
+pub told_next : (script : List Command) (own : Own) (told : Option (Reply × ℕ)) → next_in script own told ≡ next_at script (next_of told own).1 (standing_with (todo_of (next_of told own).0))
 unfolding next_in
 told_next [] own told = by (next_of told own).0
   where
@@ -136,10 +136,10 @@ module _ (s : Setup) (lists : List (List Command)) where
       by_now = subst (λ n. AllByRecursion (λ y. y.entry.now ≤ starting_time + n) (r.timed ++ last ∷ [])) (sym still) (all-append (λ y. y.entry.now ≤ starting_time + all_advanced cs) r.timed (last ∷ []) r.by_now (past, tt));
     }
 
-  -- a worker at the start
-  first_course : (w : ℕ) (o : Worker) → slice_get (owns_from s 0 s.cpus) w ≡ Some o → IsCourseOf [] w (unbegun o)
+  -- a worker at the start stands where the course of its list does
+  pub first_next : (w : ℕ) (o : Worker) → slice_get (owns_from s 0 s.cpus) w ≡ Some o → next_step (opening_of s lists w) ≡ next_at (drop 0 (list_of lists w)) o.program rests
   unfolding next_in
-  first_course w o at = record { course = opening_of s lists w; performs = stays (opening_of s lists w) 0; next = by (list_of lists w) ∙ ap (λ (p : Worker). next_of_rest (list_of lists w) p.program) (sym is) }
+  first_next w o at = by (list_of lists w) ∙ ap (λ (p : Worker). next_of_rest (list_of lists w) p.program) (sym is)
     where
       is : o ≡ record { program = own_of_setup s w; hand = None }
       is = (first_own s 0 s.cpus w o at).1 ∙ ap (λ u. record { program = own_of_setup s u; hand = None }) (let a : 0 + w ≡ w = omega arith in a)
@@ -147,6 +147,9 @@ module _ (s : Setup) (lists : List (List Command)) where
       by : (script : List Command) → next_in script (own_of_setup s w) None ≡ next_of_rest script (own_of_setup s w)
       by [] = refl
       by (c ∷ cs) = refl
+
+  first_course : (w : ℕ) (o : Worker) → slice_get (owns_from s 0 s.cpus) w ≡ Some o → IsCourseOf [] w (unbegun o)
+  first_course w o at = record { course = opening_of s lists w; performs = stays (opening_of s lists w) 0; next = first_next w o at }
 
   -- each legal play is timed
   pub play_timed : {h : List (Entry Event Reply)} {vs : List LockValue} {cs : List (WorkerCourse Worker Event Reply)} → LegalPlay (sched_means s) (list_of lists) h vs cs → IsTimed h cs

@@ -212,7 +212,7 @@ module _ (s : Setup) where
   }
 
   -- every history in order whose entries were asked for leads to such a world
-  reached_by : Shows (scheduler_with s (values_and_hands_at_start (sched_means s))) (world_at_start s) → (h : List (Entry Event Reply)) (y : ValuesAndHands (Option ThreadRecord) LockValue)
+  pub reached_by : Shows (scheduler_with s (values_and_hands_at_start (sched_means s))) (world_at_start s) → (h : List (Entry Event Reply)) (y : ValuesAndHands (Option ThreadRecord) LockValue)
       → Leads (sched_means s) (values_and_hands_at_start (sched_means s)) h y → IsReached h y
   reached_by shows [] y leads = subst (IsReached []) (sym leads) (at_start shows)
   reached_by shows (x ∷ h) y (z, hand, after, leads, at, asked, follows, rules, is) = subst (IsReached (x ∷ h)) (sym is) (more h z (reached_by shows h z leads) x hand after at asked follows rules)

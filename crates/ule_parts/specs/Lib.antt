@@ -4,3 +4,4 @@ pub mod Scheduler
 pub mod Histories
 pub mod Plays
 pub mod Laws
+pub mod Rounds
