@@ -10,7 +10,7 @@ use Rattle.ule_model.specs.LockValue.{LockValue}
 use Rattle.ule_program.specs.Courses.{next_step}
 use Rattle.ule_model.specs.Start.{starting_time, world_at_start}
 use Rattle.ule_members.proofs.Within.{all_along}
-use Rattle.ule_rounds.proofs.Courses.{time_of}
+use Rattle.ule_courses.proofs.Courses.{time_of}
 use Rattle.ule_micro.specs.declared.entry.Entry.{Entry}
 use Rattle.ule_micro.specs.Courses.{LegalPlay, WorkerCourse, all_advanced}
 use Rattle.ule_micro.specs.Laws.{AreOrders}

@@ -14,5 +14,4 @@ pub mod Leading
 pub mod Times
 pub mod Playing
 pub mod Legality
-pub mod RoundPlays
 pub mod Rows

@@ -26,7 +26,7 @@ use Rattle.ule_laws.proofs.StepFrom.{IsAtEvent, ShowsWithReply, two_locks}
 use Rattle.ule_laws.proofs.StepLaws.{HasLock, IsPair, event_lock, sought_stands, step_shows}
 use Rattle.ule_laws.proofs.WorldLaws.{at_some}
 use Rattle.ule_laws.proofs.WorldSteps.{made_is_step, pair_made_is_step}
-use Rattle.ule_rounds.proofs.Hands.{found_held, held_in_hand}
+use Rattle.ule_courses.proofs.Hands.{found_held, held_in_hand}
 use Rattle.ule_micro.specs.declared.entry.Entry.{Entry}
 use Rattle.ule_micro.specs.declared.entry.HeldLocks.{HeldLocks}
 use Rattle.ule_micro.specs.declared.entry.HeldLocks.TheVariants.{One, Two}

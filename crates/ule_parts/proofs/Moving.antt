@@ -35,7 +35,7 @@ use Rattle.ule_members.proofs.Steps.{in_hand_after, step_moves_word, step_holder
 use Rattle.ule_members.proofs.Touches.{touched_number}
 use Rattle.ule_members.proofs.Within.{Within, within_thread}
 use Rattle.ule_laws.proofs.WorldLaws.{at_some}
-use Rattle.ule_rounds.proofs.Hands.{found_held, held_in_hand}
+use Rattle.ule_courses.proofs.Hands.{found_held, held_in_hand}
 use Rattle.ule_micro.specs.declared.entry.HeldLocks.{HeldLocks}
 use Rattle.ule_micro.specs.declared.entry.HeldLocks.TheVariants.{One, Two}
 use Rattle.ule_micro.specs.declared.word.WordChange.{WordChange}

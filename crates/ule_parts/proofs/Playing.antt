@@ -15,8 +15,8 @@ use Rattle.ule_program.specs.Program.{begun, next_of, own_of_setup}
 use Rattle.ule_program.specs.declared.own.Own.{Own}
 use Rattle.ule_model.specs.Start.{starting_time}
 use Rattle.ule_members.proofs.Within.{all-append, all_along}
-use Rattle.ule_rounds.proofs.Courses.{performs_acted, performs_advanced}
-use Rattle.ule_rounds.proofs.Histories.{entries_of_other, entries_of_own}
+use Rattle.ule_courses.proofs.Courses.{performs_acted, performs_advanced}
+use Rattle.ule_courses.proofs.Histories.{entries_of_other, entries_of_own}
 use Rattle.ule_micro.specs.declared.entry.Entry.{Entry}
 use Rattle.ule_micro.specs.declared.todo.Todo.TheVariants as todo
 use Rattle.ule_micro.specs.Courses.{LegalPlay, WorkerCourse, advanced_by, all_advanced, answered, done_by, ordered, unbegun}

@@ -21,8 +21,8 @@ use Rattle.ule_model.specs.WellMade.{IsWellMadeWorld}
 use Rattle.ule_model.specs.World.{World}
 use Rattle.ule_members.proofs.CalendarStretches.{IsTickOfSome}
 use Rattle.ule_members.proofs.Within.{all-append, all_along}
-use Rattle.ule_rounds.proofs.Hands.{handled_thread}
-use Rattle.ule_rounds.proofs.Histories.{HoldsThroughout-push, HoldsThroughout-start, IsReplayed-push, replayed_push, with_locks_push}
+use Rattle.ule_courses.proofs.Hands.{handled_thread}
+use Rattle.ule_courses.proofs.Histories.{HoldsThroughout-push, HoldsThroughout-start, IsReplayed-push, replayed_push, with_locks_push}
 use Rattle.ule_micro.specs.declared.entry.Entry.{Entry}
 use Rattle.ule_micro.specs.declared.entry.HeldLocks.{HeldLocks}
 use Rattle.ule_micro.specs.Histories.{IsNoEarlierThanShared, Shares}

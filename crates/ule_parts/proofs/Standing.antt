@@ -36,8 +36,8 @@ use Rattle.ule_model.specs.World.{World}
 use Rattle.ule_model.specs.WorldValue.{WorldValue, held_by, if_thread}
 use Rattle.ule_members.proofs.Reach.{takes_itself}
 use Rattle.ule_members.proofs.Setups.{setup_scripts}
-use Rattle.ule_rounds.proofs.Hands.{FindsUnborn, hand_follows}
-use Rattle.ule_rounds.proofs.Replies.{step_replies}
+use Rattle.ule_courses.proofs.Hands.{FindsUnborn, hand_follows}
+use Rattle.ule_courses.proofs.Replies.{step_replies}
 use Rattle.ule_micro.specs.declared.entry.Entry.{Entry}
 use Rattle.ule_micro.specs.declared.entry.HeldLocks.{HeldLocks}
 use Rattle.ule_micro.specs.declared.todo.Todo.TheVariants as todo

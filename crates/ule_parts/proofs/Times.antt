@@ -16,7 +16,7 @@ use Rattle.ule_program.specs.declared.stage.Stage.{Stage}
 use Rattle.ule_program.specs.declared.stage.Stage.TheVariants.{Ended, Advances, Gives}
 use Rattle.ule_program.proofs.Leading.{ended_stage}
 use Rattle.ule_program.proofs.Following.{after_goes_on, begun_adds}
-use Rattle.ule_rounds.proofs.Courses.{IsFound, KeptAtBegin, next_found, time_from, time_of}
+use Rattle.ule_courses.proofs.Courses.{IsFound, KeptAtBegin, next_found, time_from, time_of}
 
 -- what is left to add at a course, where its next item is found
 found : (course after : Course) (i : Item) → next_step course ≡ Some (i, after) → IsFound (λ script own. time_from script own ≡ time_of course) i after

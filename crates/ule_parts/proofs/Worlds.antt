@@ -29,9 +29,9 @@ use Rattle.ule_members.proofs.Starts.{IsFreshRecord, IsLaid, IsPlaceAtStart, sta
 use Rattle.ule_members.proofs.Steps.{step_is_made, step_leaves_rest}
 use Rattle.ule_members.proofs.Unborn.{IsStillUnborn, hatched_by, setup_forks, start_unborn, unborn_stays}
 use Rattle.ule_members.proofs.Within.{all_along}
-use Rattle.ule_rounds.proofs.Bindings.{step_binds}
-use Rattle.ule_rounds.proofs.LastCpus.{step_lasts}
-use Rattle.ule_rounds.proofs.Parents.{numbered_among, start_lasts, start_parents}
+use Rattle.ule_courses.proofs.Bindings.{step_binds}
+use Rattle.ule_courses.proofs.LastCpus.{step_lasts}
+use Rattle.ule_courses.proofs.Parents.{numbered_among, start_lasts, start_parents}
 use Rattle.ule_micro.specs.declared.entry.Entry.{Entry}
 use Rattle.ule_micro.specs.declared.entry.HeldLocks.{HeldLocks}
 use Rattle.ule_micro.specs.Histories.{AreLocksFor, Follows, IsNoEarlierThanShared, Leads, ValuesAndHands, effect_on, own_entries, values_under}

@@ -4,4 +4,3 @@ pub mod Scheduler
 pub mod Histories
 pub mod Plays
 pub mod Laws
-pub mod Rounds

@@ -1,7 +1,6 @@
 ghost use Rattle.ule_parts.specs.Histories.{HistoriesAreOfWorlds};
 ghost use Rattle.ule_parts.specs.Laws.{SchedulerIsLawful, ScriptsAreOrders};
 ghost use Rattle.ule_parts.specs.Plays.{PlaysAreLegal};
-ghost use Rattle.ule_parts.specs.Rounds.{RoundsArePlays};
 
 /// The law of the parts: the scheduler of every setup keeps all laws on which the step model stands,
 /// over every event, under one lock or two. It does nothing when it runs.
@@ -31,11 +30,4 @@ pub fn histories_are_of_worlds()
 /// nothing when it runs.
 pub fn plays_are_legal()
     ensures { PlaysAreLegal }
-{}
-
-/// The law of rounds as plays: for every setup, a legal play of its scheduler's values makes just the
-/// entries of its rounds, and leaves each worker behind the last command of its script. It does
-/// nothing when it runs.
-pub fn rounds_are_plays()
-    ensures { RoundsArePlays }
 {}

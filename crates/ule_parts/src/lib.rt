@@ -3,9 +3,6 @@
 //! parts. Each law is the contract of a function that does nothing.
 #![tactic(auto)]
 
-pub use laws::{
-    histories_are_of_worlds, plays_are_legal, rounds_are_plays, scheduler_is_lawful,
-    scripts_are_orders,
-};
+pub use laws::{histories_are_of_worlds, plays_are_legal, scheduler_is_lawful, scripts_are_orders};
 
 pub mod laws;

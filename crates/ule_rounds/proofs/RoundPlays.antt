@@ -50,7 +50,7 @@ use Rattle.ule_micro.proofs.Numbers.{advanced_at, advanced_set, play_counted}
 use Rattle.ule_parts.specs.Acts.{AreAt, act_on, needs_of, todo_of}
 use Rattle.ule_parts.specs.Histories.{entries_in_order, scheduler_with, world_entry}
 use Rattle.ule_parts.specs.Plays.{list_of}
-use Rattle.ule_parts.specs.Rounds.{RoundsArePlays}
+use Rattle.ule_rounds.specs.RoundPlay.{RoundsArePlays}
 use Rattle.ule_parts.specs.Scheduler.{IsWorldOf, MayAct, sched_means}
 use Rattle.ule_parts.specs.Workers.{AsksFor, Worker, owns_from}
 use Rattle.ule_parts.proofs.Lawful.{is_lawful, start_shown}
@@ -93,7 +93,7 @@ module _ (s : Setup) where
   abbrev lists : ℕ → List Command
   lists = list_of s.scripts
 
-  orders : AreOrders (sched_means s) (list_of s.scripts)
+  pub orders : AreOrders (sched_means s) (list_of s.scripts)
   orders = are_orders s (list_of s.scripts) (are_scripts s)
 
   -- does stand: a worker of a play of values stands where its course in rounds is
@@ -301,7 +301,7 @@ module _ (s : Setup) where
     reached = reached_by s (start_shown s) r.history y leads
 
     world_is : reached.world ≡ p.world
-    world_is = sym reached.replays.world ∙ (ap (replayed (world_at_start s)) r.entries ∙ kept.legal.world)
+    world_is = sym reached.replays.world ∙ (ap (replayed (world_at_start s)) r.entries ∙ kept.world)
 
     shows : Shows (scheduler_with s y) p.world
     shows = subst (Shows (scheduler_with s y)) world_is reached.shows
@@ -398,10 +398,10 @@ module _ (s : Setup) where
     where
       goes : (course after : Course) (i : Item) → slice_get p.courses w ≡ Some course → next_step course ≡ Some (i, after) → IsPlayed (after_item w i after p)
       goes course after (item.Advance k) got next =
-          let c = there_is p r w (subst (λ n. w < n) kept.legal.count (there p.courses w course got)) in
+          let c = there_is p r w (subst (λ n. w < n) kept.workers (there p.courses w course got)) in
           advances_turn p r.courses w k (settles p r w c.0 c.1) course after got next
       goes course after (item.Event e) got next =
-          let c = there_is p r w (subst (λ n. w < n) kept.legal.count (there p.courses w course got)) in
+          let c = there_is p r w (subst (λ n. w < n) kept.workers (there p.courses w course got)) in
           cond_both (is_ready p.world w e) (performed w e after p) p IsPlayed
           (λ ready. performs_turn p kept w e course after got next ready r.courses (settles p r w c.0 c.1)) (λ lost. r)
 
@@ -432,7 +432,7 @@ module _ (s : Setup) where
     comes_to_end old w low q = by q.stands
       where
         course : (d : Course) × (slice_get p.courses w ≡ Some d)
-        course = something p.courses w (subst (λ n. w < n) (sym kept.legal.count) low)
+        course = something p.courses w (subst (λ n. w < n) (sym kept.workers) low)
 
         none : next_at (drop q.now_at.begun (lists w)) q.now_at.own.program q.now_at.standing ≡ None
         none = sym (q.played.stand w q.now_at course.0 q.found course.1) ∙ ended w course.0 course.1

@@ -30,11 +30,11 @@ use Rattle.ule_members.proofs.Reach.{reached_by_lock, takes_itself}
 use Rattle.ule_members.proofs.Steps.{step_reply}
 use Rattle.ule_members.proofs.Within.{found_at}
 use Rattle.ule_score.proofs.ChangeLaws.{change_by_now}
-use Rattle.ule_rounds.proofs.Bindings.{change_binds}
-use Rattle.ule_rounds.proofs.Hands.{FindsUnborn}
-use Rattle.ule_rounds.proofs.LastCpus.{woken_last}
-use Rattle.ule_rounds.proofs.Looks.{few_counted}
-use Rattle.ule_rounds.proofs.Parents.{HasDeclaredParent}
+use Rattle.ule_courses.proofs.Bindings.{change_binds}
+use Rattle.ule_courses.proofs.Hands.{FindsUnborn}
+use Rattle.ule_courses.proofs.LastCpus.{woken_last}
+use Rattle.ule_courses.proofs.Looks.{few_counted}
+use Rattle.ule_courses.proofs.Parents.{HasDeclaredParent}
 
 -- a balance is due as its CPU says
 due_on : (c : ℕ) (cur : Option ℕ) (due end : Bool) → (due ≡ true → c ≡ 0) → IsDueOn c (Ticked cur due end)
