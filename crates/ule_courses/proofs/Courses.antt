@@ -1,5 +1,5 @@
 -- Courses: where a program finds its next item, what it keeps on the way, and how its items run out.
-use Rattle.std.proofs.Common.{◌≡◌, ℕ, ◌+◌, ◌≤◌, true, List, [], ◌∷◌, ◌++◌, flat_map, sum_by, Option, Some, None, IfSome, refl, sym, ◌∙◌, ap, subst, arith}
+use Rattle.std.proofs.Common.{◌≡◌, ℕ, ◌+◌, ◌≤◌, true, List, [], ◌∷◌, ◌++◌, flat_map, Option, Some, None, IfSome, refl, sym, ◌∙◌, ap, subst, arith}
 use Rattle.std.specs.List.{list_all}
 use Rattle.std.proofs.lemmas.Bool.{and_parts}
 use Rattle.std.proofs.lemmas.List.Sums.{sum_by-cons}
@@ -25,6 +25,7 @@ use Rattle.ule_program.specs.declared.stage.Stage.TheVariants.{Advances, Ended, 
 use Rattle.ule_program.proofs.Following.{after_goes_on}
 use Rattle.ule_program.proofs.Leading.{HasCome, IsTold, advance_no_event, allowed_at, at_itself, command_leads, ended_stage, reply_at, stage_later}
 use Rattle.ule_program.proofs.ProgramLaws.{allows_any, item_fits, item_seeks}
+use Rattle.ule_courses.specs.Charge.{greatest_in}
 use Rattle.ule_model.specs.Legal.{Performs, Timed, acts, advances, amount_in, stays}
 
 -- ---- where the next item is found
@@ -109,10 +110,6 @@ item_goes_on [] own i is = ap (λ o. stepped [] o (once_given own)) is
 item_goes_on (c ∷ cs) own i is = ap (λ o. or_else (stepped (c ∷ cs) o (once_given own)) (next_from cs (begun c (once_given own)))) is
 
 -- ---- what a course keeps
-
--- the greatest number of items of some commands
-abbrev pub greatest_in : ℕ → ℕ → List Command → ℕ
-greatest_in cpus worker script = sum_by (λ c. greatest_of c worker cpus) script
 
 -- the greatest number of items that a worker still has
 abbrev pub left_from : ℕ → List Command → Own → ℕ

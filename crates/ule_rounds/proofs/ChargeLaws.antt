@@ -10,7 +10,7 @@ use Rattle.ule_program.specs.Courses.{Course, course_of}
 use Rattle.ule_program.specs.Hearing.{IsSeat}
 use Rattle.ule_program.specs.Program.{stops}
 use Rattle.ule_program.specs.declared.own.Own.{Own}
-use Rattle.ule_rounds.specs.Charges.{CommandsKeepToTheirCharges, GivesItems, acts, advances, stands}
+use Rattle.ule_rounds.specs.Charges.{CommandsKeepToTheirCharges, GivesItems, acts, advances, stays}
 use Rattle.ule_courses.proofs.Courses.{GoesOnAs, HasOrder, course_advanced, course_told, held_at, left_of, next_is, order_later}
 
 -- a worker that has ended what it began opens a list of valid commands with an orderly course
@@ -37,7 +37,7 @@ opens_orderly ids own now list valid = record {
 -- an orderly course gives no more items than it has left
 gives_few : (ids : List ℕ) (worker : ℕ) (t : Tree) (now : ℕ) (course : Course) (items : List Item) → IsSeat worker t →
     GivesItems (is_among ids) t.cpus now course items → HasOrder ids worker t now course → length items ≤ left_of t.cpus course
-gives_few ids worker t _ _ _ seat (stands now course) orderly = omega arith
+gives_few ids worker t _ _ _ seat (stays now course) orderly = omega arith
 gives_few ids worker t _ _ _ seat (advances now k course after items next rest) orderly =
     let went : GoesOnAs ids worker t now k [] (held_at course) course after =
     course_advanced ids worker t seat now k course after (next_is ids worker t seat now course (item.Advance k) after orderly next) in

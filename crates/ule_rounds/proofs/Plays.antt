@@ -16,7 +16,8 @@ use Rattle.ule_program.specs.Courses.{Course, course_of}
 use Rattle.ule_program.specs.Groups.{topology_of}
 use Rattle.ule_program.specs.Program.{own_of_setup}
 use Rattle.ule_model.specs.Rounds.{greatest_rounds, opening_courses}
-use Rattle.ule_courses.proofs.Courses.{HasOrder, greatest_in, left_of, time_of}
+use Rattle.ule_courses.specs.Charge.{greatest_in}
+use Rattle.ule_courses.proofs.Courses.{HasOrder, left_of, time_of}
 use Rattle.ule_courses.proofs.Hands.{hand_at}
 use Rattle.ule_members.proofs.Lists.{slice_get-set_other, slice_get-set_same}
 use Rattle.ule_members.proofs.Setups.{HasScripts, all_from_list_all, all_take, setup_scripts}

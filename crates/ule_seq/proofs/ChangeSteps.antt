@@ -6,7 +6,6 @@ use Rattle.ule_score.specs.declared.place.Place.{Place}
 use Rattle.ule_score.specs.declared.place.Place.TheVariants.{Running, Queued, Asleep, Unborn, Gone, Hand}
 use Rattle.ule_score.specs.declared.record.Settings.{Settings}
 use Rattle.ule_score.specs.declared.record.ThreadRecord.{ThreadRecord}
-use Rattle.ule_score.specs.declared.record.Why.{Why}
 use Rattle.ule_sleep.specs.Chain.{ChainValue, standing_in}
 use Rattle.ule_sleep.specs.Limbo.{LimboValue}
 use Rattle.ule_threads.specs.declared.standing.Standing.{Standing}
@@ -17,14 +16,14 @@ use Rattle.ule_model.specs.Action.{Action}
 use Rattle.ule_model.specs.ActionStep.{on_chain, on_limbo, on_queue, seen_in, seen_off}
 use Rattle.ule_model.specs.ActionValue.{action_in_slots, action_on_cpu}
 use Rattle.ule_model.specs.CpuChange.{value_changed}
-use Rattle.ule_model.specs.CpuValue.{CpuValue, Taken, value_switched, value_taken, value_ticked}
-use Rattle.ule_model.specs.Events.{locking, sought_by}
-use Rattle.ule_model.specs.LockConditions.{CanStepChain, CanStepLimbo, CanStepQueue, HasPlaced, HasSleeper, HasStill, MayTakeChain, MayTakeLimbo, MayTakeQueue}
+use Rattle.ule_model.specs.CpuValue.{CpuValue}
+use Rattle.ule_model.specs.Events.{sought_by}
+use Rattle.ule_model.specs.LockConditions.{CanStepChain, CanStepLimbo, CanStepQueue, HasPlaced, HasSleeper, HasStill}
 use Rattle.ule_model.specs.LockValue.{LockValue, found_on}
 use Rattle.ule_model.specs.LockValue as value
 use Rattle.ule_model.specs.Actions.{unborn_answer}
 use Rattle.ule_model.specs.Step.{Stepped, chain_step, limbo_step, queue_step}
-use Rattle.ule_seq.specs.Calls.{exited_reply, chain_changed, limbo_changed, limbo_changed_at, limbo_changed_unborn}
+use Rattle.ule_seq.specs.Calls.{chain_changed, limbo_changed, limbo_changed_at, limbo_changed_unborn}
 use Rattle.ule_laws.proofs.SameValues.{change_same, queue_stepped}
 use Rattle.ule_laws.proofs.SlotStands.{IsStill}
 

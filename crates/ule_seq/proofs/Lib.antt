@@ -1,6 +1,8 @@
 pub mod HandLaws
 pub mod FirstLock
 pub mod ChangeSteps
+pub mod PairSteps
+pub mod PairWritten
 pub mod WorldLaws
 pub mod StartingLaws
 pub mod FinalLaws

@@ -304,6 +304,15 @@ course_found before old worker i course view from within at =
     slice_get-get_or before.courses worker course (subst (λ (v : PlayerValue). worker < length v.courses) (sym view) within) ∙
     ap Some (sym (at ∙ ap (λ (n : ℕ). get_or before.courses n course) from))
 
+-- the program that gave an event can hear the reply that the event had
+pub event_heard : (before old : PlayerValue) (world : WorldValue) (worker i : ℕ) (e : Event) (reply : Reply) (course : Course) → before ≡ old → CanPerform old worker e →
+    Steps before.world worker e before.now world reply → i ≡ worker → worker < length old.courses → course ≡ get_or before.courses i course →
+    CanHear (Some (reply, before.now)) course.program
+event_heard before old world worker i e reply course view can steps from within at =
+    let here : CanPerform before worker e = subst (λ (v : PlayerValue). CanPerform v worker e) (sym view) can in
+    let same : reply ≡ (step here.world worker e before.now).1 = (steps here.world here.shows here.possible).1 in
+    subst (λ (r : Reply). CanHear (Some (r, before.now)) course.program) (sym same) (here.hears course (course_found before old worker i course view from within at))
+
 -- a course of a worker that isn't there
 abbrev spare_course : Setup → Course
 spare_course s = record { next = 0; program = own_of_setup s 0; item = None }

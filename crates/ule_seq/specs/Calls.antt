@@ -11,15 +11,16 @@ use Rattle.ule_sleep.specs.Chain.{ChainValue, with_sleeper, with_sleeper_changed
 use Rattle.ule_sleep.specs.Limbo.{LimboValue, with_still, with_still_changed, without_still}
 use Rattle.ule_threads.specs.declared.standing.Standing.{Standing}
 use Rattle.ule_types.specs.declared.event.Reply.{Reply}
-use Rattle.ule_types.specs.declared.event.Reply.TheVariants.{Nothing, Dropped, Exited, Bedded, NotAsleep, Landed, Changed, Hatched, Returned, Buried}
-use Rattle.ule_model.specs.ActionStep.{Stepped, kept}
+use Rattle.ule_types.specs.declared.event.Reply.TheVariants.{Nothing, Dropped, Exited, Bedded, NotAsleep, Landed, Moved, Changed, Hatched, Returned, Buried}
+use Rattle.ule_model.specs.ActionStep.{PairStepped, Stepped, kept, seen_in}
 use Rattle.ule_model.specs.CpuChange.{forked_reply, value_forked}
 use Rattle.ule_model.specs.CpuValue.{CpuValue, Taken, takes_over_in, value_added}
 use Rattle.ule_model.specs.Insertion.{bucket_of}
 use Rattle.ule_model.specs.declared.insertion.Insertion.TheVariants.{Ordinary}
-use Rattle.ule_model.specs.LockValue.{LockValue, queue, chain, limbo}
-use Rattle.ule_model.specs.Actions.{gone_answer, unborn_answer}
-use Rattle.ule_model.specs.Actions.{woken_reply}
+use Rattle.ule_model.specs.LockValue.{queue, chain, limbo}
+use Rattle.ule_model.specs.Actions.{gone_answer, move_action, unborn_answer, woken_reply}
+use Rattle.ule_model.specs.Step.{pair_on_cpus}
+use Rattle.ule_types.specs.declared.event.MoveWhy.{MoveWhy}
 
 -- ---- the events of a CPU
 
@@ -53,6 +54,22 @@ queue_landed worker (Some r) v =
       value = queue (value_added r remote v);
       reply = Landed (kind_at r.priority) (bucket_of (kind_at r.priority) Ordinary v.line r.priority) (takes_over_in r.priority remote v);
     }
+
+-- a thread in the hand that left another CPU comes to the CPU, asked for by a worker
+abbrev pub queue_taken_in : ℕ → Option ThreadRecord → CpuValue → Stepped
+queue_taken_in worker None v = kept None (queue v) Nothing
+queue_taken_in worker (Some r) v =
+    let remote = not (worker == v.cpu) in record {
+      hand = None;
+      value = queue (value_added r remote v);
+      reply = Moved r.id (kind_at r.priority) (bucket_of (kind_at r.priority) Ordinary v.line r.priority) (takes_over_in r.priority remote v);
+    }
+
+-- ---- the events of two CPUs
+
+-- a move from CPU v to CPU u, by what a worker sees of each
+abbrev pub queues_moved : ℕ → ℕ → MoveWhy → Option ThreadRecord → CpuValue → CpuValue → PairStepped
+queues_moved worker now why hand v u = pair_on_cpus now (move_action why (seen_in worker now None v) (seen_in worker now None u)) hand v u
 
 -- ---- the events of a chain
 
@@ -115,5 +132,3 @@ limbo_changed_at (Hand w) settings given t hand r v = kept hand (limbo v) Nothin
 abbrev pub limbo_changed : Settings → Change → ℕ → Option ThreadRecord → Option Standing → LimboValue → Stepped
 limbo_changed settings given t hand None v = kept hand (limbo v) Nothing
 limbo_changed settings given t hand (Some s) v = limbo_changed_at s.place settings given t hand s.thread v
-
--- ---- the step under one lock

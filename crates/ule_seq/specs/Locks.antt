@@ -1,4 +1,7 @@
--- What a lock guards, as the model has it.
+-- What a lock guards, as the model has it, and which events take two.
+use Rattle.std.specs.Prelude.{ℕ, Option, Some, None}
+use Rattle.ule_model.specs.Events.{Locking, place_of, queues}
+use Rattle.ule_model.specs.Events as events
 use Rattle.ule_model.specs.LockValue.{LockValue, chain, limbo, nothing, queue}
 use Rattle.ule_seq.specs.declared.lock.Contents.{Contents}
 use Rattle.ule_seq.specs.declared.lock.Contents.TheVariants.{Queue, Chain, Limbo, Nothing}
@@ -9,3 +12,11 @@ contents_value (Queue v) = queue v
 contents_value (Chain v) = chain v
 contents_value (Limbo v) = limbo v
 contents_value Nothing = nothing
+
+-- the CPUs whose locks an event takes, where it takes two
+abbrev pub two_locks : Locking → Option (ℕ × ℕ)
+two_locks (queues a b) = Some (a, b)
+two_locks (events.queue c) = None
+two_locks (events.chain channel) = None
+two_locks events.limbo = None
+two_locks (place_of t) = None

@@ -11,6 +11,7 @@ pub mod finals;
 pub mod hand;
 pub mod lock;
 pub mod opening;
+pub mod pair;
 pub mod records;
 pub mod rounds;
 pub mod start;

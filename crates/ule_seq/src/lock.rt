@@ -17,27 +17,29 @@ ghost use Rattle.ule_threads.specs.declared.standing.Standing.{Standing};
 ghost use Rattle.ule_seq.specs.Outcomes.{queue_line};
 ghost use Rattle.ule_sleep.specs.Chain.{standing_in};
 ghost use Rattle.ule_sleep.specs.Limbo.{HasUnborn};
+ghost use Rattle.ule_types.specs.declared.event.Reply.TheVariants.{Seen};
 ghost use Rattle.ule_tdq.specs.Replies.{changed_reply, reply_of, ticked_reply};
 
 use crate::hand::Hand;
 use std::marker::Model;
-use ule_prio::{Cpu, LockId, ThreadId};
+use ule_prio::{Cpu, LockId, Priority, ThreadId};
 use ule_score::change::after_sleep;
 use ule_score::{Change, Changed, CpuLine, Place, Settings};
 use ule_sleep::{Chain, Limbo};
 use ule_tdq::{Clocked, SwitchOut, Tdq, line_of};
 use ule_threads::Standing;
+use ule_topo::Summary;
 use ule_types::{Event, Reply, ThreadLine};
 
 /// What one lock guards.
 #[derive(Drop)]
 pub struct Guarded {
-    contents: Contents,
+    pub(crate) contents: Contents,
 }
 
 /// The kinds of what one lock guards.
 #[derive(Drop)]
-enum Contents {
+pub(crate) enum Contents {
     /// The queue lock of a CPU guards the CPU, after `struct tdq`.
     Queue(Tdq),
     /// The lock of a sleep chain guards its sleepers, after `struct sleepqueue_chain`.
@@ -94,6 +96,7 @@ fn step_queue(worker: u8, hand: &mut Hand, tdq: &mut Tdq, e: &Event, now: u64) -
         Event::Switch(_, why) => reply_of(tdq.switch(why, now)),
         Event::Drop(..) => drop_current(hand, tdq, now),
         Event::Wake(t) => not_asleep(found_on(tdq, t)),
+        Event::Look(_) => seen_reply(tdq.summary()),
         Event::Land(_, c) => land(worker, c, hand, tdq),
         Event::Lend(t, p) => change_on(worker, tdq, t, Change::Lend(p)),
         Event::Unlend(t) => change_on(worker, tdq, t, Change::Unlend),
@@ -101,12 +104,8 @@ fn step_queue(worker: u8, hand: &mut Hand, tdq: &mut Tdq, e: &Event, now: u64) -
         Event::Fork(..) => fork_in_hand(hand, tdq, now),
         Event::Exit(_) => exit_current(hand, tdq, now),
         Event::Inherit(t, run) => change_on(worker, tdq, t, Change::Inherit(run)),
-        Event::Bed(..)
-        | Event::Look(_)
-        | Event::Move(..)
-        | Event::Hatch(_)
-        | Event::Return(_)
-        | Event::Bury(_) => Reply::Nothing,
+        Event::Bed(..) | Event::Move(..) | Event::Hatch(_) | Event::Return(_) | Event::Bury(_) =>
+            Reply::Nothing,
     }
 }
 
@@ -431,6 +430,17 @@ fn reply_of(out: SwitchOut) -> Reply
             preempted,
         } => Reply::Switched(out, into, preempted),
     }
+}
+
+/// The reply of a look.
+fn seen_reply(seen: Summary) -> Reply
+    ensures { result ≡ Seen seen.load seen.movable seen.lowpri }
+{
+    Reply::Seen(
+        u64::from(seen.load),
+        u64::from(seen.movable),
+        Priority(seen.lowpri),
+    )
 }
 
 /// The reply of a tick.

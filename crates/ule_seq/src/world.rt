@@ -3,12 +3,15 @@ ghost use Rattle.ule_model.specs.LockValue.{queue};
 ghost use Rattle.ule_model.specs.Events.{locking, sought_by};
 ghost use Rattle.ule_model.specs.WorldValue.{CanStep, IsShown, Steps, holder_in, lock_for, lock_with, value_step};
 ghost use Rattle.ule_seq.specs.Hands.{is_held};
+ghost use Rattle.ule_seq.specs.Locks.{two_locks};
 ghost use Rattle.ule_seq.specs.Outcomes.{queue_line};
 ghost use Rattle.ule_seq.specs.Readiness.{Readies, ready_by, ready_in};
 
 use crate::hand::Hand;
 use crate::lock::{FIRST_CHAIN_LOCK, Guarded, LIMBO_LOCK, step_at};
+use crate::pair::step_pair_at;
 use std::marker::Model;
+use std::mem::replace;
 use ule_prio::{Cpu, ThreadId};
 use ule_score::{Settings, ThreadRecord};
 use ule_tdq::Tdq;
@@ -67,6 +70,19 @@ impl World {
         ensures steps { Steps self.old worker e.now now self.new result }
         ensures shown { IsShown self.new }
     {
+        match two_locks(e) {
+            Some((a, b)) => self.step_under_both(worker, a, b, e, now),
+            None => self.step_under_one(worker, e, now),
+        }
+    }
+
+    /// Performs an event that takes one lock, or none.
+    fn step_under_one(&mut self, worker: u8, e: &Event, now: u64) -> Reply
+        requires can { CanStep self.old worker e.now now }
+        requires one { two_locks (locking e.now) ≡ None }
+        ensures value { self.new ≡ (value_step self.old worker e.now now).0 }
+        ensures reply { result ≡ (value_step self.old worker e.now now).1 }
+    {
         let Some(lock) = self.lock_for(e) else {
             return Reply::Nothing;
         };
@@ -74,6 +90,21 @@ impl World {
         let guarded = &mut self.values[lock];
         let hand = &mut self.hands[usize::from(worker)];
         step_at(&settings, worker, hand, guarded, e, now)
+    }
+
+    /// Performs an event that takes the locks of these two CPUs.
+    fn step_under_both(&mut self, worker: u8, a: u8, b: u8, e: &Event, _now: u64) -> Reply
+        requires can { CanStep self.old worker e.now _now }
+        requires two { two_locks (locking e.now) ≡ Some (a, b) }
+        ensures value { self.new ≡ (value_step self.old worker e.now _now).0 }
+        ensures reply { result ≡ (value_step self.old worker e.now _now).1 }
+    {
+        let mut from = replace(&mut self.values[usize::from(a)], Guarded::nothing());
+        let to = &mut self.values[usize::from(b)];
+        let hand = &mut self.hands[usize::from(worker)];
+        let reply = step_pair_at(worker, hand, &mut from, to, e);
+        self.values[usize::from(a)] = from;
+        reply
     }
 
     /// The queues and numbers of a CPU, where it is there: what its lock guards.
@@ -133,6 +164,31 @@ impl World {
             }
         }
         None
+    }
+}
+
+/// The CPUs whose locks an event takes, where it takes two.
+fn two_locks(e: &Event) -> Option<(u8, u8)>
+    ensures { result ≡ two_locks (locking e.now) }
+{
+    match *e {
+        Event::Move(a, b, _) => Some((a.0, b.0)),
+        Event::Tick(_)
+        | Event::Switch(..)
+        | Event::Drop(..)
+        | Event::Bed(..)
+        | Event::Wake(_)
+        | Event::Look(_)
+        | Event::Land(..)
+        | Event::Lend(..)
+        | Event::Unlend(_)
+        | Event::Renice(..)
+        | Event::Hatch(_)
+        | Event::Fork(..)
+        | Event::Return(_)
+        | Event::Exit(_)
+        | Event::Bury(_)
+        | Event::Inherit(..) => None,
     }
 }
 

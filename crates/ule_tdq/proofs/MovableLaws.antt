@@ -41,7 +41,7 @@ pub recounted : (slots : List (Option ThreadRecord)) (t : ℕ) (kept : Option Th
 recounted slots t kept within = sum_by-set unbound_at slots t kept None within
 
 -- what a table without the current thread's record has
-but_at : (current : Option ℕ) (slots : List (Option ThreadRecord)) (u : ℕ) →
+pub but_at : (current : Option ℕ) (slots : List (Option ThreadRecord)) (u : ℕ) →
     slice_index_or (records_but current slots) u None ≡ (if is_number u current then None else slice_index_or slots u None)
 but_at None slots u = refl
 but_at (Some c) slots u = ⊎_elim same other (cases_eq u c)

@@ -2,13 +2,13 @@
 use Rattle.std.proofs.Common.{◌≡◌, ℕ, ◌==◌, true≢false, Bool, true, false, not, Option, Some, None, if◌then◌else◌, ⊎_elim, refl, sym, ◌∙◌, ap, subst}
 use Rattle.std.specs.Prelude.{IsSome}
 use Rattle.std.specs.Option.{option_map}
-use Rattle.std.proofs.lemmas.Bool.{or_cases}
+use Rattle.std.proofs.lemmas.Bool.{eq-eqb, or_cases}
 use Rattle.std.proofs.lemmas.Option.{same_Some}
 use Rattle.ule_prio.specs.Kind.{kind_at}
 use Rattle.ule_prio.specs.declared.kind.Kind.{Kind}
 use Rattle.ule_score.specs.Changes.{IsSoundChange}
 use Rattle.ule_score.specs.declared.place.Place.{Place}
-use Rattle.ule_score.specs.declared.place.Place.TheVariants.{Queued}
+use Rattle.ule_score.specs.declared.place.Place.TheVariants.{Running, Queued, Asleep, Unborn, Gone, Hand}
 use Rattle.ule_score.specs.declared.record.Change.{Change}
 use Rattle.ule_score.specs.declared.record.CpuLine.{CpuLine}
 use Rattle.ule_score.specs.declared.record.Settings.{Settings}
@@ -31,7 +31,7 @@ use Rattle.ule_model.specs.Start.{laid_on}
 use Rattle.ule_model.specs.CpuActions.{departed}
 use Rattle.ule_model.specs.CpuActions.{switched}
 use Rattle.ule_model.specs.CpuActions.{ticked}
-use Rattle.ule_model.specs.WellMade.{IsWellMade}
+use Rattle.ule_model.specs.WellMade.{IsPlace, IsWellMade}
 use Rattle.ule_model.specs.Frames.{IsSoundIn}
 use Rattle.ule_model.specs.World.{Member, Side, thread_of, World}
 use Rattle.ule_laws.proofs.CallStands.{ActsAlike, left_stands, priority_changed_stands, reply_left, switched_stands, ticked_stands}
@@ -42,6 +42,7 @@ use Rattle.ule_laws.proofs.CpuNumbers.{summary_stands}
 use Rattle.ule_laws.proofs.CpuPlaces.{kind_running, kind_waiting, line_stands, place_stands}
 use Rattle.ule_laws.proofs.CpuStarts.{start_stands}
 use Rattle.ule_laws.proofs.PlaceLaws.{place_from_waits_on}
+use Rattle.ule_laws.proofs.WellMade.{well_made_off}
 use Rattle.ule_members.proofs.Membership.{has_within}
 use Rattle.ule_members.proofs.Threads.{thread_of_within, thread_on_stands, thread_on_within, within_thread_on}
 use Rattle.ule_members.proofs.Within.{Within, within_thread}
@@ -161,7 +162,10 @@ landing_answers r remote old new answer new_is answer_is = record {
 pub laid_answers : (r : ThreadRecord) (old new : CpuValue) → new ≡ value_laid r old → StandsWithLaid old new r
 laid_answers r old new new_is = record {
   each = λ s made stands numbers absent.
-      subst (λ (x : CpuValue). StandsFor x (laid_on old.cpu r s)) (sym new_is) (laid_stands r old s stands made numbers absent).stands;
+      (let laid = laid_stands r old s stands made numbers absent in record {
+        stands = subst (λ (x : CpuValue). StandsFor x (laid_on old.cpu r s)) (sym new_is) laid.stands;
+        well_made = laid.well_made;
+      });
 }
 
 -- a fork of a thread that stands elsewhere, on the value and on the side
@@ -234,18 +238,30 @@ queued_here v s t m stands made queued there found = ⊎_elim runs waits (or_cas
           record_is = record_is;
         }
 
+-- a place on no CPU has no bucket
+place_off : (place : Place) → ((c : ℕ) → is_on c place ≡ false) → IsPlace place
+place_off (Running c) off = tt
+place_off (Queued c k b) off = absurd (true≢false (sym (eq-eqb c c refl) ∙ off c))
+place_off (Asleep channel) off = tt
+place_off Unborn off = tt
+place_off Gone off = tt
+place_off (Hand w) off = tt
+
 -- the removal of a queued thread
 pub removal_answers : (t : ℕ) (old new : CpuValue) (r : ThreadRecord) → IsSome (kind_queued old t) → Some r ≡ thread_in old t →
     new ≡ value_removed_from (kind_queued old t) t old → StandsWithout old new t r
 removal_answers t old new r queued was new_is = record {
   each = λ s made stands m found place order off.
       (let q = queued_here old s t m stands made queued (subst IsSome was refl) found in
-      let w = within_thread t s.members m made found in (
-        same_Some m.thread r (sym q.record_is ∙ sym was),
-        subst (λ (x : CpuValue). StandsFor x (carried_off old.cpu m place order s))
+      let w = within_thread t s.members m made found in
+      let own = subst (λ (u : ℕ). Within u m s.members) (sym w.number) w in record {
+        thread = same_Some m.thread r (sym q.record_is ∙ sym was);
+        stands =
+            subst (λ (x : CpuValue). StandsFor x (carried_off old.cpu m place order s))
             (ap (λ (u : ℕ). value_removed q.kind u old) w.number ∙ ap (λ (o : Option Kind). value_removed_from o t old) (sym q.queued) ∙ sym new_is)
-            (removed_stands q.kind q.bucket m place order old s stands (subst (λ (u : ℕ). Within u m s.members) (sym w.number) w) q.place off),
-      ));
+            (removed_stands q.kind q.bucket m place order old s stands own q.place off);
+        well_made = λ nowhere. well_made_off m.thread.id m s.members own place order (place_off place nowhere) nowhere;
+      });
 }
 
 -- a CPU at the start

@@ -11,6 +11,7 @@ use Rattle.ule_model.specs.Places.{is_on}
 use Rattle.ule_model.specs.CpuActions.{carried_off, forked_on, priority_changed}
 use Rattle.ule_model.specs.CpuActions.{departed}
 use Rattle.ule_model.specs.Start.{laid_on}
+use Rattle.ule_model.specs.Steal.{given_by}
 use Rattle.ule_model.specs.WellMade.{IsWellMade}
 use Rattle.ule_model.specs.World.{Member, Side, current_of, thread_of}
 use Rattle.ule_score.specs.Changes.{HasNumbers, IsSoundChange, changed}
@@ -30,6 +31,11 @@ pub record IsGiven (new : CpuValue) (answer : Reply) (meant : Side × Reply) : T
   pub stands : StandsFor new meant.0
   pub replied : answer ≡ meant.1
   pub well_made : IsWellMade meant.0.members
+
+-- a value stands for a side, whose threads are well made
+pub record IsSideOf (v : CpuValue) (s : Side) : Type 0 where
+  pub stands : StandsFor v s
+  pub well_made : IsWellMade s.members
 
 -- a call answers an event: on every well-made side that the old value stands for, the event gives the new value and
 -- the answer
@@ -66,7 +72,7 @@ pub record AnswersLanding (old new : CpuValue) (r : ThreadRecord) (remote : Bool
 -- a new value stands for every side with a new thread of this record laid on the CPU
 pub record StandsWithLaid (old new : CpuValue) (r : ThreadRecord) : Type 0 where
   pub each : (s : Side) → IsWellMade s.members → StandsFor old s → HasNumbers r → thread_of r.id s.members ≡ None →
-      StandsFor new (laid_on old.cpu r s)
+      IsSideOf new (laid_on old.cpu r s)
 
 -- a call answers a fork of the thread of this record, which has the child's record afterwards
 pub record AnswersFork (old new : CpuValue) (now : ℕ) (r child : ThreadRecord) (parent : Option ℕ) : Type 0 where
@@ -82,10 +88,16 @@ pub record AnswersChange (old new : CpuValue) (t : ℕ) (change : Change) (remot
   pub each : (worker : ℕ) → remote ≡ not (worker == old.cpu) → IsSoundChange 0 (changed change) →
       AnswersEvent old new (priority_changed t change old.cpu worker) answer
 
+-- a value stands for a side that this thread, of this record, left for a place; its threads are well made where that is on no CPU
+pub record IsLeftBy (v : CpuValue) (m : Member) (r : ThreadRecord) (place : Place) (s : Side) : Type 0 where
+  pub thread : m.thread ≡ r
+  pub stands : StandsFor v s
+  pub well_made : ((c : ℕ) → is_on c place ≡ false) → IsWellMade s.members
+
 -- a new value stands for every side without queued thread t, which had this record, wherever else it is put
 pub record StandsWithout (old new : CpuValue) (t : ℕ) (r : ThreadRecord) : Type 0 where
   pub each : (s : Side) → IsWellMade s.members → StandsFor old s → (m : Member) → thread_of t s.members ≡ Some m →
-      (place : Place) (order : ℤ) → is_on old.cpu place ≡ false → (m.thread ≡ r) × StandsFor new (carried_off old.cpu m place order s)
+      (place : Place) (order : ℤ) → is_on old.cpu place ≡ false → IsLeftBy new m r place (carried_off old.cpu m place order s)
 
 -- ---- the start
 
@@ -107,6 +119,10 @@ mark_of s = s.line.resched
 -- the number of CPU c's current thread
 abbrev pub current_on : ℕ → Side → Option ℕ
 current_on c s = option_map (λ m. m.thread.id) (current_of c s.members)
+
+-- the number of the thread that CPU c gives to another CPU
+abbrev pub given_on : ℕ → Side → Option ℕ
+given_on c s = option_map (λ m. m.thread.id) (given_by c s)
 
 -- the record of thread t, if it is on CPU c
 abbrev pub record_on : ℕ → ℕ → Side → Option ThreadRecord

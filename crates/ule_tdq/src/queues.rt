@@ -1,9 +1,11 @@
-ghost use Rattle.std.specs.Prelude.{◌≡◌, ℕ, ◌+◌, ◌/◌, [], IfOk, IfSome, replicate};
+ghost use Rattle.std.specs.Prelude.{◌≡◌, ℕ, ◌+◌, ◌/◌, [], IfOk, IfSome, IsSome, IsTrue, replicate};
 ghost use Rattle.ule_prio.specs.Kind.{kind_at};
 ghost use Rattle.ule_prio.specs.declared.kind.Kind.TheVariants.{Batch};
 ghost use Rattle.ule_calendar.specs.Promise.{IsNearest};
 ghost use Rattle.ule_runq.specs.Runq.{times};
+ghost use Rattle.ule_runq.specs.Set.{has};
 ghost use Rattle.ule_model.specs.CpuValue.{with_inserted};
+ghost use Rattle.ule_model.specs.Steal.{queues_pick};
 ghost use Rattle.ule_model.specs.declared.insertion.Insertion.TheVariants.{Borrowing};
 ghost use Rattle.ule_tdq.specs.Queues.{once_for, times_queued, times_in, dial_with, dial_bucket, queues_with, bucket_with, queues_without, first_queued, kind_found};
 
@@ -13,7 +15,8 @@ use ule_calendar::Calendar;
 use ule_io::Memory;
 use ule_model::Insertion;
 use ule_prio::{Kind, Priority, ThreadId, kind_of};
-use ule_runq::Runq;
+use ule_runq::{Runq, ThreadSet};
+use ule_steal::{pick_batch, pick_plain};
 
 /// The three queues of a CPU, after `tdq_realtime`, `tdq_timeshare` and `tdq_idle`.
 #[derive(Drop)]
@@ -89,6 +92,22 @@ impl Queues {
     {
         self.remove(kind, t);
         self.insert(Insertion::Borrowing, p, t);
+    }
+
+    /// The thread that these queues give to another CPU, where these may be moved: that of the first
+    /// queue that has one. After `tdq_steal`.
+    pub fn pick(&self, movable: &ThreadSet) -> Option<ThreadId>
+        ensures value { result ≡ queues_pick (has movable.now) self.now.batch.ridx self.now.real self.now.batch.lists self.now.idle }
+        ensures found { IfSome result (λ t. IsSome (kind_found self.now t)) }
+        ensures movable { IfSome result (λ t. IsTrue (has movable.now t)) }
+    {
+        if let Some(t) = pick_plain(&self.real, movable) {
+            return Some(t);
+        }
+        if let Some(t) = pick_batch(&self.batch, movable) {
+            return Some(t);
+        }
+        pick_plain(&self.idle, movable)
     }
 
     /// The kind of the queue that has a thread, if one has it.

@@ -8,6 +8,7 @@ ghost use Rattle.ule_model.specs.CpuChange.{kind_queued, value_changed, value_fo
 ghost use Rattle.ule_model.specs.CpuNumbers.{is_movable, next_record, summary_of, value_marked, value_summary, with_mark};
 ghost use Rattle.ule_model.specs.CpuValue.{IsNoEarlier, StandsFor, chosen_next, current_in, takes_over_in, thread_in, value_added, value_clocked, value_laid, value_line, value_place, value_switched, value_taken, value_ticked, value_ticked_with, with_given_way, with_thread_after, without_current, without_marks};
 ghost use Rattle.ule_model.specs.Places.{lock_of};
+ghost use Rattle.ule_model.specs.Steal.{is_movable_on, stolen_in};
 ghost use Rattle.ule_model.specs.Switch.{is_preemption, started_reply};
 ghost use Rattle.ule_model.specs.CpuActions.{switched};
 ghost use Rattle.ule_model.specs.CpuActions.{ticked};
@@ -24,7 +25,7 @@ ghost use Rattle.ule_tdq.specs.Cpu.{KeepsCpu};
 ghost use Rattle.ule_tdq.specs.Promise.{CalendarGoesOn, LeavesNextBucket, chosen_in, dial_of, when_choosing};
 ghost use Rattle.ule_tdq.specs.Records.{leaving};
 ghost use Rattle.ule_tdq.specs.Replies.{changed_reply, landed_reply, reply_of, ticked_reply};
-ghost use Rattle.ule_tdq.specs.Stands.{AnswersChange, AnswersEvent, AnswersFork, AnswersLanding, AnswersLeaving, StandsAtStart, StandsWithLaid, StandsWithout, Tells, current_on, line_on, mark_of, numbers_of_cpu, place_on, record_on};
+ghost use Rattle.ule_tdq.specs.Stands.{AnswersChange, AnswersEvent, AnswersFork, AnswersLanding, AnswersLeaving, StandsAtStart, StandsWithLaid, StandsWithout, Tells, current_on, given_on, line_on, mark_of, numbers_of_cpu, place_on, record_on};
 
 use crate::balance::{balance_after_tick, first_balance, first_word, is_due, word_after_tick};
 use crate::lines::{line_of, queued};
@@ -475,11 +476,32 @@ impl Tdq {
         }
     }
 
-    /// The queued threads that are not bound.
+    /// The queued threads that are not bound: those that another CPU may be given.
     pub fn movable(&self) -> &ThreadSet
-        ensures { (t : ℕ) → has result.now t ≡ is_movable self.now t }
+        ensures value { (t : ℕ) → has result.now t ≡ is_movable self.now t }
+        ensures stands { (t : ℕ) → Tells self.now (has result.now t) (λ s. is_movable_on self.now.cpu s.members t) }
     {
         self.threads.movable()
+    }
+
+    /// The queued thread that this CPU gives to another: the first of the real queue that is not
+    /// bound, else the first such one of the calendar but for the thread whose turn comes first, else
+    /// that one, else the first of the idle queue. `None` where all queued threads are bound. It only
+    /// says which, and takes no thread out. After `tdq_steal`.
+    pub fn steal(&self) -> Option<ThreadId>
+        ensures value { result ≡ stolen_in self.now }
+        ensures queued { IfSome result (λ t. IsSome (kind_queued self.now t)) }
+        ensures movable { IfSome result (λ t. IsTrue (is_movable self.now t)) }
+        ensures stands { Tells self.now result (given_on self.now.cpu) }
+    {
+        self.queues.pick(self.movable())
+    }
+
+    /// The settings of the scheduler.
+    pub fn settings(&self) -> Settings
+        ensures { result ≡ self.now.settings }
+    {
+        self.settings
     }
 
     /// Sets the mark that asks for a switch.
