@@ -11,7 +11,7 @@ use Rattle.ule_program.specs.Hearing.{IsSeat}
 use Rattle.ule_program.specs.Program.{stops}
 use Rattle.ule_program.specs.declared.own.Own.{Own}
 use Rattle.ule_rounds.specs.Charges.{CommandsKeepToTheirCharges, GivesItems, acts, advances, stays}
-use Rattle.ule_rounds.proofs.Courses.{GoesOnAs, HasOrder, course_advanced, course_told, held_at, left_of, next_is, order_later}
+use Rattle.ule_courses.proofs.Courses.{GoesOnAs, HasOrder, course_advanced, course_told, held_at, left_of, next_is, order_later}
 
 -- a worker that has ended what it began opens a list of valid commands with an orderly course
 opens_orderly : (ids : List ℕ) (own : Own) (now : ℕ) (list : List Command) → list_all (is_command ids own.topology.cpus) list ≡ true →

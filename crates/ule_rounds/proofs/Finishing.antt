@@ -12,8 +12,8 @@ use Rattle.ule_model.specs.Events.{holder_of, is_no_others, is_ready, sought_by}
 use Rattle.ule_program.specs.Courses.{Course, next_step}
 use Rattle.ule_model.specs.Rounds.{Play, after_item, entry_of, performed, round, rounds, turn}
 use Rattle.ule_members.proofs.Reach.{number_from_test}
-use Rattle.ule_rounds.proofs.Courses.{held_at, held_goes_on}
-use Rattle.ule_rounds.proofs.Hands.{hand_at, held_in_hand, sought_held}
+use Rattle.ule_courses.proofs.Courses.{held_at, held_goes_on}
+use Rattle.ule_courses.proofs.Hands.{hand_at, held_in_hand, sought_held}
 use Rattle.ule_rounds.proofs.Keeping.{HasNext, IsUnderWay, advance_within, has_next, left_advanced, left_performed, under_way_turn}
 use Rattle.ule_rounds.proofs.Plays.{all_left}
 use Rattle.ule_rounds.proofs.RoundsLaws.{IsFinished, round_finished, rounds_none, rounds_still, rounds_suc, turn_cases, turns, turns_keep, turns_more}

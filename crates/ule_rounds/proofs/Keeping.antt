@@ -2,7 +2,7 @@
 use Rattle.std.proofs.Common.{◌≡◌, ℕ, ◌+◌, ◌*◌, ◌^◌, ◌<◌, ◌≤◌, ◌&&◌, ◌||◌, Bool, true, false, nat_le, List, [], ◌∷◌, flat_map, length, slice_get, take, Some, IfSome, IsSome, IsTrue, is_some, if◌then◌else◌, option_and_then, refl, sym, ◌∙◌, ap, subst, arith}
 use Rattle.std.specs.List.{AllByRecursion}
 use Rattle.std.proofs.lemmas.Bool.{and_parts, cond_both, false≢true, leb-true}
-use Rattle.std.proofs.lemmas.List.{length_push}
+use Rattle.std.proofs.lemmas.List.{length-set, length_push}
 use Rattle.std.proofs.lemmas.Option.{IfSome_then, slice_get_within}
 use Rattle.ule_score.specs.Bounds.{KeepsBounds}
 use Rattle.ule_score.specs.Changes.{HasSlice, IsBy}
@@ -19,8 +19,7 @@ use Rattle.ule_model.specs.Ends.{end_time}
 use Rattle.ule_model.specs.Events.{handling, is_reached, is_ready, names_cpus, sought_by}
 use Rattle.ule_model.specs.Frames.{LeavesRest, thread_in_hand}
 use Rattle.ule_model.specs.History.{KeepsRecords}
-use Rattle.ule_model.specs.Throughout.{HoldsThroughout}
-use Rattle.ule_model.specs.Legal.{after_entry}
+use Rattle.ule_model.specs.Legal.{after_entry, replayed}
 use Rattle.ule_model.specs.Places.{is_hand_of, is_number}
 use Rattle.ule_program.specs.Courses.{Course, next_step}
 use Rattle.ule_program.specs.Hearing.{CanHear, IsReplyTo, IsSeat}
@@ -37,19 +36,18 @@ use Rattle.ule_members.proofs.Parents.{step_parents}
 use Rattle.ule_members.proofs.Steps.{step_leaves_rest}
 use Rattle.ule_members.proofs.Steps.{step_is_made}
 use Rattle.ule_members.proofs.Within.{all_along}
-use Rattle.ule_rounds.proofs.Bindings.{step_binds}
-use Rattle.ule_rounds.proofs.Courses.{GoesOnAs, HasOrder, IsAtEvent, IsNextItem, advance_at, course_advanced, course_told, event_at, forks_ahead, hears_at, held_at, left_of, next_is, order_later, time_of}
-use Rattle.ule_rounds.proofs.Hands.{DoAgree, FindsUnborn, agree_set, agree_step, finds_unborn, hand_at, hand_handled, handled_thread}
-use Rattle.ule_rounds.proofs.LastCpus.{step_lasts}
-use Rattle.ule_rounds.proofs.Histories.{HoldsThroughout-push, HoldsThroughout-start}
-use Rattle.ule_rounds.proofs.LegalLaws.{IsLegalSoFar, each_after_set, legal_advanced, legal_opening, legal_performed}
-use Rattle.ule_rounds.proofs.Plays.{all_left, all_time, hands_at_start, opening_count, opening_is, opening_left, opening_order, sum_set, time_at_start, tree_of}
+use Rattle.ule_courses.proofs.Bindings.{step_binds}
+use Rattle.ule_courses.proofs.Courses.{GoesOnAs, HasOrder, IsAtEvent, IsNextItem, advance_at, course_advanced, course_told, event_at, forks_ahead, hears_at, held_at, left_of, next_is, order_later, time_of}
+use Rattle.ule_courses.proofs.Hands.{DoAgree, FindsUnborn, agree_set, agree_step, finds_unborn, hand_at, hand_handled}
+use Rattle.ule_courses.proofs.LastCpus.{step_lasts}
+use Rattle.ule_courses.proofs.Histories.{replayed_push, replayed_start}
+use Rattle.ule_rounds.proofs.Plays.{all_left, all_time, each_after_set, hands_at_start, opening_count, opening_left, opening_order, sum_set, time_at_start, tree_of}
 use Rattle.ule_rounds.proofs.RoundsLaws.{turn_cases}
 use Rattle.ule_members.proofs.Setups.{setup_end, setup_scripts, setup_slice}
 use Rattle.ule_members.proofs.Unborn.{IsStillUnborn, hatched_by, unborn_stays}
 use Rattle.ule_rounds.proofs.Forks.{HasForksAhead, forks_opening, forks_set}
-use Rattle.ule_rounds.proofs.Parents.{HasDeclaredParent, numbered_among, start_lasts, start_parents}
-use Rattle.ule_rounds.proofs.Replies.{step_replies}
+use Rattle.ule_courses.proofs.Parents.{HasDeclaredParent, numbered_among, start_lasts, start_parents}
+use Rattle.ule_courses.proofs.Replies.{step_replies}
 use Rattle.ule_members.proofs.Starts.{AreFree, IsFreshRecord, IsLaid, IsPlaceAtStart, start_free, start_laid}
 
 -- ---- what a play keeps
@@ -60,7 +58,8 @@ ids_in s = declared_ids s.threads s.unborn
 
 -- what a play of a setup keeps at every turn
 pub record IsUnderWay (s : Setup) (p : Play) : Type 0 where
-  pub legal : IsLegalSoFar s p
+  pub workers : length p.courses ≡ s.cpus
+  pub world : replayed (world_at_start s) p.entries ≡ p.world
   pub courses : (worker : ℕ) (course : Course) → slice_get p.courses worker ≡ Some course → HasOrder (ids_in s) worker (tree_of s) p.now course
   pub settings : p.world.settings ≡ s.settings
   pub lines : length p.world.lines ≡ s.cpus
@@ -77,8 +76,6 @@ pub record IsUnderWay (s : Setup) (p : Play) : Type 0 where
   pub time : p.now + all_time p.courses ≡ end_time s.scripts
   pub bounded : p.now + 1000000 * all_left s.cpus p.courses ≤ starting_time + 1000000 * greatest_rounds
   pub count : length p.entries + all_left s.cpus p.courses ≤ greatest_rounds
-  pub all_bounds : HoldsThroughout KeepsRecords (world_at_start s) p.entries
-  pub all_made : HoldsThroughout IsWellMadeWorld (world_at_start s) p.entries
 
 -- its time is within bounds
 pub time_below : (s : Setup) (p : Play) → IsUnderWay s p → p.now < 2 ^ 36
@@ -86,7 +83,7 @@ time_below s p kept = omega (arith, kept.bounded)
 
 -- a worker that has a course is one of the CPUs' workers
 pub worker_below : (s : Setup) (p : Play) (worker : ℕ) (course : Course) → IsUnderWay s p → slice_get p.courses worker ≡ Some course → worker < s.cpus
-worker_below s p worker course kept got = subst (λ n. worker < n) kept.legal.count (slice_get_within p.courses worker course got)
+worker_below s p worker course kept got = subst (λ n. worker < n) kept.workers (slice_get_within p.courses worker course got)
 
 -- so it has its seat in the setup's topology
 pub seat_in : (s : Setup) (p : Play) (worker : ℕ) (course : Course) → IsUnderWay s p → slice_get p.courses worker ≡ Some course → IsSeat worker (tree_of s)
@@ -107,7 +104,8 @@ free_hands h t (m ∷ ms) free = by_test (is_numbered t m) (ap (is_number h) fre
 -- the opening play is under way
 pub under_way_opening : (s : Setup) → IsUnderWay s (opening s)
 under_way_opening s = record {
-  legal = legal_opening s (opening_count s) (opening_is s);
+  workers = opening_count s;
+  world = replayed_start (world_at_start s);
   courses = opening_order s starting_time;
   settings = start.settings_are;
   lines = start.count;
@@ -126,8 +124,6 @@ under_way_opening s = record {
   time = omega (arith, time_at_start s 0 (take s.cpus s.scripts), setup_end s);
   bounded = omega (arith, opening_left s);
   count = omega (arith, opening_left s);
-  all_bounds = HoldsThroughout-start KeepsRecords (world_at_start s) bounds;
-  all_made = HoldsThroughout-start IsWellMadeWorld (world_at_start s) start.made;
 }
   where
     start : IsLaid (IsPlaceAtStart s.cpus) s.cpus s.settings (ids_in s) (world_at_start s)
@@ -233,7 +229,8 @@ by_later now later ms past by =
 pub under_way_advanced : (s : Setup) (p : Play) (worker k : ℕ) (course after : Course) → IsUnderWay s p → slice_get p.courses worker ≡ Some course →
     next_step course ≡ Some (item.Advance k, after) → IsUnderWay s (after_item worker (item.Advance k) after p)
 under_way_advanced s p worker k course after kept got found = record {
-  legal = legal_advanced s p worker k course after kept.legal got found;
+  workers = length-set p.courses worker after ∙ kept.workers;
+  world = kept.world;
   courses = each_after_set (λ w c. HasOrder (ids_in s) w (tree_of s) (p.now + k) c) p.courses worker course after got (later worker after went.orderly)
       (λ w c other at. later w c (kept.courses w c at));
   settings = kept.settings;
@@ -252,8 +249,6 @@ under_way_advanced s p worker k course after kept got found = record {
   time = omega (arith, kept.time, sum_set time_of p.courses worker course after got, went.time);
   bounded = omega (arith, kept.bounded, left_advanced s p worker k course after kept got found, advance_within s p worker k course after kept got found);
   count = omega (arith, kept.count, left_advanced s p worker k course after kept got found);
-  all_bounds = kept.all_bounds;
-  all_made = kept.all_made;
 }
   where
     went : GoesOnAs (ids_in s) worker (tree_of s) p.now k [] (held_at course) course after
@@ -266,7 +261,8 @@ under_way_advanced s p worker k course after kept got found = record {
 pub next_replies : (s : Setup) (p : Play) (worker : ℕ) (course after : Course) (e : Event) → IsUnderWay s p → HasNext s p worker course e after →
     IsReplyTo (is_among (ids_in s)) s.cpus p.now e (step p.world worker e p.now).1
 next_replies s p worker course after e kept has =
-    step_replies (ids_in s) s.cpus p.world worker p.now (record { bound = kept.bound; last = kept.last; by_now = kept.by_now; parents = kept.parents; bounds = kept.bounds; made = kept.made.members }) e has.declared has.finds
+    step_replies (ids_in s) s.cpus p.world worker p.now (record { bound = kept.bound; last = kept.last; parents = kept.parents; bounds = kept.bounds; made = kept.made.members }) e has.declared has.finds
+    (all_along (λ (m : Member). IsBy p.now m.thread) (λ m. is_reached p.world worker e m.place ≡ true → IsBy p.now m.thread) p.world.members (λ m by reached. by) kept.by_now)
 
 -- the program that gave the event can hear the reply
 pub hears_reply : (s : Setup) (p : Play) (worker : ℕ) (course after : Course) (e : Event) → IsUnderWay s p → slice_get p.courses worker ≡ Some course →
@@ -299,7 +295,8 @@ left_performed s p worker e course after kept got found =
 pub under_way_performed : (s : Setup) (p : Play) (worker : ℕ) (e : Event) (course after : Course) → IsUnderWay s p → slice_get p.courses worker ≡ Some course →
     next_step course ≡ Some (item.Event e, after) → is_ready p.world worker e ≡ true → IsUnderWay s (performed worker e after p)
 under_way_performed s p worker e course after kept got found ready = record {
-  legal = legal_performed s p worker e course after kept.legal got found ready (handled_thread p.world worker (handling e) can.hand);
+  workers = length-set p.courses worker reached ∙ kept.workers;
+  world = replayed_push (world_at_start s) p.entries (entry_of p worker e) ∙ ap (λ w. after_entry w (entry_of p worker e)) kept.world;
   courses = each_after_set (λ w c. HasOrder (ids_in s) w (tree_of s) p.now c) p.courses worker course reached got went.orderly (λ w c other at. kept.courses w c at);
   settings = rest.settings ∙ kept.settings;
   lines = rest.count ∙ kept.lines;
@@ -318,10 +315,6 @@ under_way_performed s p worker e course after kept got found ready = record {
   time = omega (arith, kept.time, sum_set time_of p.courses worker course reached got, went.time);
   bounded = omega (arith, kept.bounded, left_performed s p worker e course after kept got found);
   count = omega (arith, kept.count, left_performed s p worker e course after kept got found, length_push p.entries (entry_of p worker e));
-  all_bounds = HoldsThroughout-push KeepsRecords (world_at_start s) p.entries (entry_of p worker e) kept.all_bounds
-      (subst (λ w. KeepsRecords (after_entry w (entry_of p worker e))) (sym kept.legal.world) bounds);
-  all_made = HoldsThroughout-push IsWellMadeWorld (world_at_start s) p.entries (entry_of p worker e) kept.all_made
-      (subst (λ w. IsWellMadeWorld (after_entry w (entry_of p worker e))) (sym kept.legal.world) made);
 }
   where
     has : HasNext s p worker course e after

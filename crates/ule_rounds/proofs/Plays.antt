@@ -1,6 +1,7 @@
 -- The items and the time of all workers of a play, and its opening.
-use Rattle.std.proofs.Common.{◌≡◌, ℕ, zero, suc, ◌+◌, ◌≤◌, true, List, [], ◌∷◌, length, map, sum, sum_by, slice_get, slice_index_or, slice_set, take, Some, None, refl, sym, ◌∙◌, ap, subst, arith}
+use Rattle.std.proofs.Common.{◌≡◌, ℕ, zero, suc, ◌+◌, ◌≤◌, true, List, [], ◌∷◌, length, map, sum, sum_by, slice_get, slice_index_or, slice_set, take, Some, None, refl, sym, ◌∙◌, ap, subst, ⊎_elim, arith}
 use Rattle.std.specs.List.{AllByRecursion, enumerate_from, list_all}
+use Rattle.std.proofs.lemmas.Bool.{cases_eq}
 use Rattle.std.proofs.lemmas.List.{length-map, length-take-le}
 use Rattle.std.proofs.lemmas.List.FromFn.{length-enumerate_from}
 use Rattle.std.proofs.lemmas.List.Sums.{sum_by-cons, sum_by-set, sum-map}
@@ -15,13 +16,29 @@ use Rattle.ule_program.specs.Courses.{Course, course_of}
 use Rattle.ule_program.specs.Groups.{topology_of}
 use Rattle.ule_program.specs.Program.{own_of_setup}
 use Rattle.ule_model.specs.Rounds.{greatest_rounds, opening_courses}
-use Rattle.ule_rounds.proofs.Courses.{HasOrder, greatest_in, left_of, time_of}
-use Rattle.ule_rounds.proofs.Hands.{hand_at}
+use Rattle.ule_courses.specs.Charge.{greatest_in}
+use Rattle.ule_courses.proofs.Courses.{HasOrder, left_of, time_of}
+use Rattle.ule_courses.proofs.Hands.{hand_at}
+use Rattle.ule_members.proofs.Lists.{slice_get-set_other, slice_get-set_same}
 use Rattle.ule_members.proofs.Setups.{HasScripts, all_from_list_all, all_take, setup_scripts}
 
 -- the topology of a setup
 abbrev pub tree_of : Setup → Tree
 tree_of s = topology_of s.cpus s.groups
+
+-- ---- one course changed among all
+
+-- what holds of the element written, and of each other, holds of each afterwards
+pub each_after_set : {X : Type 0} (Q : ℕ → X → Type 0) (xs : List X) (i : ℕ) (x v : X) → slice_get xs i ≡ Some x → Q i v →
+    ((j : ℕ) (y : X) → (j ≡ i → ⊥) → slice_get xs j ≡ Some y → Q j y) → (j : ℕ) (y : X) → slice_get (slice_set xs i v) j ≡ Some y → Q j y
+each_after_set Q xs i x v got here others j y found =
+    ⊎_elim
+    (λ (same : j ≡ i).
+    let at : slice_get (slice_set xs i v) i ≡ Some y = subst (λ k. slice_get (slice_set xs i v) k ≡ Some y) same found in
+    let is : v ≡ y = same_Some v y (sym (slice_get-set_same xs i v (slice_get_within xs i x got)) ∙ at) in
+    subst (λ k. Q k y) (sym same) (subst (Q i) is here))
+    (λ (other : j ≡ i → ⊥). others j y other (sym (slice_get-set_other xs i j v other) ∙ found))
+    (cases_eq j i)
 
 -- ---- a number of all workers
 

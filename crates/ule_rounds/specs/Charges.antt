@@ -1,8 +1,8 @@
 -- The items of commands: what a worker's program gives, whatever replies its events have, and that they are no more than the commands are
 -- charged.
 use Rattle.std.specs.Prelude.{◌≡◌, ℕ, ◌≤◌, Bool, true, List, [], ◌∷◌, length, Some}
-use Rattle.std.specs.List.{list_all, sum_by}
-use Rattle.ule_types.specs.Commands.{greatest_of, is_among, is_command}
+use Rattle.std.specs.List.{list_all}
+use Rattle.ule_types.specs.Commands.{is_among, is_command}
 use Rattle.ule_types.specs.declared.command.Command.{Command}
 use Rattle.ule_types.specs.declared.event.Event.{Event}
 use Rattle.ule_types.specs.declared.event.Item.{Item}
@@ -12,6 +12,7 @@ use Rattle.ule_program.specs.Courses.{Course, course_of, next_step}
 use Rattle.ule_program.specs.Hearing.{IsReplyTo, IsSeat}
 use Rattle.ule_program.specs.Program.{stops}
 use Rattle.ule_program.specs.declared.own.Own.{Own}
+use Rattle.ule_courses.specs.Charge.{greatest_in}
 
 -- a worker that stands at a course at a time gives these items, one after another: each event is told a reply that it can have, at a time
 -- no earlier than the one before
@@ -24,10 +25,6 @@ pub data GivesItems (declared : ℕ → Bool) (cpus : ℕ) : ℕ → Course → 
       next_step course ≡ Some (item.Event e, after) → now ≤ later → IsReplyTo declared cpus later e r →
       GivesItems declared cpus later (record after { last = Some (r, later) }) items →
       GivesItems declared cpus now course (item.Event e ∷ items)
-
--- the greatest number of items of a worker's commands, on so many CPUs
-abbrev pub greatest_in : ℕ → ℕ → List Command → ℕ
-greatest_in cpus worker list = sum_by (λ c. greatest_of c worker cpus) list
 
 -- the law of charges: a worker gives no more items of valid commands than these are charged
 abbrev pub CommandsKeepToTheirCharges : Type 0

@@ -1,3 +1,4 @@
 pub mod Charges
 pub mod LateSwitch
 pub mod NearerThread
+pub mod RoundPlay

@@ -5,7 +5,7 @@
 #![tactic(auto)]
 
 pub use charges::commands_keep_to_their_charges;
-pub use history::{rounds_are_legal, rounds_go_on};
+pub use history::{rounds_are_legal, rounds_are_plays, rounds_go_on};
 pub use late_switch::late_switch_is_legal;
 pub use promise::{histories_keep_the_calendar_promise, thread_comes_nearer};
 

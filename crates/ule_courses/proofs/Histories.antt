@@ -11,6 +11,11 @@ use Rattle.ule_model.specs.Legal.{Locked, IsEntryOf, IsReplayed, IsInTime, Timed
 use Rattle.ule_model.specs.World.{World}
 use Rattle.ule_members.proofs.Within.{all-append}
 
+-- no entries leave a world
+pub replayed_start : (w : World) → replayed w [] ≡ w
+unfolding replayed
+replayed_start w = refl
+
 -- the world after some entries and one more is that after them and then the one
 pub replayed_push : (w : World) (es : List Entry) (e : Entry) → replayed w (es ++ e ∷ []) ≡ after_entry (replayed w es) e
 unfolding replayed

@@ -23,7 +23,7 @@ use Rattle.ule_members.proofs.Steps.{in_hand_after, step_own_hand}
 use Rattle.ule_members.proofs.Threads.{thread_of_within}
 use Rattle.ule_members.proofs.Untouched.{step_in_hand}
 use Rattle.ule_members.proofs.Within.{found_at, within_found}
-use Rattle.ule_rounds.proofs.Courses.{held_at}
+use Rattle.ule_courses.proofs.Courses.{held_at}
 
 -- ---- look-ups in a hand
 

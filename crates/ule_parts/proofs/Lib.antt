@@ -1,0 +1,17 @@
+pub mod Numbers
+pub mod Locks
+pub mod Standing
+pub mod Noted
+pub mod Replays
+pub mod Worlds
+pub mod Asking
+pub mod Calls
+pub mod Moving
+pub mod Orders
+pub mod Starting
+pub mod Lawful
+pub mod Leading
+pub mod Times
+pub mod Playing
+pub mod Legality
+pub mod Rows
