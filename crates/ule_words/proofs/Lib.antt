@@ -1,0 +1,9 @@
+pub mod Taken
+pub mod Helds
+pub mod Knows
+pub mod Shown
+pub mod Reading
+pub mod WordSteps
+pub mod TimeSteps
+pub mod Opens
+pub mod Ties

@@ -1,0 +1,6 @@
+pub mod Held
+pub mod Workers
+pub mod Rule
+pub mod Passes
+pub mod Tells
+pub mod Starts
