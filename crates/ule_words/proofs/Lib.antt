@@ -6,4 +6,7 @@ pub mod Reading
 pub mod WordSteps
 pub mod TimeSteps
 pub mod Opens
+pub mod Grips
+pub mod Commits
 pub mod Ties
+pub mod Performs

@@ -81,6 +81,16 @@ module _ {H G E R : Type 0} (words : List ℕ) (s s' : Shared H G E R) (r : Show
     now = get_or-set_same words 282 n 0 (let a : length words ≡ 283 = r.count in omega arith) ∙ sym is;
   }
 
+  -- the word of the ticket was written
+  pub shows_ticket : (n : ℕ) → s'.ticket ≡ n → ((l : ℕ) → s'.locks l ≡ s.locks l) → ((t : ℕ) → s'.words t ≡ s.words t) → s'.now ≡ s.now → ShowsWords (set words 281 n) s'
+  shows_ticket n is locks threads now = record {
+    count = length-set words 281 n ∙ r.count;
+    locks = λ i near. get_or-set_other words 281 i n 0 (λ e. (let a : i < 25 = near in omega arith)) ∙ (r.locks i near ∙ ap lock_word (sym (locks i)));
+    threads = λ t near. get_or-set_other words 281 (25 + t) n 0 (λ e. (let a : t < 256 = near in omega arith)) ∙ (r.threads t near ∙ ap thread_word (sym (threads t)));
+    ticket = get_or-set_same words 281 n 0 (let a : length words ≡ 283 = r.count in omega arith) ∙ sym is;
+    now = get_or-set_other words 281 282 n 0 (λ e. omega arith) ∙ (r.now ∙ sym now);
+  }
+
 module _ {H O G E R C : Type 0} (m : Means H O G E R C) (s : Shared H G E R) (k : Agrees m s) (holders : (w l : ℕ) → s.holds w l ≡ true → l < 25) where
   -- a thread's word names a lock that there is
   word_low : (t l : ℕ) → s.words t ≡ Lock l → l < 25

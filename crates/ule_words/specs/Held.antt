@@ -27,3 +27,19 @@ abbrev pub locks_of : {G : Type 0} → List (ℕ × G) → Option HeldLocks
 locks_of [] = None
 locks_of (x ∷ []) = Some (One x.0)
 locks_of (x ∷ y ∷ held) = Some (in_rising_order x.0 y.0)
+
+module _ {G : Type 0} where
+  -- held values: the values under the one or two locks that are held, in rising order of the locks
+  abbrev pub held_values : List (ℕ × G) → List G
+  held_values [] = []
+  held_values (x ∷ []) = x.1 ∷ []
+  held_values (x ∷ y ∷ held) = (if nat_lt x.0 y.0 then x.1 ∷ y.1 ∷ [] else y.1 ∷ x.1 ∷ [])
+
+  -- held with: the same locks, with these values under them, in rising order of the locks
+  abbrev pub held_with : List (ℕ × G) → List G → List (ℕ × G)
+  held_with [] vs = []
+  held_with (x ∷ []) [] = x ∷ []
+  held_with (x ∷ []) (v ∷ vs) = (x.0, v) ∷ []
+  held_with (x ∷ y ∷ held) [] = x ∷ y ∷ held
+  held_with (x ∷ y ∷ held) (v ∷ []) = x ∷ y ∷ held
+  held_with (x ∷ y ∷ held) (v ∷ u ∷ us) = (x.0, (if nat_lt x.0 y.0 then v else u)) ∷ (y.0, (if nat_lt x.0 y.0 then u else v)) ∷ held

@@ -1,13 +1,16 @@
 -- What each step on the table tells the worker that makes it.
-use Rattle.std.specs.Prelude.{◌≡◌, ◌≢◌, ℕ, ◌+◌, ◌<◌, true, List, [], ◌∷◌, length, take, drop, Option, Some, None}
+use Rattle.std.specs.Prelude.{◌≡◌, ◌≢◌, ℕ, ◌+◌, ◌<◌, ◌≤◌, true, List, [], ◌∷◌, length, take, drop, Option, Some, None}
 use Rattle.atomic_table.specs.Table.{Me, rest}
+use Rattle.ule_micro.specs.declared.entry.HeldLocks.{HeldLocks}
 use Rattle.ule_micro.specs.declared.locks.TheConstants.{LOCKS}
 use Rattle.ule_micro.specs.declared.word.Word.{Word}
 use Rattle.ule_micro.specs.declared.word.Word.TheVariants.{Lock, Blocked}
+use Rattle.ule_micro.specs.Laws.{AreItsLocks}
 use Rattle.ule_micro.specs.Means.{Means}
 use Rattle.ule_micro.specs.Shared.{Agrees, Shared}
-use Rattle.ule_words.specs.Held.{value_held}
-use Rattle.ule_words.specs.Workers.{KnowsItsPart, advancing, calm, one, releasing, taking, timed}
+use Rattle.ule_words.specs.Held.{held_values, locks_of, value_held}
+use Rattle.ule_words.specs.Passes.{PassState}
+use Rattle.ule_words.specs.Workers.{KnowsItsPart, act_of, advancing, calm, committing, entries_in, one, releasing, taking, timed}
 use Rattle.ule_words.specs.Rule.{thread_word}
 use Rattle.ule_words.specs.declared.view.View.{View}
 use Rattle.ule_words.specs.declared.view.Worker.{Worker}
@@ -42,6 +45,43 @@ module _ {H O G E R C : Type 0} (m : Means H O G E R C) where
   Takes l me found me' = (p : Worker H G E R) → me.0 ≡ one p
       → (found ≡ 0 → (v : G) × (me' ≡ (one (taking p l v), (l, Some v) ∷ me.1)) × (value_held p.held l ≡ None))
       × (found ≢ 0 → (me' ≡ me) × ((w : ℕ) × (found ≡ w + 1) × IsHolderOf p l w))
+
+module _ {H O G E R C : Type 0} (m : Means H O G E R C) where
+  -- can commit: a worker without a pending change, with an allowance, that read this time under the locks that it holds, which are those of an event that it asks for
+  pub record CanCommit (p : Worker H G E R) (e : E) (locks : HeldLocks) (now : ℕ) : Type 0 where
+    pub calm : p.pending ≡ None
+    pub left : 0 < p.allowance
+    pub read : p.read ≡ Some (locks, now)
+    pub holds : locks_of p.held ≡ Some locks
+    pub needs : AreItsLocks m locks (held_values p.held) (m.needs e)
+    pub asks : m.asks p.number (entries_in p.mine) p.hand e
+
+  -- commits: the ticket was raised from this number for an event, which may be performed
+  abbrev pub Commits : E → Me (Option G) (View H G E R) → ℕ → Me (Option G) (View H G E R) → Type 0
+  Commits e me found me' = (p : Worker H G E R) (locks : HeldLocks) (now : ℕ) → me.0 ≡ one p → CanCommit p e locks now
+      → (me' ≡ (one (committing m p e locks now (found + 1)), me.1)) × (found < 65536) × (p.seen ≤ found) × m.may p.number e now p.hand (held_values p.held)
+
+  -- is ready: the one worker that a seat knows can commit the event, and holds at most two locks
+  pub record IsReady (me : Me (Option G) (View H G E R)) (e : E) : Type 0 where
+    pub worker : Worker H G E R
+    pub knows : me.0 ≡ one worker
+    pub locks : HeldLocks
+    pub now : ℕ
+    pub can : CanCommit worker e locks now
+    pub few : length worker.held ≤ 2
+
+  -- has committed: the event took effect under the locks that the pass holds, at the time that it read; its entry has a number above all that the pass had seen, and its reply is that of the event
+  pub record HasCommitted (p : PassState O H G E R) (e : E) (reply : R) (q : PassState O H G E R) : Type 0 where
+    pub locks : HeldLocks
+    pub now : ℕ
+    pub read : p.worker.read ≡ Some (locks, now)
+    pub may : m.may p.worker.number e now p.worker.hand (held_values p.worker.held)
+    pub ticket : ℕ
+    pub above : p.worker.seen < ticket
+    pub worker : q.worker ≡ committing m p.worker e locks now ticket
+    pub own : q.own ≡ m.with_hand p.own (act_of m p.worker e now).hand
+    pub is_reply : reply ≡ (act_of m p.worker e now).reply
+    pub table : q.table ≡ p.table
 
 module _ {H G E R : Type 0} where
   -- releases: the lock was given back, with its value

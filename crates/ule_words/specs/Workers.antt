@@ -2,9 +2,11 @@
 use Rattle.std.specs.Prelude.{◌≡◌, ℕ, ◌+◌, ◌-◌, ◌≤◌, ◌<◌, ◌==◌, List, [], ◌∷◌, length, map, Option, Some, None, slice_get, if◌then◌else◌}
 use Rattle.ule_micro.specs.declared.entry.Entry.{Entry}
 use Rattle.ule_micro.specs.declared.entry.HeldLocks.{HeldLocks}
+use Rattle.ule_micro.specs.Histories.{entry_made}
 use Rattle.ule_micro.specs.Means.{Means}
+use Rattle.ule_micro.specs.Standings.{Acted}
 use Rattle.ule_micro.specs.Shared.{Shared, Stamped, TimeRead}
-use Rattle.ule_words.specs.Held.{value_held, is_held, held_but, locks_of}
+use Rattle.ule_words.specs.Held.{value_held, is_held, held_but, held_values, held_with, locks_of}
 use Rattle.ule_words.specs.declared.log.Numbered.{Numbered}
 use Rattle.ule_words.specs.declared.view.View.{View}
 use Rattle.ule_words.specs.declared.view.Worker.{Worker}
@@ -86,6 +88,24 @@ module _ {H O G E R C : Type 0} (m : Means H O G E R C) where
     allowance = m.budget w;
     mine = [];
     seen = 0;
+  }
+
+  -- act of: what an event of a worker leaves, on its hand and on the values under the locks that it holds
+  abbrev pub act_of : Worker H G E R → E → ℕ → Acted H G R
+  act_of p e now = m.act p.number e now p.hand (held_values p.held)
+
+  -- committing: a worker whose event took effect under these locks at this time, as the entry of this number
+  abbrev pub committing : Worker H G E R → E → HeldLocks → ℕ → ℕ → Worker H G E R
+  committing p e locks now number = record {
+    number = p.number;
+    hand = (act_of p e now).hand;
+    held = held_with p.held (act_of p e now).values;
+    pending = m.change e (act_of p e now).reply;
+    read = None;
+    advanced = p.advanced;
+    allowance = p.allowance - 1;
+    mine = (p.advanced, record { number = number; entry = entry_made p.number e locks now (act_of p e now).reply }) ∷ p.mine;
+    seen = number;
   }
 
   -- first workers: these own parts as workers at the start, from number w on

@@ -1,10 +1,12 @@
 //! The at most two locks that a worker holds, with the values under them.
-ghost use Rattle.std.specs.Prelude.{◌≡◌, ◌≢◌, ℕ, ◌∷◌, [], true, false, Some, None};
-ghost use Rattle.ule_words.specs.Held.{held_but, is_held, value_held};
+ghost use Rattle.std.specs.Prelude.{◌≡◌, ◌≢◌, ℕ, ◌<◌, ◌∷◌, [], true, false, Some, None};
+ghost use Rattle.ule_words.specs.Held.{held_but, in_rising_order, is_held, locks_of, value_held};
 ghost use Rattle.ule_words.specs.Passes.{in_fields, slots_out};
 
 use atomic_table::Seat;
 use std::mem;
+use ule_micro::HeldLocks;
+use ule_prio::LockId;
 
 /// A lock that is held, with the value under it.
 #[derive(Drop)]
@@ -89,4 +91,30 @@ impl<G> Holding<G> {
         };
         &held.value
     }
+
+    /// The one or two locks that are held, in rising order.
+    pub(crate) fn locks(&self) -> HeldLocks
+        requires some { (x : _) × (self.now.last ≡ Some x) }
+        requires low { (l : ℕ) (v : _) → value_held (in_fields self.now) l ≡ Some v → l < 25 }
+        ensures { locks_of (in_fields self.now) ≡ Some result }
+    {
+        let Some(last) = &self.last else {
+            unreachable!()
+        };
+        match &self.first {
+            None => HeldLocks::One(LockId(last.lock)),
+            Some(first) => rising(last.lock, first.lock),
+        }
+    }
+}
+
+/// Two locks, the lower one first.
+fn rising(a: u8, b: u8) -> HeldLocks
+    requires { (a < 25) × (b < 25) }
+    ensures { result ≡ in_rising_order a b }
+{
+    if a < b {
+        return HeldLocks::Two(LockId(a), LockId(b));
+    }
+    HeldLocks::Two(LockId(b), LockId(a))
 }

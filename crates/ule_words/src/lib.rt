@@ -6,6 +6,7 @@ mod holding;
 mod locks;
 mod log;
 mod pass;
+mod perform;
 mod start;
 mod view;
 

@@ -4,14 +4,17 @@ ghost use Rattle.ule_micro.specs.declared.word.Word.TheVariants.{Lock};
 ghost use Rattle.ule_micro.specs.declared.word.WordChange.TheVariants.{Block, Point};
 ghost use Rattle.ule_words.specs.Held.{is_held, value_held};
 ghost use Rattle.ule_words.specs.Rule.{thread_word};
-ghost use Rattle.ule_words.specs.Tells.{IsHolderOf, IsWordOf};
+ghost use Rattle.ule_words.specs.Tells.{CanCommit, Commits, HasCommitted, IsHolderOf, IsReady, IsWordOf};
 ghost use Rattle.ule_words.specs.Workers.{advancing, calm, releasing, taking, timed};
 
+use crate::log::Numbered;
 use crate::pass::Pass;
-use crate::view::{Board, NOW, WORDS};
+use crate::perform::perform;
+use crate::view::{Board, Deed, NOW, Place, TICKET};
 use crossbeam_utils::Backoff;
 use std::marker::Brand;
 use std::sync::Wait;
+use ule_micro::entry::Entry;
 use ule_micro::locks::LOCKS;
 use ule_micro::{Parts, Word};
 use ule_prio::{LockId, ThreadId};
@@ -154,6 +157,46 @@ impl<P: Parts> Locks<P> {
             .shared
             .fetch_add::<Brand>(&mut p.seat, NOW, k as u64);
         p.allowance -= 1;
+    }
+}
+
+impl<P: Parts> Locks<P> {
+    /// Raises the ticket by one for an event, and answers what it was.
+    fn raise<D: Deed<P::Event>>(&self, seat: &mut Place<P::Own>, e: &P::Event) -> u64
+        requires table { seat.old.table_id ≡ self.now.table.shared.table_id }
+        requires event { D.event ≡ Some e.now }
+        requires can { IsReady (P.means self.now.parts) seat.old.me e.now }
+        ensures place { (seat.new.table_id ≡ seat.old.table_id) × (seat.new.id ≡ seat.old.id) }
+        ensures done { Commits (P.means self.now.parts) e.now seat.old.me result seat.new.me }
+    {
+        self.table.shared.fetch_add::<Brand>(seat, TICKET, 1)
+    }
+
+    /// Lets an event take effect, on the pass's hand and on the values under the locks that it holds,
+    /// which are all of the event, and answers its reply. The time is the one that the pass read under
+    /// these locks. It raises the ticket, and its entry goes to the pass's list. It is one of the pass's
+    /// items.
+    pub fn commit(&self, p: &mut Pass<P::Own>, e: &P::Event) -> P::Reply
+        requires table { p.old.table ≡ self.now.table.shared.table_id }
+        requires own { (P.means self.now.parts).number p.old.own ≡ p.old.worker.number }
+        requires can { (locks : _) × (now : ℕ) × CanCommit (P.means self.now.parts) p.old.worker e.now locks now }
+        ensures { HasCommitted (P.means self.now.parts) p.old e.now result p.new }
+    {
+        let number = self.raise::<Brand>(&mut p.seat, e) + 1;
+        let locks = p.holding.locks();
+        let reply = perform(&self.parts, &mut p.own, &mut p.holding, e, p.time);
+        p.log.push(Numbered {
+            number,
+            entry: Entry {
+                worker: p.number,
+                locks,
+                now: p.time,
+                event: *e,
+                reply,
+            },
+        });
+        p.allowance -= 1;
+        reply
     }
 }
 

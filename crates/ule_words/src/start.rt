@@ -57,13 +57,13 @@ fn first_slots<P: Parts>(alloc: Global, parts: &P) -> Result<Vec<Option<P::Value
 }
 
 /// The words of the locks and threads, the ticket and now.
-fn first_words<P: Parts>(parts: &P) -> [u64; 283]
+fn first_words<P: Parts>(parts: &P) -> [u64; WORDS]
     ensures { AreFirstWords (P.means parts.now) result }
 {
     let mut words = [0; WORDS];
     let mut t = 0;
-    while t < 256 {
-        words[25 + t] = parts.word_at_start(ThreadId(t as u8)).0 as u64 + 1;
+    while t < THREADS as usize {
+        words[LOCKS as usize + t] = parts.word_at_start(ThreadId(t as u8)).0 as u64 + 1;
         t += 1;
     }
     words[NOW] = 20000;

@@ -73,6 +73,19 @@ impl<H, G, E, R> Split<View<H, G, E, R>> for Deals {
     ghost right = { λ v. first_of v };
 }
 
+/// The event that the ticket is raised for. It is picked at each call.
+pub(crate) trait Deed<E> {
+    ghost use Rattle.std.specs.Prelude.{Option};
+
+    ghost event: { Option E };
+}
+
+impl<E> Deed<E> for Brand {
+    ghost use Rattle.std.specs.Prelude.{None};
+
+    ghost event = { None };
+}
+
 /// A seat of a worker.
 pub(crate) type Place<O: OwnPart> = Seat<
     Option<O::Value>,
