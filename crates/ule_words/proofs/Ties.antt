@@ -183,3 +183,8 @@ module _ {H G E R : Type 0} where
   pub advanced_tied : (w left time k : ℕ) (h : H) (holding : Holding G) (log : LogState (Numbered E R)) (me me' : Me (Option G) (View H G E R)) (t : IsTied w left time h holding log me)
       → me' ≡ (one (advancing t.worker k), slots_out t.worker.held) → IsTied w (left - 1) time h holding log me'
   advanced_tied w left time k h holding log me me' t now = record { worker = advancing t.worker k; view = now; number = t.number; hand = t.hand; allowance = ap (λ z. z - 1) t.allowance; time = λ r e. absurd (none-some r e); held = t.held; log = t.log; room = (let z = t.room in omega arith); order = t.order; apart = t.apart; low = t.low }
+
+module _ {H G E R : Type 0} where
+  -- a pass with the same hand
+  pub hand_tied : (w left time : ℕ) (h h' : H) (holding : Holding G) (log : LogState (Numbered E R)) (me : Me (Option G) (View H G E R)) → IsTied w left time h holding log me → h' ≡ h → IsTied w left time h' holding log me
+  hand_tied w left time h h' holding log me t same = subst (λ x. IsTied w left time x holding log me) (sym same) t

@@ -4,3 +4,4 @@ pub mod Rule
 pub mod Passes
 pub mod Tells
 pub mod Starts
+pub mod Programs

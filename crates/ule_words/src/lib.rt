@@ -7,6 +7,7 @@ mod locks;
 mod log;
 mod pass;
 mod perform;
+mod programs;
 mod start;
 mod view;
 
