@@ -20,6 +20,7 @@ use ule_micro::{Parts, Word};
 use ule_prio::{LockId, ThreadId};
 
 /// The lock words, the threads' words, the ticket, now, and the values of the locks that are free.
+#[derive(Drop)]
 pub struct Locks<P: Parts> {
     pub(crate) parts: P,
     pub(crate) table: Board<P>,
