@@ -3,5 +3,6 @@
 #![tactic(auto)]
 
 pub mod nap;
+pub mod shift;
 #[cfg(test)]
 mod tests;

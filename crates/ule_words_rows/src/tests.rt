@@ -1,4 +1,4 @@
-use crate::nap;
+use crate::{nap, shift};
 use std::test::*;
 use ule_prio::LockId;
 use ule_words::{allowance, worker};
@@ -22,5 +22,13 @@ fn blocks_behind_the_commit(rt: HostRuntime) -> Result<(), Fail> {
     assert_eq!(rt; (worker(&s.second), allowance(&s.second)), (1, 2));
     let read = nap::doze(&s.locks, &mut s.first, &mut s.second);
     assert_eq!(rt; read, Some([Some(0), None]));
+    Ok(())
+}
+
+#[test]
+fn workers_run_at_once(rt: HostRuntime) -> Result<(), Fail> {
+    let (named, left) = shift::race(&rt, rt.alloc())?;
+    assert_eq!(rt; named, Some(0));
+    assert_eq!(rt; left.as_slice(), [12, 14].as_slice());
     Ok(())
 }
