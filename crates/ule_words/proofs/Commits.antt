@@ -1,24 +1,24 @@
 -- A commit keeps the rule.
-use Rattle.std.proofs.Common.{◌≡◌, ◌≢◌, ◌⊎◌, ℕ, zero, suc, ◌+◌, ◌-◌, ◌<◌, ◌≤◌, ◌%◌, ◌^◌, Bool, true, false, List, [], ◌∷◌, length, map, set, refl, sym, ap, ◌∙◌, subst, subst₂, ⊎_elim, arith, true≢false, get_or, eq-eqb, ne_eqb, mod-eq_of_lt, length-set}
-use Rattle.std.specs.Prelude.{Option, Some, None, is_some, slice_get, ◌==◌, if◌then◌else◌}
-use Rattle.std.proofs.lemmas.Option.{none-some, same_Some}
-use mathlib.Core.Option.{some, none}
+use Rattle.std.proofs.Common.{◌≡◌, ◌≢◌, ℕ, zero, suc, ◌+◌, ◌-◌, ◌<◌, ◌≤◌, ◌%◌, ◌^◌, Bool, true, false, List, [], ◌∷◌, length, set, refl, sym, ap, ◌∙◌, subst, subst₂, ⊎_elim, arith, get_or, eq-eqb, ne_eqb, mod-eq_of_lt}
+use Rattle.std.specs.Prelude.{Option, Some, None, slice_get, ◌==◌, if◌then◌else◌}
+use Rattle.std.proofs.lemmas.Option.{same_Some}
+use mathlib.Core.Option.{some}
 use lib.ListN.{get_elem?}
 use Rattle.atomic_table.specs.Table.{State, Me, keeps, stepped, carried_after, Allows}
 use Rattle.ule_micro.specs.declared.entry.Entry.{Entry}
 use Rattle.ule_micro.specs.declared.entry.HeldLocks.{HeldLocks}
 use Rattle.ule_micro.specs.Means.{Means, Needs, one as one_lock, both, lock_of}
 use Rattle.ule_micro.specs.Standings.{Acted}
-use Rattle.ule_micro.specs.Histories.{AreLocksFor, effect_on, entry_made, is_lock_among, laid_under, own_entries, values_under}
+use Rattle.ule_micro.specs.Histories.{AreLocksFor, effect_on, entry_made, is_lock_among, own_entries, values_under}
 use Rattle.ule_micro.specs.Laws.{AreInRisingOrder, AreItsLocks, AreRising, IsLawful, has_true, places}
-use Rattle.ule_micro.specs.Shared.{Agrees, CanCommit as SharedCanCommit, Shared, Stamped, committed, together, unstamped}
+use Rattle.ule_micro.specs.Shared.{CanCommit as SharedCanCommit, Shared, Stamped, committed, unstamped}
 use Rattle.ule_micro.proofs.Among.{bool_case}
 use Rattle.ule_micro.proofs.Effects.{effect_is, laid_else, stands_here, under_one}
 use Rattle.ule_micro.proofs.Lists.{get_else, get_here, something, there}
 use Rattle.ule_micro.proofs.SharedCommit.{committing_agrees, committing_may}
 use Rattle.ule_micro.proofs.SharedSteps.{put_else, put_here}
 use Rattle.ule_micro.proofs.Words.{one_holder}
-use Rattle.ule_words.specs.Held.{held_values, held_with, is_held, value_held}
+use Rattle.ule_words.specs.Held.{held_values}
 use Rattle.ule_words.specs.Workers.{KnowsItsPart, act_of, committing, entries_in, made_by, one, time_read}
 use Rattle.ule_words.specs.Rule.{IsKept, IsWorker, Shows}
 use Rattle.ule_words.specs.Tells.{CanCommit, Commits, IsReady}
@@ -33,11 +33,11 @@ use Rattle.ule_words.proofs.WordSteps.{here, its_lock}
 
 module _ {E R : Type 0} where
   -- the newest entry of a worker
-  made_here : (w : ℕ) (x : Stamped E R) (h : List (Stamped E R)) → x.entry.worker ≡ w → made_by w (x ∷ h) ≡ (x.amount, record { number = length h + 1; entry = x.entry }) ∷ made_by w h
+  pub made_here : (w : ℕ) (x : Stamped E R) (h : List (Stamped E R)) → x.entry.worker ≡ w → made_by w (x ∷ h) ≡ (x.amount, record { number = length h + 1; entry = x.entry }) ∷ made_by w h
   made_here w x h e = ap (λ b. if b then (x.amount, record { number = length h + 1; entry = x.entry }) ∷ made_by w h else made_by w h) (eq-eqb x.entry.worker w e)
 
   -- an entry of another worker
-  made_else : (w : ℕ) (x : Stamped E R) (h : List (Stamped E R)) → x.entry.worker ≢ w → made_by w (x ∷ h) ≡ made_by w h
+  pub made_else : (w : ℕ) (x : Stamped E R) (h : List (Stamped E R)) → x.entry.worker ≢ w → made_by w (x ∷ h) ≡ made_by w h
   made_else w x h n = ap (λ b. if b then (x.amount, record { number = length h + 1; entry = x.entry }) ∷ made_by w h else made_by w h) (ne_eqb x.entry.worker w n)
 
   made_entries : (b : Bool) (x : Stamped E R) (n : ℕ) (mine : List (ℕ × Numbered E R)) (own : List (Entry E R)) → entries_in mine ≡ own

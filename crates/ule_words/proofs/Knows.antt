@@ -1,6 +1,6 @@
 -- What workers know, after a step of one of them.
-use Rattle.std.proofs.Common.{◌≡◌, ◌≢◌, ℕ, zero, suc, ◌+◌, ◌-◌, ◌<◌, ◌≤◌, eqb, eq-eqb, ne_eqb, cond, List, [], ◌∷◌, ◌++◌, length, set, refl, sym, ap, ◌∙◌, subst, ⊎_elim, inl, inr, ◌⊎◌, true, arith, length-set}
-use Rattle.std.specs.Prelude.{Option, Some, None, is_some, slice_get}
+use Rattle.std.proofs.Common.{◌≡◌, ◌≢◌, ℕ, zero, suc, ◌-◌, ◌≤◌, eqb, eq-eqb, ne_eqb, cond, List, [], ◌∷◌, ◌++◌, length, set, refl, sym, ap, ◌∙◌, subst, ⊎_elim, inl, inr, ◌⊎◌, true, arith, length-set}
+use Rattle.std.specs.Prelude.{Some, is_some, slice_get}
 use Rattle.std.proofs.lemmas.Option.{none-some, same_Some}
 use lib.ListN.{get_elem?}
 use mathlib.Core.Option.{some, some-injective, some-ne-none}
@@ -10,7 +10,6 @@ use Rattle.ule_micro.specs.Shared.{Shared}
 use Rattle.ule_words.specs.Held.{is_held}
 use Rattle.ule_words.specs.Workers.{KnowsItsPart, made_by, one}
 use Rattle.ule_words.specs.Rule.{IsWorker, ShowsWorkers}
-use Rattle.ule_words.specs.Tells.{first_of, rest_of}
 use Rattle.ule_words.specs.declared.view.View.{View}
 use Rattle.ule_words.specs.declared.view.Worker.{Worker}
 

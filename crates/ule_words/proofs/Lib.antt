@@ -8,5 +8,6 @@ pub mod TimeSteps
 pub mod Opens
 pub mod Grips
 pub mod Commits
+pub mod Numbering
 pub mod Ties
 pub mod Performs

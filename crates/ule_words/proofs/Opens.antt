@@ -1,24 +1,23 @@
 -- The rule at the start, and when a seat gives a worker to a new seat.
-use Rattle.std.proofs.Common.{◌≡◌, ◌≢◌, ℕ, zero, suc, ◌+◌, ◌<◌, ◌≤◌, Bool, true, false, List, [], ◌∷◌, ◌++◌, length, map, take, drop, set, refl, sym, ap, ◌∙◌, subst, inl, arith, true≢false, length-append}
+use Rattle.std.proofs.Common.{◌≡◌, ℕ, zero, suc, ◌+◌, ◌<◌, Bool, true, false, List, [], ◌∷◌, ◌++◌, length, map, drop, refl, sym, ap, ◌∙◌, subst, inl, arith, true≢false, length-append}
 use Rattle.std.specs.Prelude.{Option, Some, None, slice_get}
 use Rattle.std.proofs.lemmas.Option.{none-some, same_Some}
 use mathlib.Core.Option.{some}
-use mathlib.Core.Option as maybe
 use lib.ListN.{get_elem?, length-map}
-use Rattle.atomic_table.specs.Table.{State, Splits, opening}
+use Rattle.atomic_table.specs.Table.{Splits, opening}
 use Rattle.ule_micro.specs.declared.word.Word.TheVariants.{Lock}
 use Rattle.ule_micro.specs.Agreement.{under}
 use Rattle.ule_micro.specs.Means.{Means, budgets, carried_by}
 use Rattle.ule_micro.specs.Laws.{IsLawful}
-use Rattle.ule_micro.specs.Shared.{Agrees, Shared, together}
+use Rattle.ule_micro.specs.Shared.{Agrees, together}
 use Rattle.ule_micro.proofs.Lists.{get_map, map_get, there}
 use Rattle.ule_micro.proofs.Numbers.{budgets_next}
 use Rattle.ule_micro.proofs.Starting.{snoc_get, snoc_last}
 use Rattle.atomic_table.specs.Seated.{TableId}
 use mathlib.Core.Logic.{dite}
 use native.Mathlib.Decide.{ℕ_discrete}
-use Rattle.ule_words.specs.Workers.{KnowsItsPart, first_worker, first_workers, one}
-use Rattle.ule_words.specs.Rule.{IsWorker, Shows, first_state, first_view}
+use Rattle.ule_words.specs.Workers.{KnowsItsPart, first_worker, first_workers}
+use Rattle.ule_words.specs.Rule.{Shows, first_state, first_view}
 use Rattle.ule_words.specs.Passes.{PassState}
 use Rattle.ule_words.specs.Starts.{AreFirstPasses, AreFirstWords}
 use Rattle.ule_words.specs.Tells.{first_of, rest_of}

@@ -1,16 +1,14 @@
 -- What lies in a pass after an event was performed, and what its seat knows.
-use Rattle.std.proofs.Common.{◌≡◌, ◌≢◌, ℕ, ◌+◌, ◌-◌, ◌<◌, ◌≤◌, true, List, [], ◌∷◌, ◌++◌, length, map, reverse, refl, sym, ap, ◌∙◌, subst, arith, length-append}
+use Rattle.std.proofs.Common.{◌≡◌, ℕ, ◌+◌, ◌-◌, ◌<◌, ◌≤◌, List, [], ◌∷◌, ◌++◌, length, map, refl, sym, ap, ◌∙◌, subst, arith, length-append}
 use Rattle.std.specs.Prelude.{Option, Some, None, is_some}
-use Rattle.std.proofs.lemmas.Option.{none-some, same_Some}
+use Rattle.std.proofs.lemmas.Option.{none-some}
 use Rattle.std.proofs.lemmas.List.{reverse-append}
 use Rattle.atomic_table.specs.Table.{Me}
-use Rattle.ule_micro.specs.declared.entry.Entry.{Entry}
 use Rattle.ule_micro.specs.declared.entry.HeldLocks.{HeldLocks}
 use Rattle.ule_micro.specs.Histories.{entry_made}
 use Rattle.ule_micro.specs.Means.{Means}
-use Rattle.ule_micro.specs.Standings.{Acted}
 use Rattle.ule_words.specs.Held.{held_values, held_with, is_held, locks_of, value_held}
-use Rattle.ule_words.specs.Passes.{IsTied, LogState, in_field, in_fields, slots_out}
+use Rattle.ule_words.specs.Passes.{IsTied, LogState, in_field, in_fields}
 use Rattle.ule_words.specs.Workers.{act_of, committing, numbered_in, one}
 use Rattle.ule_words.specs.Tells.{CanCommit, IsReady}
 use Rattle.ule_words.specs.declared.holding.Held.{Held}

@@ -1,27 +1,26 @@
 -- What each step on the word of now keeps.
-use Rattle.std.proofs.Common.{◌≡◌, ◌≢◌, ℕ, zero, suc, ◌+◌, ◌-◌, ◌*◌, ◌<◌, ◌≤◌, ◌%◌, ◌^◌, Bool, true, false, List, [], ◌∷◌, length, set, refl, sym, ap, ◌∙◌, subst, arith, true≢false, get_or, mod-eq_of_lt}
+use Rattle.std.proofs.Common.{◌≡◌, ℕ, zero, suc, ◌+◌, ◌-◌, ◌<◌, ◌≤◌, ◌%◌, ◌^◌, List, ◌∷◌, set, refl, sym, ap, ◌∙◌, subst, arith, true≢false, get_or, mod-eq_of_lt}
 use Rattle.std.specs.Prelude.{Option, Some, None, slice_get}
-use Rattle.std.proofs.lemmas.Option.{none-some, same_Some}
+use Rattle.std.proofs.lemmas.Option.{same_Some}
 use mathlib.Core.Option.{some}
 use lib.ListN.{get_elem?}
 use Rattle.atomic_table.specs.Table.{State, keeps, stepped, Allows}
 use Rattle.ule_micro.specs.declared.entry.HeldLocks.{HeldLocks}
 use Rattle.ule_micro.specs.Means.{Means}
-use Rattle.ule_micro.specs.Histories.{is_lock_among}
-use Rattle.ule_micro.specs.Shared.{Shared, TimeRead, now_advanced, now_read, together}
+use Rattle.ule_micro.specs.Shared.{Shared, TimeRead, now_advanced, now_read}
 use Rattle.ule_micro.proofs.Among.{first_among}
 use Rattle.ule_micro.proofs.Lists.{get_else, get_here, there}
 use Rattle.ule_micro.proofs.SharedSteps.{advancing_agrees, put_else, put_here, reading_agrees}
-use Rattle.ule_words.specs.Held.{is_held, locks_of}
-use Rattle.ule_words.specs.Workers.{KnowsItsPart, advancing, one, read_under, time_read, timed}
+use Rattle.ule_words.specs.Held.{locks_of}
+use Rattle.ule_words.specs.Workers.{advancing, one, read_under, timed}
 use Rattle.ule_words.specs.Rule.{IsWorker, Shows}
 use Rattle.ule_words.specs.Tells.{Advances, Times}
 use Rattle.ule_words.specs.declared.view.View.{View}
 use Rattle.ule_words.specs.declared.view.Worker.{Worker}
 use Rattle.ule_words.proofs.Helds.{locks_held, no_locks}
 use Rattle.ule_words.proofs.Knows.{knows_kept, one_injective, workers_after}
-use Rattle.ule_words.proofs.Shown.{shows_now, together_set, together_small, together_at}
-use Rattle.ule_words.proofs.WordSteps.{Board, here, its_lock}
+use Rattle.ule_words.proofs.Shown.{shows_now, together_set, together_small}
+use Rattle.ule_words.proofs.WordSteps.{here, its_lock}
 
 -- what holds of each advance holds of one more
 each_more : (k : ℕ) (xs : List ℕ) → (1 ≤ k) × (k ≤ 1000000) → ((j x : ℕ) → slice_get xs j ≡ Some x → (1 ≤ x) × (x ≤ 1000000)) → (j x : ℕ) → slice_get (k ∷ xs) j ≡ Some x → (1 ≤ x) × (x ≤ 1000000)

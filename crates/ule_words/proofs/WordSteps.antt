@@ -1,28 +1,25 @@
 -- What each step on a lock's word or a thread's word keeps.
-use Rattle.std.proofs.Common.{◌≡◌, ◌≢◌, ℕ, ◌+◌, ◌-◌, ◌<◌, ◌≤◌, Bool, true, false, eqb, List, [], ◌∷◌, length, set, refl, sym, ap, ◌∙◌, subst, arith, true≢false, get_or, length-set}
+use Rattle.std.proofs.Common.{◌≡◌, ℕ, ◌+◌, ◌<◌, Bool, true, false, eqb, List, ◌∷◌, length, set, refl, sym, ap, ◌∙◌, subst, arith, true≢false, get_or, length-set}
 use Rattle.std.specs.Prelude.{Option, Some, None, is_some, slice_get}
-use Rattle.std.proofs.lemmas.Option.{none-some, same_Some}
+use Rattle.std.proofs.lemmas.Option.{none-some}
 use mathlib.Core.Option.{some, none}
-use mathlib.Core.Option as maybe
 use mathlib.Core.Logic.{dite}
 use native.Mathlib.Decide.{ℕ_discrete}
 use lib.ListN.{get_elem?}
 use lib.Seq.{set-get_or}
 use prog.Atomic.{either}
-use Rattle.atomic_table.specs.Table.{State, Me, Act, keeps, takes, gives, stepped, carried_after, Valid, Allows}
+use Rattle.atomic_table.specs.Table.{State, Act, keeps, takes, gives, stepped, carried_after, Valid, Allows}
 use Rattle.atomic_table.proofs.Lists.{set_here, set_else, set_again, exchanged}
 use Rattle.ule_micro.specs.declared.word.Word.{Word}
 use Rattle.ule_micro.specs.declared.word.Word.TheVariants.{Lock, Blocked}
-use Rattle.ule_micro.specs.declared.word.WordChange.{WordChange}
 use Rattle.ule_micro.specs.declared.word.WordChange.TheVariants.{Block, Point}
 use Rattle.ule_micro.specs.Means.{Means}
-use Rattle.ule_micro.specs.Shared.{Agrees, Shared, lock_released, lock_taken, updated, with_hold, word_stored}
-use Rattle.ule_micro.proofs.Lists.{one_there, something, there}
+use Rattle.ule_micro.specs.Shared.{Agrees, Shared, lock_released, lock_taken, with_hold, word_stored}
+use Rattle.ule_micro.proofs.Lists.{one_there, something}
 use Rattle.ule_micro.proofs.SharedSteps.{blocking_agrees, hold_else, hold_here, hold_more, hold_other, pointing_agrees, put_else, put_here, releasing_agrees, taking_agrees}
-use Rattle.ule_micro.proofs.Words.{one_holder}
 use Rattle.ule_words.specs.Held.{held_but, is_held, value_held}
 use Rattle.ule_words.specs.Workers.{KnowsItsPart, calm, one, releasing, taking}
-use Rattle.ule_words.specs.Rule.{IsKept, IsWorker, Shows, lock_word, thread_word}
+use Rattle.ule_words.specs.Rule.{IsKept, IsWorker, Shows, thread_word}
 use Rattle.ule_words.specs.Tells.{Calms, IsHolderOf, Reads, Releases, Takes}
 use Rattle.ule_words.specs.declared.view.View.{View}
 use Rattle.ule_words.specs.declared.view.Worker.{Worker}

@@ -5,3 +5,4 @@ pub mod Passes
 pub mod Tells
 pub mod Starts
 pub mod Programs
+pub mod Theorem

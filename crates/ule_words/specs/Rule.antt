@@ -1,5 +1,5 @@
 -- What holds between any two steps: the table's words, the values at home and what the passes know show a state that agrees.
-use Rattle.std.specs.Prelude.{◌≡◌, ℕ, ◌+◌, ◌*◌, ◌≤◌, ◌<◌, true, false, List, [], ◌∷◌, length, map, Option, Some, None, slice_get, slice_index}
+use Rattle.std.specs.Prelude.{◌≡◌, ℕ, ◌+◌, ◌≤◌, ◌<◌, true, false, List, [], length, map, Option, Some, None, slice_get, slice_index}
 use lib.ListN.{get_elem?}
 use mathlib.Core.Option.{some, none}
 use mathlib.Core.Option as maybe

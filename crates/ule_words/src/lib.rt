@@ -3,6 +3,7 @@
 #![tactic(auto)]
 
 mod holding;
+pub mod laws;
 mod locks;
 mod log;
 mod pass;

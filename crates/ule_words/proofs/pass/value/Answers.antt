@@ -1,5 +1,4 @@
-use Rattle.std.proofs.Common.{◌≡◌, ◌∙◌, true, ap, sym, subst}
-use Rattle.std.specs.Prelude.{Some}
+use Rattle.std.proofs.Common.{◌∙◌, ap, sym}
 use Rattle.ule_words.specs.Held.{is_held, value_held}
 use Rattle.ule_words.proofs.Ties.{worker_is}
 use Rattle.ule_words.proofs.pass.value.Goals as goal

@@ -1,6 +1,5 @@
-use Rattle.std.proofs.Common.{◌≡◌, ◌≤◌, ◌+◌, length, sym, refl, subst, ap, ◌∙◌, arith}
+use Rattle.std.proofs.Common.{◌≤◌, ◌+◌, length, sym, refl, subst, arith}
 use Rattle.std.proofs.lemmas.Option.{none-some}
-use Rattle.ule_words.specs.Passes.{pass_state_of}
 use Rattle.ule_words.specs.Workers.{first_worker}
 use Rattle.ule_words.proofs.start.first_pass.Goals as goal
 

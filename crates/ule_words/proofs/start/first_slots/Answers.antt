@@ -1,5 +1,5 @@
-use Rattle.std.proofs.Common.{rules, ◌≡◌, ◌≤◌, ◌+◌, length, map, take, ◌++◌, ◌∷◌, [], ap, sym, subst, ◌∙◌, arith}
-use Rattle.std.specs.Prelude.{Some, slice_get}
+use Rattle.std.proofs.Common.{rules, ◌≡◌, length, map, take, ◌++◌, ◌∷◌, [], ap, sym, ◌∙◌, arith}
+use Rattle.std.specs.Prelude.{Some}
 use Rattle.ule_words.proofs.Taken.{map_end, take_on, take_whole}
 use Rattle.ule_words.proofs.start.first_slots.Goals as goal
 

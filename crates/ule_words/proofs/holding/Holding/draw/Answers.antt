@@ -1,7 +1,7 @@
 use Rattle.std.proofs.Common.{◌∷◌, ◌++◌, ◌∙◌, ap, sym, refl, append-nil}
 use Rattle.std.specs.Prelude.{None}
 use Rattle.ule_words.specs.Passes.{in_field, slots_out}
-use Rattle.ule_words.proofs.Ties.{drawn_last, drawn_first, last_value}
+use Rattle.ule_words.proofs.Ties.{drawn_last, drawn_first}
 use Rattle.atomic_table.specs.Table.{turned}
 use Rattle.ule_words.proofs.holding.Holding.draw.Goals as goal
 

@@ -1,7 +1,3 @@
-use Rattle.std.proofs.Common.{◌≡◌, ◌<◌, ◌++◌, ◌∷◌, [], ◌∙◌, ap, sym}
-use Rattle.std.specs.Prelude.{Some}
-use Rattle.ule_words.specs.Held.{value_held}
-use Rattle.ule_words.specs.Passes.{in_field}
 use Rattle.ule_words.proofs.Performs.{first_low, last_low}
 use Rattle.ule_words.proofs.holding.Holding.locks.Goals as goal
 

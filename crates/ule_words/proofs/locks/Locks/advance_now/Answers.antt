@@ -1,7 +1,6 @@
-use Rattle.std.proofs.Common.{rules, ◌≡◌, ◌<◌, ◌-◌, ◌∙◌, ap, sym, subst, arith}
+use Rattle.std.proofs.Common.{rules, ◌<◌, ◌∙◌, ap, sym, subst, arith}
 use Rattle.ule_words.proofs.TimeSteps.{advance_allows}
 use Rattle.ule_words.proofs.Ties.{advanced_tied, state_after, worker_is}
-use Rattle.ule_words.specs.Passes.{slots_out}
 use Rattle.ule_words.specs.Workers.{advancing, one}
 use Rattle.ule_words.proofs.locks.Locks.advance_now.Goals as goal
 

@@ -1,4 +1,4 @@
-use Rattle.std.proofs.Common.{◌≡◌, ◌≤◌, ◌∷◌, ◌∙◌, ap, sym, subst, subst₂}
+use Rattle.std.proofs.Common.{◌≤◌, ◌∷◌, ◌∙◌, ap, sym, subst, subst₂}
 use Rattle.std.specs.Prelude.{None}
 use Rattle.ule_micro.specs.Standings.{asks}
 use Rattle.ule_words.specs.Workers.{entries_in}

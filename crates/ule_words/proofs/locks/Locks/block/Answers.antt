@@ -1,4 +1,4 @@
-use Rattle.std.proofs.Common.{rules, ◌≡◌, ◌<◌, ◌∙◌, ap, sym, arith}
+use Rattle.std.proofs.Common.{rules, ◌≡◌, ◌∙◌, ap, sym, arith}
 use Rattle.std.specs.Prelude.{Some}
 use Rattle.ule_micro.specs.declared.word.WordChange.TheVariants.{Block}
 use Rattle.ule_words.proofs.WordSteps.{block_allows}

@@ -1,4 +1,4 @@
-use Rattle.std.proofs.Common.{rules, ◌<◌, sym, subst, arith}
+use Rattle.std.proofs.Common.{rules, sym, subst, arith}
 use Rattle.ule_words.specs.Tells.{Commits, IsReady}
 use Rattle.ule_words.proofs.Commits.{picked_allows}
 use Rattle.ule_words.proofs.locks.Locks.raise.Goals as goal

@@ -1,7 +1,6 @@
-use Rattle.std.proofs.Common.{rules, ◌≡◌, ◌<◌, ◌∙◌, ap, sym, arith}
+use Rattle.std.proofs.Common.{rules, ◌∙◌, ap, sym, arith}
 use Rattle.ule_words.proofs.TimeSteps.{now_allows}
 use Rattle.ule_words.proofs.Ties.{state_after, timed_tied, worker_is}
-use Rattle.ule_words.specs.Passes.{slots_out}
 use Rattle.ule_words.specs.Workers.{one, timed}
 use Rattle.ule_words.proofs.locks.Locks.read_now.Goals as goal
 

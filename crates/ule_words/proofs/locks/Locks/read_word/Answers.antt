@@ -1,5 +1,4 @@
-use Rattle.std.proofs.Common.{rules, ◌≡◌, ◌∙◌, ◌<◌, ◌≤◌, ap, sym, subst, refl, true, arith}
-use Rattle.ule_micro.specs.Means.{Means}
+use Rattle.std.proofs.Common.{rules, ◌∙◌, ap, sym, subst, arith}
 use Rattle.ule_words.specs.Tells.{IsWordOf}
 use Rattle.ule_words.specs.Passes.{pass_state_of}
 use Rattle.ule_words.proofs.Reading.{found_word, word_found, stands_held}

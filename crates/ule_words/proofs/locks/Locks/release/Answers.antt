@@ -1,7 +1,7 @@
-use Rattle.std.proofs.Common.{rules, ◌≡◌, ◌∙◌, ap, sym, arith, ◌∷◌}
-use Rattle.std.specs.Prelude.{None, Some}
+use Rattle.std.proofs.Common.{rules, ◌∙◌, ap, sym, arith, ◌∷◌}
+use Rattle.std.specs.Prelude.{None}
 use Rattle.ule_words.specs.Passes.{slots_out}
-use Rattle.ule_words.specs.Held.{held_but, is_held, value_held}
+use Rattle.ule_words.specs.Held.{is_held, value_held}
 use Rattle.ule_words.specs.Workers.{one, releasing}
 use Rattle.atomic_table.specs.Table.{rest}
 use Rattle.ule_words.proofs.WordSteps.{release_allows}

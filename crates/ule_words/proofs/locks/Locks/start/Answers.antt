@@ -1,4 +1,4 @@
-use Rattle.std.proofs.Common.{rules, ◌≡◌, ◌≤◌, ◌<◌, ◌+◌, suc, map, drop, length, List, ◌++◌, ◌∷◌, [], ap, sym, refl, subst, subst₂, ◌∙◌, arith}
+use Rattle.std.proofs.Common.{rules, ◌≡◌, ◌+◌, suc, drop, length, List, [], ap, sym, refl, subst, subst₂, ◌∙◌, arith}
 use Rattle.std.specs.Prelude.{Some}
 use lib.ListN.{length-map}
 use Rattle.atomic_table.specs.Table.{opening, Splits}

@@ -1,4 +1,4 @@
-use Rattle.std.proofs.Common.{◌≡◌, ◌≤◌, ◌-◌, ℕ, [], drop}
+use Rattle.std.proofs.Common.{◌≡◌, ◌≤◌, ◌-◌, [], drop}
 use Rattle.std.specs.Prelude.{vec_len, vec_capacity}
 use Rattle.ule_words.specs.Starts.{AreFirstPasses}
 use Rattle.ule_words.specs.Workers.{first_workers}

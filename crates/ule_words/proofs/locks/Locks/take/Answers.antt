@@ -1,5 +1,4 @@
-use Rattle.std.proofs.Common.{◌∙◌, ap}
-use Rattle.ule_words.specs.Workers.{taking}
+use Rattle.std.proofs.Common.{◌∙◌}
 use Rattle.ule_words.proofs.Ties.{taken_same}
 use Rattle.ule_words.proofs.locks.Locks.take.Goals as goal
 

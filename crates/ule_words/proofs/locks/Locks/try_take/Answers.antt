@@ -1,4 +1,4 @@
-use Rattle.std.proofs.Common.{rules, ◌≡◌, ◌≢◌, ◌<◌, ◌+◌, ◌-◌, ℕ, ◌∙◌, ap, sym, refl, subst, arith, ◌∷◌, false, length}
+use Rattle.std.proofs.Common.{rules, ◌≡◌, ◌<◌, ◌-◌, ◌∙◌, ap, sym, refl, subst, arith, ◌∷◌, length}
 use Rattle.std.specs.Prelude.{Some, is_some}
 use Rattle.std.proofs.lemmas.Option.{same_Some}
 use Rattle.ule_words.proofs.Reading.{busy_tells, holder_other}
