@@ -1,0 +1,13 @@
+pub mod Taken
+pub mod Helds
+pub mod Knows
+pub mod Shown
+pub mod Reading
+pub mod WordSteps
+pub mod TimeSteps
+pub mod Opens
+pub mod Grips
+pub mod Commits
+pub mod Numbering
+pub mod Ties
+pub mod Performs
