@@ -5,3 +5,6 @@ pub mod EventRows
 pub mod ReplyRows
 pub mod PlaceRows
 pub mod FinalRows
+pub mod Lines
+pub mod Parted
+pub mod ReadingRows

@@ -6,3 +6,12 @@ pub mod EventText
 pub mod ReplyText
 pub mod FinalText
 pub mod Trace
+pub mod Parts
+pub mod PartsLeft
+pub mod Fields
+pub mod PlaceForm
+pub mod EventForm
+pub mod ReplyForm
+pub mod LineForm
+pub mod Reading
+pub mod ReadingView
