@@ -11,7 +11,7 @@ use Rattle.std.proofs.lemmas.Grind.{flat_map-append}
 use Rattle.ule_prio.specs.Class.{is_within}
 use Rattle.ule_search.specs.Jitter.{stepped_word}
 use Rattle.ule_types.specs.Commands.{greatest_of, forked_by, is_among, is_command}
-use Rattle.ule_types.specs.Form.{default_settings}
+use Rattle.ule_types.specs.Defaults.{default_settings}
 use Rattle.ule_types.specs.Rules.{KeepsRules, budget_from, declared_ids, forked_in_all, is_distinct}
 use Rattle.ule_types.specs.declared.command.Command.{Command}
 use Rattle.ule_types.specs.declared.command.Command.TheVariants as command
