@@ -288,7 +288,8 @@ module _ (ids : List ℕ) (worker : ℕ) (t : Tree) (seat : IsSeat worker t) (no
       subst (λ x. GoesOnAs ids worker t now 0 (hatched_by x) (hand_by_word (handling x) (change_of x r) (held_at course)) course reached) same
       (went_on ids worker t now course reached 0 (hatched_by f) (held_at course) (hand_by_word (handling f) (change_of f r) (held_at course)) (record own { stage = Gives f next })
       (most (told_at reached)) orderly
-      (told_leads ids worker t now (hand_by_word (handling f) (change_of f r) (held_at course)) (told_at reached) told.come (after_goes_on next r now (record own { stage = Gives f next })).1 told.hatches
+      (told_leads ids worker t now (hand_by_word (handling f) (change_of f r) (held_at course)) (told_at reached) told.come
+      (after_goes_on next r now (record own { stage = Gives f next })).1 told.hatches
       (told.hand ∙ ap (hand_by_word (handling f) (change_of f r)) orderly.leads.hand))
       (omega (arith, told.fewer)) refl refl)
 
@@ -368,7 +369,8 @@ hears_at ids worker t now left amount hand ahead script own (Advances k) e r ord
 hears_at ids worker t now left amount hand ahead script own (Gives f next) e r orderly is says =
     let back : e ≡ f = cc in
     allows_any (is_among ids) own.worker own.topology.cpus next r now
-    (allowed_at (is_among ids) worker t now (most (record own { stage = Gives f next })) 0 (hatched_by f) hand own f next r orderly.leads (subst (λ x. IsReplyTo (is_among ids) t.cpus now x r) back says))
+    (allowed_at (is_among ids) worker t now (most (record own { stage = Gives f next })) 0 (hatched_by f) hand own f next r orderly.leads
+    (subst (λ x. IsReplyTo (is_among ids) t.cpus now x r) back says))
 
 -- a course that has a thread in hand has a next item
 pub held_goes_on : (u : ℕ) (course : Course) → held_at course ≡ Some u → next_step course ≡ None → ⊥

@@ -1,15 +1,13 @@
 -- A history with one entry more at its end.
-use Rattle.std.proofs.Common.{◌≡◌, ℕ, ◌≤◌, ◌==◌, true, List, [], ◌∷◌, ◌++◌, refl, ◌∙◌, ap}
-use Rattle.std.specs.List.{AllByRecursion}
+use Rattle.std.proofs.Common.{◌≡◌, ℕ, ◌==◌, List, [], ◌∷◌, ◌++◌, refl, ◌∙◌, ap}
 use Rattle.std.proofs.lemmas.Bool.{cond-true, cond-false, eq-eqb, ne_eqb}
 use Rattle.std.proofs.lemmas.List.{append-nil}
 use Rattle.std.proofs.lemmas.List.Elements.{filter-append}
 use Rattle.ule_types.specs.declared.event.Entry.{Entry}
 use Rattle.ule_model.specs.Events.{locks_of}
 use Rattle.ule_model.specs.Throughout.{HoldsThroughout}
-use Rattle.ule_model.specs.Legal.{Locked, IsEntryOf, IsReplayed, IsInTime, Timed, after_entry, entries_of, replayed, share, with_locks}
+use Rattle.ule_model.specs.Legal.{IsEntryOf, IsReplayed, Timed, after_entry, entries_of, replayed, with_locks}
 use Rattle.ule_model.specs.World.{World}
-use Rattle.ule_members.proofs.Within.{all-append}
 
 -- no entries leave a world
 pub replayed_start : (w : World) → replayed w [] ≡ w
@@ -34,19 +32,6 @@ unfolding with_locks replayed
 with_locks_push w [] e = refl
 with_locks_push w (x ∷ xs) e =
     ap (λ ys. record { entry = x; locks = locks_of w x.event } ∷ ys) (with_locks_push (after_entry w x) xs e)
-
--- what holds of each entry holds of each with its locks
-pub all-with_locks : (P : Entry → Type 0) (w : World) (es : List Entry) → AllByRecursion P es → AllByRecursion (λ x. P x.entry) (with_locks w es)
-unfolding with_locks
-all-with_locks P w [] all = tt
-all-with_locks P w (e ∷ es) all = (all.0, all-with_locks P (after_entry w e) es all.1)
-
--- entries in time stay so with one more that is no earlier than any before it
-pub IsInTime-push : (xs : List Locked) (y : Locked) → IsInTime xs → AllByRecursion (λ x. x.entry.now ≤ y.entry.now) xs → IsInTime (xs ++ y ∷ [])
-unfolding IsInTime
-IsInTime-push [] y timed early = (tt, tt)
-IsInTime-push (x ∷ xs) y timed early =
-    (all-append (λ z. share x z ≡ true → x.entry.now ≤ z.entry.now) xs (y ∷ []) timed.0 ((λ shares. early.0), tt), IsInTime-push xs y timed.1 early.1)
 
 -- one entry more of a worker's own is the last of its entries
 pub entries_of_own : (worker : ℕ) (es : List Timed) (e : Timed) → e.entry.worker ≡ worker → entries_of worker (es ++ e ∷ []) ≡ entries_of worker es ++ e ∷ []

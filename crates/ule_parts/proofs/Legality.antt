@@ -32,14 +32,16 @@ pub histories_are_of_worlds : HistoriesAreOfWorlds
 histories_are_of_worlds s h y leads = of_worlds s (start_shown s) h y leads
 
 -- what all workers advanced is within what all lists add, where each worker's is within its own
-all_within : (lists : List (List Command)) (cs : List (WorkerCourse Worker Event Reply)) → ((w : ℕ) (c : WorkerCourse Worker Event Reply) → slice_get cs w ≡ Some c → c.advanced ≤ amount_in (list_of lists w))
+all_within : (lists : List (List Command)) (cs : List (WorkerCourse Worker Event Reply))
+    → ((w : ℕ) (c : WorkerCourse Worker Event Reply) → slice_get cs w ≡ Some c → c.advanced ≤ amount_in (list_of lists w))
     → all_advanced cs ≤ amount_in_all lists
 all_within lists [] each = omega arith
 all_within [] (c ∷ cs) each = let a = each 0 c refl in let b = all_within [] cs (λ w d at. each (suc w) d at) in omega arith
 all_within (list ∷ lists) (c ∷ cs) each = let a = each 0 c refl in let b = all_within lists cs (λ w d at. each (suc w) d at) in
     let more : amount_in_all (list ∷ lists) ≡ amount_in list + amount_in_all lists = sum_by-cons amount_in list lists in omega arith
 
-module _ (s : Setup) (lists : List (List Command)) (orders : AreOrders (sched_means s) (list_of lists)) {h : List (Entry Event Reply)} {vs : List LockValue} {cs : List (WorkerCourse Worker Event Reply)}
+module _ (s : Setup) (lists : List (List Command))
+    (orders : AreOrders (sched_means s) (list_of lists)) {h : List (Entry Event Reply)} {vs : List LockValue} {cs : List (WorkerCourse Worker Event Reply)}
     (legal : LegalPlay (sched_means s) (list_of lists) h vs cs) where
   timed : IsTimed s lists h cs
   timed = play_timed s lists legal
@@ -75,7 +77,8 @@ module _ (s : Setup) (lists : List (List Command)) (orders : AreOrders (sched_me
 
   -- a worker behind the last command of its list has no next item
   finished : AreAtTheirEnds lists cs → (w : ℕ) (c : WorkerCourse Worker Event Reply) → slice_get cs w ≡ Some c → (k : IsCourseOf s lists timed.timed w c) → next_step k.course ≡ None
-  finished ends w c at k = let end = ends w c at in k.next ∙ (ap (next_at (drop c.begun (list_of lists w)) c.own.program) end.0 ∙ ap (λ script. next_of_rest script c.own.program) (drop_none (list_of lists w) c.begun end.1))
+  finished ends w c at k = let end = ends w c at in k.next ∙ (ap (next_at (drop c.begun (list_of lists w)) c.own.program) end.0 ∙ ap (λ script. next_of_rest script c.own.program)
+      (drop_none (list_of lists w) c.begun end.1))
 
   played_legally : IsPlayedLegally s lists h vs cs
   unfolding begins

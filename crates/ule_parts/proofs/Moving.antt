@@ -169,9 +169,11 @@ words_found : (x : World) (w : ℕ) (e : Event) (now t : ℕ) (c : Option words.
     → thread_of t ms ≡ Some m → thread_of t ns ≡ Some n → lock_of n.place ≡ word_after c m
 words_found x w e now t c [] ns touched words m n at_m at_n = absurd (none-some m at_m)
 words_found x w e now t c (a ∷ ms) [] touched words m n at_m at_n = absurd touched
-words_found x w e now t c (a ∷ ms) (b ∷ ns) touched words m n at_m at_n = by (is_numbered t a) at_m (ap (λ i. if i == t then Some b else thread_of t ns) (sym (touched_number x w e now a b touched.0)) ∙ at_n) (λ is_m is_n. words_found x w e now t c ms ns touched.1 words.1 m n is_m is_n)
+words_found x w e now t c (a ∷ ms) (b ∷ ns) touched words m n at_m at_n = by (is_numbered t a) at_m
+    (ap (λ i. if i == t then Some b else thread_of t ns) (sym (touched_number x w e now a b touched.0)) ∙ at_n) (λ is_m is_n. words_found x w e now t c ms ns touched.1 words.1 m n is_m is_n)
   where
-    by : (d : Bool) → (if d then Some a else thread_of t ms) ≡ Some m → (if d then Some b else thread_of t ns) ≡ Some n → (thread_of t ms ≡ Some m → thread_of t ns ≡ Some n → lock_of n.place ≡ word_after c m) → lock_of n.place ≡ word_after c m
+    by : (d : Bool) → (if d then Some a else thread_of t ms) ≡ Some m → (if d then Some b else thread_of t ns) ≡ Some n
+        → (thread_of t ms ≡ Some m → thread_of t ns ≡ Some n → lock_of n.place ≡ word_after c m) → lock_of n.place ≡ word_after c m
     by true is_m is_n rest = ap (λ (y : Member). lock_of y.place) (sym (same_Some b n is_n)) ∙ (words.0 ∙ ap (word_after c) (same_Some a m is_m))
     by false is_m is_n rest = rest is_m is_n
 
@@ -383,7 +385,8 @@ module _ (s : Setup) (w : ℕ) (e : Event) (now : ℕ) (hand : Option ThreadReco
         (cond-false (t == v) true (is_some (thread_in_hand w t x.members)) (ne_eqb t v apart));
     blocks = λ t change. let same = block_is t v change in let at : change_of e reply ≡ Some (words.block t) = is ∙ ap (λ i. Some (words.block i)) same in let dec = taken_declared t at in (
       was_under t dec at,
-      ap has_true (values_by t dec (Some (words.block t)) at ∙ ap (at_locks locks.0) (cond-true (is_numbered t (seen t dec).before) None (lock_of (seen t dec).before.place) (own_number t dec))) ∙ none_at locks.0,
+      ap has_true (values_by t dec (Some (words.block t)) at ∙ ap (at_locks locks.0) (cond-true (is_numbered t (seen t dec).before) None (lock_of (seen t dec).before.place)
+          (own_number t dec))) ∙ none_at locks.0,
       hand_after t ∙ (own t (Some (words.block t)) at ∙ cond-true (t == t) true (is_some (thread_in_hand w t x.members)) (eq-eqb t t refl)),
     );
     points = λ t k change. absurd (block_point t v k change);

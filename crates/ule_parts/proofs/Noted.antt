@@ -62,7 +62,8 @@ listed (Two a b) l among =
     (or_cases (a == l) ((b == l) || false) among)
 
 -- a place that an event reaches lies under one of its locks, or is the worker's hand
-pub reached_place : (w : World) (worker : ℕ) (e : Event) (held : HeldLocks) (p : Place) → locks_of w e ≡ lock_list held → is_reached w worker e p ≡ true → IsUnderOneOf held p ⊎ (hand_of p ≡ Some worker)
+pub reached_place : (w : World) (worker : ℕ) (e : Event) (held : HeldLocks) (p : Place) → locks_of w e ≡ lock_list held → is_reached w worker e p ≡ true
+    → IsUnderOneOf held p ⊎ (hand_of p ≡ Some worker)
 reached_place w worker e held p locks here = ⊎_elim
     (λ (under : list_any (λ k. is_under k p) (lock_list held) ≡ true). let z = among_where_under p (lock_list held) under in inl (z.0, listed held z.0 z.1.1, z.1.0))
     (λ (own : is_hand_of worker p ≡ true). inr (number_from_test worker (hand_of p) own))

@@ -41,8 +41,10 @@ as_many_charged worker cpus (c ∷ cs) some = let a = one_charged worker cpus c 
 
 total_is : (worker cpus : ℕ) (cs : List Command) → total_charge (λ c. greatest_of c worker cpus) cs ≡ sum (map (λ c. greatest_of c worker cpus) cs)
 total_is worker cpus [] = refl
-total_is worker cpus (c ∷ cs) = let a = total_is worker cpus cs in let b : sum (map (λ c. greatest_of c worker cpus) (c ∷ cs)) ≡ greatest_of c worker cpus + sum (map (λ c. greatest_of c worker cpus) cs) =
-    sum-map (λ c. greatest_of c worker cpus) (c ∷ cs) ∙ (sum_by-cons (λ c. greatest_of c worker cpus) c cs ∙ ap (λ i. greatest_of c worker cpus + i) (sym (sum-map (λ c. greatest_of c worker cpus) cs))) in omega arith
+total_is worker cpus (c ∷ cs) = let a = total_is worker cpus cs in let b : sum (map (λ c. greatest_of c worker cpus) (c ∷ cs)) ≡ greatest_of c worker cpus + sum
+    (map (λ c. greatest_of c worker cpus) cs) =
+    sum-map (λ c. greatest_of c worker cpus) (c ∷ cs) ∙ (sum_by-cons (λ c. greatest_of c worker cpus) c cs ∙ ap (λ i. greatest_of c worker cpus + i)
+    (sym (sum-map (λ c. greatest_of c worker cpus) cs))) in omega arith
 
 -- the budgets of one worker and of those behind it
 budgets_front : (b : ℕ → ℕ) (n : ℕ) → budgets b (suc n) ≡ b 0 + budgets (λ i. b (suc i)) n
@@ -59,16 +61,19 @@ within_budget cpus k (suc m) [] = none (suc m)
     none (suc j) = let a = none j in omega arith
 within_budget cpus k (suc m) (script ∷ scripts) = let first = budgets_front (λ i. total_charge (λ c. greatest_of c (k + i) cpus) (slice_index_or (script ∷ scripts) i [])) m in
     let z : k + 0 ≡ k = omega arith in
-    let one : total_charge (λ c. greatest_of c (k + 0) cpus) script ≡ sum (map (λ c. greatest_of c k cpus) script) = ap (λ j. total_charge (λ c. greatest_of c j cpus) script) z ∙ total_is k cpus script in
+    let one : total_charge (λ c. greatest_of c (k + 0) cpus) script ≡ sum (map (λ c. greatest_of c k cpus) script) = ap (λ j. total_charge (λ c. greatest_of c j cpus) script) z
+    ∙ total_is k cpus script in
     let rest = within_budget cpus (k + 1) m scripts in
-    let same : budgets (λ i. total_charge (λ c. greatest_of c (k + suc i) cpus) (slice_index_or scripts i [])) m ≡ budgets (λ i. total_charge (λ c. greatest_of c (k + 1 + i) cpus) (slice_index_or scripts i [])) m =
+    let same : budgets (λ i. total_charge (λ c. greatest_of c (k + suc i) cpus) (slice_index_or scripts i [])) m ≡ budgets
+    (λ i. total_charge (λ c. greatest_of c (k + 1 + i) cpus) (slice_index_or scripts i [])) m =
     (λ j. budgets (λ i. total_charge (λ c. greatest_of c (shift k i j) cpus) (slice_index_or scripts i [])) m) in omega arith
   where
     shift : (k i : ℕ) → k + suc i ≡ k + 1 + i
     shift k i = omega arith
 
 -- valid commands that fork no thread twice are valid one behind the other
-valid_from : (s : Setup) (w : ℕ) (given cs : List Command) → list_all (is_command (declared_ids_of s) s.cpus) cs ≡ true → ((t : ℕ) → is_among (threads_forked cs) t ≡ true → is_among (forks_of s w) t ≡ true)
+valid_from : (s : Setup) (w : ℕ) (given cs : List Command) → list_all (is_command (declared_ids_of s) s.cpus) cs ≡ true
+    → ((t : ℕ) → is_among (threads_forked cs) t ≡ true → is_among (forks_of s w) t ≡ true)
     → is_distinct (threads_forked cs) ≡ true → ((t : ℕ) → is_among (threads_forked given) t ≡ true → is_among (threads_forked cs) t ≡ false)
     → AreValid (sched_means s) w given cs
 valid_from s w given [] valid forks distinct apart = tt
@@ -82,7 +87,8 @@ valid_from s w given (c ∷ cs) valid forks distinct apart =
         );
       },
       valid_from s w (c ∷ given) cs both.1 (λ t among. forks t (among_back (forked_by c) (threads_forked cs) t among)) (distinct_back (forked_by c) (threads_forked cs) distinct)
-          (λ t among. false_from_ne_true (is_among (threads_forked cs) t) (λ later. ⊎_elim (λ (here : is_among (forked_by c) t ≡ true). distinct_apart (forked_by c) (threads_forked cs) t distinct here later)
+          (λ t among. false_from_ne_true (is_among (threads_forked cs) t) (λ later. ⊎_elim
+          (λ (here : is_among (forked_by c) t ≡ true). distinct_apart (forked_by c) (threads_forked cs) t distinct here later)
           (λ (before : is_among (threads_forked given) t ≡ true). both_ways (is_among (threads_forked (c ∷ cs)) t) (apart t before) (among_back (forked_by c) (threads_forked cs) t later))
           (among_cases (forked_by c) (threads_forked given) t among))),
     )
@@ -103,9 +109,11 @@ module _ (s : Setup) where
   one_small : (scripts : List (List Command)) (k i : ℕ) → total_charge (λ c. greatest_of c (k + i) s.cpus) (slice_index_or scripts i []) ≤ budget_from k s.cpus scripts
   one_small [] k i = omega arith
   one_small (script ∷ scripts) k zero = let z : k + 0 ≡ k = omega arith in
-      let one : total_charge (λ c. greatest_of c (k + 0) s.cpus) script ≡ sum (map (λ c. greatest_of c k s.cpus) script) = ap (λ j. total_charge (λ c. greatest_of c j s.cpus) script) z ∙ total_is k s.cpus script in omega arith
+      let one : total_charge (λ c. greatest_of c (k + 0) s.cpus) script ≡ sum (map (λ c. greatest_of c k s.cpus) script) = ap (λ j. total_charge (λ c. greatest_of c j s.cpus) script) z
+      ∙ total_is k s.cpus script in omega arith
   one_small (script ∷ scripts) k (suc i) = let z : k + suc i ≡ k + 1 + i = omega arith in let r = one_small scripts (k + 1) i in
-      let same : total_charge (λ c. greatest_of c (k + suc i) s.cpus) (slice_index_or scripts i []) ≡ total_charge (λ c. greatest_of c (k + 1 + i) s.cpus) (slice_index_or scripts i []) = ap (λ j. total_charge (λ c. greatest_of c j s.cpus) (slice_index_or scripts i [])) z in omega arith
+      let same : total_charge (λ c. greatest_of c (k + suc i) s.cpus) (slice_index_or scripts i []) ≡ total_charge (λ c. greatest_of c (k + 1 + i) s.cpus) (slice_index_or scripts i []) = ap
+      (λ j. total_charge (λ c. greatest_of c j s.cpus) (slice_index_or scripts i [])) z in omega arith
 
   kept : HasScripts s
   kept = setup_scripts s
@@ -123,7 +131,8 @@ module _ (s : Setup) where
   -- a worker's budget
   budget_small : (w : ℕ) → budget_of s w ≤ 65536
   budget_small w = let b = one_small s.scripts 0 w in let c = kept.budget in
-      let d : total_charge (λ c. greatest_of c (0 + w) s.cpus) (slice_index_or s.scripts w []) ≡ budget_of s w = ap (λ j. total_charge (λ c. greatest_of c j s.cpus) (slice_index_or s.scripts w [])) (none w) in omega arith
+      let d : total_charge (λ c. greatest_of c (0 + w) s.cpus) (slice_index_or s.scripts w []) ≡ budget_of s w = ap
+      (λ j. total_charge (λ c. greatest_of c j s.cpus) (slice_index_or s.scripts w [])) (none w) in omega arith
     where
       none : (i : ℕ) → 0 + i ≡ i
       none i = omega arith

@@ -86,7 +86,8 @@ module _ (s : Setup) (lists : List (List Command)) where
       (λ (z : (w ≢ v) × (slice_get cs w ≡ Some c)). others w c z.1 z.0) (get_set cs v w d c at)
 
   -- a worker that goes on without an entry leaves the entries
-  module _ (h : List (Entry Event Reply)) (cs : List (WorkerCourse Worker Event Reply)) (w : ℕ) (c d : WorkerCourse Worker Event Reply) (at : slice_get cs w ≡ Some c) (r : IsTimed h cs) (more : c.advanced ≤ d.advanced) where
+  module _ (h : List (Entry Event Reply)) (cs : List (WorkerCourse Worker Event Reply)) (w : ℕ) (c d : WorkerCourse Worker Event Reply) (at : slice_get cs w ≡ Some c) (r : IsTimed h cs)
+      (more : c.advanced ≤ d.advanced) where
     goes_on : IsCourseOf r.timed w d → IsTimed h (set cs w d)
     goes_on this = record {
       timed = r.timed;
@@ -98,8 +99,10 @@ module _ (s : Setup) (lists : List (List Command)) where
     }
 
   -- an entry more
-  module _ (h : List (Entry Event Reply)) (cs : List (WorkerCourse Worker Event Reply)) (c d : WorkerCourse Worker Event Reply) (x : Entry Event Reply) (at : slice_get cs x.worker ≡ Some c) (r : IsTimed h cs)
-      (same_time : d.advanced ≡ c.advanced) (same_begun : d.begun ≡ c.begun) (same_program : d.own.program ≡ c.own.program) (stood : c.standing ≡ standing.has (todo.Event x.event)) (stands : d.standing ≡ asks (Some (x.reply, x.now)))
+  module _ (h : List (Entry Event Reply)) (cs : List (WorkerCourse Worker Event Reply)) (c d : WorkerCourse Worker Event Reply) (x : Entry Event Reply) (at : slice_get cs x.worker ≡ Some c)
+      (r : IsTimed h cs)
+      (same_time : d.advanced ≡ c.advanced) (same_begun : d.begun ≡ c.begun) (same_program : d.own.program ≡ c.own.program) (stood : c.standing ≡ standing.has (todo.Event x.event))
+      (stands : d.standing ≡ asks (Some (x.reply, x.now)))
       (own : 20000 + c.advanced ≤ x.now) (past : x.now ≤ 20000 + all_advanced cs) where
     abbrev last : Timed
     last = record { entry = world_entry x; amount = c.advanced }
@@ -114,10 +117,12 @@ module _ (s : Setup) (lists : List (List Command)) where
     this_course : IsCourseOf r.timed x.worker c → IsCourseOf (r.timed ++ last ∷ []) x.worker d
     this_course is = record {
       course = record (course_of c.own.program script) { last = Some (x.reply, x.now) };
-      performs = subst (λ ys. Performs (opening_of s lists x.worker) 0 ys (record (course_of c.own.program script) { last = Some (x.reply, x.now) }) d.advanced) (sym (entries_of_own x.worker r.timed last refl))
+      performs = subst (λ ys. Performs (opening_of s lists x.worker) 0 ys (record (course_of c.own.program script) { last = Some (x.reply, x.now) }) d.advanced)
+          (sym (entries_of_own x.worker r.timed last refl))
           (subst (λ n. Performs (opening_of s lists x.worker) 0 (entries_of x.worker r.timed ++ last ∷ []) (record (course_of c.own.program script) { last = Some (x.reply, x.now) }) n) (sym same_time)
           (performs_acted (world_entry x) (course_of c.own.program script) is.performs (is.next ∙ ap (next_at script c.own.program) stood)));
-      next = (λ i. next_in (drop (sym same_begun i) (list_of lists x.worker)) (sym same_program i) (Some (x.reply, x.now))) ∙ ap (next_at (drop d.begun (list_of lists x.worker)) d.own.program) (sym stands);
+      next = (λ i. next_in (drop (sym same_begun i) (list_of lists x.worker)) (sym same_program i) (Some (x.reply, x.now))) ∙ ap
+          (next_at (drop d.begun (list_of lists x.worker)) d.own.program) (sym stands);
     }
 
     others_course : (w : ℕ) (b : WorkerCourse Worker Event Reply) → w ≢ x.worker → IsCourseOf r.timed w b → IsCourseOf (r.timed ++ last ∷ []) w b
@@ -133,7 +138,8 @@ module _ (s : Setup) (lists : List (List Command)) where
       entries = map-append (λ (y : Timed). y.entry) r.timed (last ∷ []) ∙ (ap (λ es. es ++ world_entry x ∷ []) r.entries ∙ sym (in_order_more x h));
       courses = set_course (r.timed ++ last ∷ []) cs x.worker d (λ w b there far. others_course w b far (r.courses w b there)) (this_course (r.courses x.worker c at));
       after_own = all-append (λ y. starting_time + y.amount ≤ y.entry.now) r.timed (last ∷ []) r.after_own (own, tt);
-      by_now = subst (λ n. AllByRecursion (λ y. y.entry.now ≤ starting_time + n) (r.timed ++ last ∷ [])) (sym still) (all-append (λ y. y.entry.now ≤ starting_time + all_advanced cs) r.timed (last ∷ []) r.by_now (past, tt));
+      by_now = subst (λ n. AllByRecursion (λ y. y.entry.now ≤ starting_time + n) (r.timed ++ last ∷ [])) (sym still)
+          (all-append (λ y. y.entry.now ≤ starting_time + all_advanced cs) r.timed (last ∷ []) r.by_now (past, tt));
     }
 
   -- a worker at the start stands where the course of its list does
@@ -165,14 +171,16 @@ module _ (s : Setup) (lists : List (List Command)) where
     performs = k.performs;
     next = k.next ∙ (ap (next_at (drop c.begun (list_of lists w)) c.own.program) is ∙ told_next (drop c.begun (list_of lists w)) c.own.program told);
   })
-  play_timed (play.begins {h} {vs} {cs} w c order legal at is next) = let r = play_timed legal in let k = r.courses w c at in goes_on h cs w c (ordered (sched_means s) c order) at r (omega arith) (record {
-    course = k.course;
-    performs = k.performs;
-    next = k.next ∙ (ap (next_at (drop c.begun (list_of lists w)) c.own.program) is ∙ ap (λ script. next_of_rest script c.own.program) (drop_get (list_of lists w) c.begun order next));
-  })
+  play_timed (play.begins {h} {vs} {cs} w c order legal at is next) = let r = play_timed legal in let k = r.courses w c at in goes_on h cs w c (ordered (sched_means s) c order) at r
+      (omega arith) (record {
+        course = k.course;
+        performs = k.performs;
+        next = k.next ∙ (ap (next_at (drop c.begun (list_of lists w)) c.own.program) is ∙ ap (λ script. next_of_rest script c.own.program) (drop_get (list_of lists w) c.begun order next));
+      })
   play_timed (play.advances {h} {vs} {cs} w c k legal at is) = let r = play_timed legal in let b = r.courses w c at in goes_on h cs w c (advanced_by (sched_means s) c k) at r (omega arith) (record {
     course = course_of c.own.program (drop c.begun (list_of lists w));
     performs = performs_advanced k (course_of c.own.program (drop c.begun (list_of lists w))) b.performs (b.next ∙ ap (next_at (drop c.begun (list_of lists w)) c.own.program) is);
     next = refl;
   })
-  play_timed (play.performs {h} {vs} {cs} c x after legal at is follows times) = enters h cs c (done_by (sched_means s) c after.hand x.reply x.now) x at (play_timed legal) refl refl refl is refl times.own times.past
+  play_timed (play.performs {h} {vs} {cs} c x after legal at is follows times) = enters h cs c (done_by (sched_means s) c after.hand x.reply x.now) x at
+      (play_timed legal) refl refl refl is refl times.own times.past

@@ -63,7 +63,8 @@ both_have ls (k ∷ ks) any = ⊎_elim (λ (here : is_among ls k ≡ true). (k, 
 shared_before : (h : List (Entry Event Reply)) (z : Locked) (worker : ℕ) (held : HeldLocks) (now : ℕ) (y : Locked) → IsLockedIn h z → y.entry.worker ≡ worker → y.locks ≡ lock_list held
     → IsNoEarlierThanShared h worker held now → share z y ≡ true → z.entry.now ≤ now
 shared_before h z worker held now y is own locks rules shares =
-    subst (λ (e : types.Entry). e.now ≤ now) (sym is.entry_is) (rules.after is.index is.entry is.found (by (or_cases (z.entry.worker == y.entry.worker) (list_any (λ k. is_among y.locks k) z.locks) shares)))
+    subst (λ (e : types.Entry). e.now ≤ now) (sym is.entry_is) (rules.after is.index is.entry is.found
+    (by (or_cases (z.entry.worker == y.entry.worker) (list_any (λ k. is_among y.locks k) z.locks) shares)))
   where
     by : ((z.entry.worker == y.entry.worker) ≡ true) ⊎ (list_any (λ k. is_among y.locks k) z.locks ≡ true) → Shares worker held is.entry
     by (inl same) = inl (sym (ap (λ (e : types.Entry). e.worker) is.entry_is) ∙ (eqb-true z.entry.worker y.entry.worker same ∙ own))
@@ -150,7 +151,8 @@ module _ (s : Setup) where
 
     in_time_with_last : IsInTime (with_locks start (es ++ last ∷ []))
     in_time_with_last = subst IsInTime (sym (with_locks_push start es last)) (in_time_push (with_locks start es) locked_last r.in_time
-        (all_along (IsLockedIn h) (λ z. share z locked_last ≡ true → z.entry.now ≤ x.now) (with_locks start es) (λ z is. shared_before h z x.worker x.locks x.now locked_last is refl locks_are rules) r.locked))
+        (all_along (IsLockedIn h) (λ z. share z locked_last ≡ true → z.entry.now ≤ x.now) (with_locks start es)
+        (λ z is. shared_before h z x.worker x.locks x.now locked_last is refl locks_are rules) r.locked))
 
     after_last : (P : World → Type 0) → HoldsThroughout P start es → P (step w x.worker x.event x.now).0 → HoldsThroughout P start (es ++ last ∷ [])
     after_last P all this = HoldsThroughout-push P start es last all (subst (λ v. P (after_entry v last)) (sym r.world) this)

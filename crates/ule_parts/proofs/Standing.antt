@@ -59,7 +59,8 @@ hand_none (Some r) without = absurd (true≢false (sym (ap (λ b. is_some (if◌
 pub among_cases : (xs ys : List ℕ) (t : ℕ) → is_among (xs ++ ys) t ≡ true → (is_among xs t ≡ true) ⊎ (is_among ys t ≡ true)
 among_cases [] ys t among = inr among
 among_cases (x ∷ xs) ys t among = ⊎_elim (λ (here : (x == t) ≡ true). inl (ap (λ b. b || is_among xs t) here))
-    (λ (there : is_among (xs ++ ys) t ≡ true). ⊎_elim (λ (front : is_among xs t ≡ true). inl (or_true (x == t) (is_among xs t) front)) (λ (back : is_among ys t ≡ true). inr back) (among_cases xs ys t there))
+    (λ (there : is_among (xs ++ ys) t ≡ true). ⊎_elim (λ (front : is_among xs t ≡ true). inl (or_true (x == t) (is_among xs t) front)) (λ (back : is_among ys t ≡ true). inr back)
+    (among_cases xs ys t there))
     (or_cases (x == t) (is_among (xs ++ ys) t) among)
   where
     or_true : (b c : Bool) → c ≡ true → (b || c) ≡ true
@@ -70,7 +71,11 @@ among_cases (x ∷ xs) ys t among = ⊎_elim (λ (here : (x == t) ≡ true). inl
 pub first_own : (s : Setup) (w n i : ℕ) (o : Worker) → slice_get (owns_from s w n) i ≡ Some o → (i < n) × (o ≡ record { program = own_of_setup s (w + i); hand = None })
 first_own s w zero i o is = absurd (none-some o is)
 first_own s w (suc n) zero o is = (omega arith, sym (same_Some _ o is) ∙ ap (λ u. record { program = own_of_setup s u; hand = None }) (let z : w ≡ w + 0 = omega arith in z))
-first_own s w (suc n) (suc i) o is = let z = first_own s (suc w) n i o is in (let a = z.0 in omega arith, z.1 ∙ ap (λ u. record { program = own_of_setup s u; hand = None }) (let a : suc w + i ≡ w + suc i = omega arith in a))
+first_own s w (suc n) (suc i) o is = let z = first_own s (suc w) n i o is in (
+  let a = z.0 in omega arith,
+  z.1 ∙ ap (λ u. record { program = own_of_setup s u; hand = None })
+      (let a : suc w + i ≡ w + suc i = omega arith in a),
+)
 
 -- the latest of a worker's entries is no later than a time that they all are by, behind the start
 latest_by : (now : ℕ) (mine : List (Entry Event Reply)) → 20000 ≤ now → AllByRecursion (λ y. y.now ≤ now) mine → latest_in mine ≤ now
@@ -117,8 +122,10 @@ module _ (s : Setup) where
   pub begins : (j : Journal Event Reply Command) (o : Worker) (c : Command) → Stands s j o rests → IsValid s o.program.worker j.given c
       → Stands s (with_given c j) (record { program = begun c o.program; hand = o.hand }) (asks None) × (most (begun c o.program) ≤ greatest_of c o.program.worker s.cpus)
   begins j o c (at, ended) valid =
-      let led : LeadsTo (is_among (declared_ids_of s)) o.program.worker (topology_of s.cpus s.groups) (latest_in j.mine) (greatest_of c o.program.worker s.cpus) _ (forked_by c) None (begun c o.program) =
-      command_leads (declared_ids_of s) o.program.worker (topology_of s.cpus s.groups) (latest_in j.mine) c o.program (seat o.program.worker at.below) valid.command at.come.same_worker at.come.same_topology in (
+      let led : LeadsTo (is_among (declared_ids_of s)) o.program.worker (topology_of s.cpus s.groups) (latest_in j.mine) (greatest_of c o.program.worker s.cpus) _ (forked_by c) None
+      (begun c o.program) =
+      command_leads (declared_ids_of s) o.program.worker (topology_of s.cpus s.groups) (latest_in j.mine) c o.program
+      (seat o.program.worker at.below) valid.command at.come.same_worker at.come.same_topology in (
         (
           subst (λ w. StandsAt s (with_given c j) w o.hand (begun c o.program)) (sym led.same_worker) (record {
             below = at.below;
@@ -178,7 +185,8 @@ module _ (s : Setup) where
   finds x w (unborn t) is = is.1
   finds x w (has t) is = tt
 
-  module _ (j : Journal Event Reply Command) (o : Worker) (x : Entry Event Reply) (guarded : List LockValue) (stands : Stands s j o (standing.has (todo.Event x.event))) (who : x.worker ≡ o.program.worker)
+  module _ (j : Journal Event Reply Command) (o : Worker) (x : Entry Event Reply) (guarded : List LockValue) (stands : Stands s j o (standing.has (todo.Event x.event)))
+      (who : x.worker ≡ o.program.worker)
       (may : MayAct s x.worker x.event x.now o.hand guarded) (replied : x.reply ≡ (act_on s.settings x.worker x.event x.now o.hand guarded).reply)
       (before : AllByRecursion (λ y. y.now ≤ x.now) j.mine) where
     abbrev ids : ℕ → Bool

@@ -78,7 +78,8 @@ module _ (s : Setup) (shows : Shows (scheduler_with s (values_and_hands_at_start
       let p = placed t dec in
       let low = (lock_found _ x t p.lock p.member shows p.found p.at).0 in
       let v : HasValue (scheduler_with s (values_and_hands_at_start (sched_means s))) x p.lock = value_at _ x p.lock shows low in
-      let under : is_some (thread_under p.lock t x.members) ≡ true = ap (λ o. is_some o) (thread_at_within (is_under p.lock) t p.member x.members (within_thread t x.members p.member shows.made p.found))
+      let under : is_some (thread_under p.lock t x.members) ≡ true = ap (λ o. is_some o) (thread_at_within (is_under p.lock) t p.member x.members
+      (within_thread t x.members p.member shows.made p.found))
       ∙ ap (λ b. is_some (if◌then◌else◌ b (Some p.member) None)) (is_number_itself p.lock (lock_of p.member.place) p.at) in
       ap (λ o. elim o as (λ _. Bool) [ None ↦ false | Some v ↦ has_under v t ]) v.found ∙ (has_stands x p.lock t v.value shows.made shows.cpus v.stands ∙ under)
 

@@ -103,7 +103,8 @@ module _ (s : Setup) where
       cpus = subst (λ c. IsTrue (names_cpus c e)) (sym r.is_world.lines) asked.names.0;
       declared = IfSome_then (sought_by e) asked.names.1 (λ t among. found_numbered t (declared_ids_of s) r.world.members r.is_world.numbers among);
       ready = its.ready w;
-      hand = handled (scheduler_with s y) r.world w hand r.shows (subst (λ o. IsHandOf r.world w o) hand_is (r.shows.hands w)) s (own_entries w h) (handling e) asked.fits (λ t is. still t (handling e) asked.fits is);
+      hand = handled (scheduler_with s y) r.world w hand r.shows (subst (λ o. IsHandOf r.world w o) hand_is (r.shows.hands w)) s (own_entries w h) (handling e) asked.fits
+          (λ t is. still t (handling e) asked.fits is);
       numbers = asked.names.2;
       begun = rules.begun;
       bounded = small;
@@ -137,15 +138,18 @@ module _ (s : Setup) where
   }
 
   -- one more entry
-  more : (h : List (Entry Event Reply)) (z : ValuesAndHands (Option ThreadRecord) LockValue) (r : IsReached h z) (x : Entry Event Reply) (hand : Option ThreadRecord) (after : Acted (Option ThreadRecord) LockValue Reply)
-      → slice_get z.hands x.worker ≡ Some hand → AsksFor s x.worker (own_entries x.worker h) hand x.event → Follows (sched_means s) z.values hand x after → IsNoEarlierThanShared h x.worker x.locks x.now
+  more : (h : List (Entry Event Reply)) (z : ValuesAndHands (Option ThreadRecord) LockValue) (r : IsReached h z) (x : Entry Event Reply) (hand : Option ThreadRecord)
+      (after : Acted (Option ThreadRecord) LockValue Reply)
+      → slice_get z.hands x.worker ≡ Some hand → AsksFor s x.worker (own_entries x.worker h) hand x.event → Follows (sched_means s) z.values hand x after
+      → IsNoEarlierThanShared h x.worker x.locks x.now
       → IsReached (x ∷ h) (record { values = after.values; hands = slice_set z.hands x.worker after.hand })
   more h z r x hand after at asked follows rules =
       let small : x.now < 2 ^ 36 = follows.may.possible.bounded in
       let l : HasLocks r.world (locking x.event) x.locks = its h z r x.worker x.event x.now hand x.locks at asked follows.locks rules small in
       let can = possible h z r x.worker x.event x.now hand x.locks at asked follows.locks rules small in
       let is = hand_is h z r x.worker x.event x.now hand x.locks at asked follows.locks rules small in
-      let done = acted_shows s (scheduler_with s z) r.world x.worker x.event x.now x.locks follows.guarded hand r.shows can l.numbers (are_under x.locks z.values follows.guarded follows.under) is refl in
+      let done = acted_shows s (scheduler_with s z) r.world x.worker x.event x.now x.locks follows.guarded hand r.shows can l.numbers
+      (are_under x.locks z.values follows.guarded follows.under) is refl in
       let act = effect_on x.locks z.values (act_on s.settings x.worker x.event x.now hand follows.guarded) in
       let same : after ≡ act = effect_so (sched_means s) x.worker x.event x.now hand x.locks z.values follows.guarded follows.under after follows.effect in
       let reply : x.reply ≡ (step r.world x.worker x.event x.now).1 = sym follows.reply ∙ (ap (λ (f : Acted (Option ThreadRecord) LockValue Reply). f.reply) same ∙ done.reply) in
@@ -154,7 +158,8 @@ module _ (s : Setup) where
         world = new.0;
         is_world = is_new;
         replays = replay_more s h r.world x r.replays r.is_world.lines can l.numbers rules reply is_new.made is_new.bounds;
-        shows = subst (λ (f : Acted (Option ThreadRecord) LockValue Reply). Shows (record { settings = s.settings; values = f.values; hands = slice_set z.hands x.worker f.hand }) new.0) (sym same) done.shows;
+        shows = subst (λ (f : Acted (Option ThreadRecord) LockValue Reply). Shows (record { settings = s.settings; values = f.values; hands = slice_set z.hands x.worker f.hand }) new.0)
+            (sym same) done.shows;
         noted = noted_after h r.world x r.is_world.made can l.numbers rules r.noted;
         unborn = λ w t forks hatched. unborn_after w t forks hatched (cases_eq x.worker w) can;
       }
@@ -171,13 +176,17 @@ module _ (s : Setup) where
           → IsStillUnborn t (step r.world x.worker x.event x.now).0.members
       goes w t forks other before can = unborn_stays r.world x.worker x.event x.now t r.is_world.made can few other (r.unborn w t forks before)
 
-      unborn_after : (w t : ℕ) → is_among (forks_of s w) t ≡ true → is_among (threads_hatched (own_entries w (x ∷ h))) t ≡ false → (x.worker ≡ w) ⊎ (x.worker ≡ w → ⊥) → IsPossible r.world x.worker x.event x.now
+      unborn_after : (w t : ℕ) → is_among (forks_of s w) t ≡ true → is_among (threads_hatched (own_entries w (x ∷ h))) t ≡ false → (x.worker ≡ w) ⊎ (x.worker ≡ w → ⊥)
+          → IsPossible r.world x.worker x.event x.now
           → IsStillUnborn t (step r.world x.worker x.event x.now).0.members
       unborn_after w t forks hatched (inl same) can =
-          let now_and_before : is_among (hatched_by x.event ++ threads_hatched (own_entries w h)) t ≡ false = ap (λ (l : List (Entry Event Reply)). is_among (threads_hatched l) t) (sym (own_more w x h same)) ∙ hatched in
+          let now_and_before : is_among (hatched_by x.event ++ threads_hatched (own_entries w h)) t ≡ false = ap (λ (l : List (Entry Event Reply)). is_among (threads_hatched l) t)
+          (sym (own_more w x h same)) ∙ hatched in
           goes w t forks
-          (false_from_ne_true (is_among (hatched_by x.event) t) (λ a. both_ways (is_among (hatched_by x.event ++ threads_hatched (own_entries w h)) t) now_and_before (among_front (hatched_by x.event) (threads_hatched (own_entries w h)) t a)))
-          (false_from_ne_true (is_among (threads_hatched (own_entries w h)) t) (λ a. both_ways (is_among (hatched_by x.event ++ threads_hatched (own_entries w h)) t) now_and_before (among_back (hatched_by x.event) (threads_hatched (own_entries w h)) t a))) can
+          (false_from_ne_true (is_among (hatched_by x.event) t) (λ a. both_ways (is_among (hatched_by x.event ++ threads_hatched (own_entries w h)) t) now_and_before
+          (among_front (hatched_by x.event) (threads_hatched (own_entries w h)) t a)))
+          (false_from_ne_true (is_among (threads_hatched (own_entries w h)) t) (λ a. both_ways (is_among (hatched_by x.event ++ threads_hatched (own_entries w h)) t) now_and_before
+          (among_back (hatched_by x.event) (threads_hatched (own_entries w h)) t a))) can
       unborn_after w t forks hatched (inr far) can =
           goes w t forks (apart_from w t forks far) (ap (λ (l : List (Entry Event Reply)). is_among (threads_hatched l) t) (sym (own_else w x h far)) ∙ hatched) can
 
@@ -208,7 +217,8 @@ module _ (s : Setup) where
     shows = shows;
     replays = replay_starts s start_is_world.made start_is_world.bounds;
     noted = noted_at_start (world_at_start s).members (of_each (λ r. IsBy starting_time r) (λ r fresh. fresh.by_now));
-    unborn = λ w t forks hatched. start_unborn s t (among_passes (is_among s.unborn) (flat_map (λ script. flat_map forked_by script) s.scripts) t (setup_forks s).unborn (among_of_one threads_forked [] refl s.scripts w t forks));
+    unborn = λ w t forks hatched. start_unborn s t (among_passes (is_among s.unborn) (flat_map (λ script. flat_map forked_by script) s.scripts) t (setup_forks s).unborn
+        (among_of_one threads_forked [] refl s.scripts w t forks));
   }
 
   -- every history in order whose entries were asked for leads to such a world
@@ -231,5 +241,6 @@ module _ (s : Setup) where
     shows = subst (Shows (scheduler_with s y)) (sym r.replays.world) r.shows;
     made = r.replays.made;
     bounds = r.replays.bounds;
-    promise = promise_kept (world_at_start s) (entries_in_order h) (start_calm s) r.replays.replies (subst (λ n. AllByRecursion (IsTickOfSome n) (entries_in_order h)) (sym start.count) r.replays.ticks);
+    promise = promise_kept (world_at_start s) (entries_in_order h) (start_calm s) r.replays.replies
+        (subst (λ n. AllByRecursion (IsTickOfSome n) (entries_in_order h)) (sym start.count) r.replays.ticks);
   }

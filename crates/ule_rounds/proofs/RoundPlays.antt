@@ -116,7 +116,8 @@ module _ (s : Setup) where
 
   module _ (p : Play) where
     -- a worker goes on without an item performed
-    abbrev goes_on : (r : IsPlayed p) (w : ℕ) (c d : WorkerCourse Worker Event Reply) → slice_get r.courses w ≡ Some c → LegalPlay (sched_means s) (list_of s.scripts) r.history r.values (set r.courses w d)
+    abbrev goes_on : (r : IsPlayed p) (w : ℕ) (c d : WorkerCourse Worker Event Reply) → slice_get r.courses w ≡ Some c
+        → LegalPlay (sched_means s) (list_of s.scripts) r.history r.values (set r.courses w d)
         → d.advanced ≡ c.advanced → ((course : Course) → slice_get p.courses w ≡ Some course → DoesStand w d course) → IsPlayed p
     goes_on r w c d at legal same next = record {
       history = r.history;
@@ -149,7 +150,8 @@ module _ (s : Setup) where
         (λ course got. r.stand w c course at got ∙ (ap (next_at (drop c.begun (lists w)) c.own.program) is ∙ told_next (drop c.begun (lists w)) c.own.program t))
 
     -- a worker begins its next command
-    abbrev ordered_next : (r : IsPlayed p) (w : ℕ) (c : WorkerCourse Worker Event Reply) (order : Command) → slice_get r.courses w ≡ Some c → c.standing ≡ rests → slice_get (lists w) c.begun ≡ Some order → IsPlayed p
+    abbrev ordered_next : (r : IsPlayed p) (w : ℕ) (c : WorkerCourse Worker Event Reply) (order : Command) → slice_get r.courses w ≡ Some c → c.standing ≡ rests
+        → slice_get (lists w) c.begun ≡ Some order → IsPlayed p
     ordered_next r w c order at is next = goes_on r w c (ordered (sched_means s) c order) at (play.begins w c order r.legal at is next) refl
         (λ course got. r.stand w c course at got ∙ (ap (next_at (drop c.begun (lists w)) c.own.program) is ∙ ap (λ script. next_of_rest script c.own.program) (drop_get (lists w) c.begun order next)))
 
@@ -161,7 +163,8 @@ module _ (s : Setup) where
     once_told r w c at (Some (item.Advance k)) is further = record { played = r; now_at = c; found = at; stands = inl (todo.Advance k, is); others = λ v far. refl }
 
     -- a worker between two commands goes on to its next item
-    from_rest : (script : List Command) (r : IsPlayed p) (w : ℕ) (c : WorkerCourse Worker Event Reply) → slice_get r.courses w ≡ Some c → drop c.begun (lists w) ≡ script → c.standing ≡ rests → IsSettled r.courses w
+    from_rest : (script : List Command) (r : IsPlayed p) (w : ℕ) (c : WorkerCourse Worker Event Reply) → slice_get r.courses w ≡ Some c → drop c.begun (lists w) ≡ script → c.standing ≡ rests
+        → IsSettled r.courses w
     from_rest [] r w c at left is = record { played = r; now_at = c; found = at; stands = inr (is, left); others = λ v far. refl }
     from_rest (order ∷ script) r w c at left is =
         let head = drop_head (lists w) c.begun order script left in
@@ -189,7 +192,8 @@ module _ (s : Setup) where
             (once_told r1 w e at1 (next_of t c.own.program).0 refl (λ rest. from_rest (drop e.begun (lists w)) r1 w e at1 refl rest))
 
     -- the item that it has is that of its course
-    has_item : (old : List (WorkerCourse Worker Event Reply)) (w : ℕ) (q : IsSettled old w) (course after : Course) (i : Item) → slice_get p.courses w ≡ Some course → next_step course ≡ Some (i, after)
+    has_item : (old : List (WorkerCourse Worker Event Reply)) (w : ℕ) (q : IsSettled old w) (course after : Course) (i : Item) → slice_get p.courses w ≡ Some course
+        → next_step course ≡ Some (i, after)
         → (q.now_at.standing ≡ standing.has (todo_item i)) × (after ≡ course_of q.now_at.own.program (drop q.now_at.begun (lists w)))
     has_item old w q course after i got next = by q.stands
       where
@@ -244,7 +248,8 @@ module _ (s : Setup) where
       }
 
   -- an entry is no later than what all have advanced
-  past_all : {h : List (Entry Event Reply)} {vs : List LockValue} {cs : List (WorkerCourse Worker Event Reply)} → LegalPlay (sched_means s) (list_of s.scripts) h vs cs → (j : ℕ) (x : Entry Event Reply)
+  past_all : {h : List (Entry Event Reply)} {vs : List LockValue} {cs : List (WorkerCourse Worker Event Reply)} → LegalPlay (sched_means s) (list_of s.scripts) h vs cs
+      → (j : ℕ) (x : Entry Event Reply)
       → slice_get h j ≡ Some x → x.now ≤ 20000 + all_advanced cs
   past_all play.opens j x at = absurd (none-some x at)
   past_all (play.answers {h} {vs} {cs} w c t legal here is) j x at = omega (arith, past_all legal j x at, advanced_set cs w c (answered (sched_means s) c t) here)
@@ -383,7 +388,8 @@ module _ (s : Setup) where
       values = effect.values;
       courses = set r.courses w d;
       legal = play.performs c x effect r.legal q.found item_is.0 follows times;
-      entries = in_order_more x r.history ∙ (ap (λ es. es ++ world_entry x ∷ []) r.entries ∙ ap (λ (told : Reply). p.entries ++ record { worker = w; event = e; now = p.now; reply = told } ∷ []) done.reply);
+      entries = in_order_more x r.history ∙ (ap (λ es. es ++ world_entry x ∷ []) r.entries ∙ ap
+          (λ (told : Reply). p.entries ++ record { worker = w; event = e; now = p.now; reply = told } ∷ []) done.reply);
       time = omega (arith, advanced_set r.courses w c d q.found, r.time);
       stand = stand_set p.courses r.courses w d (record after { last = Some (reply, p.now) }) r.stand stands_then;
     }
@@ -415,7 +421,8 @@ module _ (s : Setup) where
     entries = refl;
     time = omega (arith, none_advanced (owns_from s 0 s.cpus));
     stand = λ w c course found got. let o = map_get unbegun (owns_from s 0 s.cpus) w c found in
-        ap next_step (sym (opening_is s w course got)) ∙ subst (λ (b : WorkerCourse Worker Event Reply). next_step (opening_of s s.scripts w) ≡ next_at (drop b.begun (lists w)) b.own.program b.standing) o.2
+        ap next_step (sym (opening_is s w course got)) ∙ subst (λ (b : WorkerCourse Worker Event Reply). next_step (opening_of s s.scripts w) ≡ next_at
+        (drop b.begun (lists w)) b.own.program b.standing) o.2
         (first_next s s.scripts w o.0 o.1);
   }
 
