@@ -57,7 +57,7 @@ turn_made s p worker so_far = record {
         cond_both (is_ready p.world worker e) (performed worker e after p) p (IsMade s)
         (λ ready.
         HoldsOfEach-push IsPossibleEntry (world_at_start s) p.entries (entry_of p worker e) so_far.entries
-        (subst (λ w. IsPossibleEntry w (entry_of p worker e)) (sym so_far.kept.legal.world)
+        (subst (λ w. IsPossibleEntry w (entry_of p worker e)) (sym so_far.kept.world)
         (possible s p worker course after e so_far.kept (has_next s p worker course after e so_far.kept got next) ready)))
         (λ lost. so_far.entries)
 

@@ -150,7 +150,7 @@ reached_kept s = reached_keeps s (IsUnderWay s) (under_way_opening s) (under_way
 
 -- a play has as many courses as the setup has CPUs
 pub play_count : (s : Setup) (v : PlayerValue) (p : Play) → IsPlay s v p → length p.courses ≡ s.cpus
-play_count s v p play = (reached_kept s p play.reached).legal.count
+play_count s v p play = (reached_kept s p play.reached).workers
 
 -- a player has a course for each worker
 pub courses_count : (s : Setup) (v : PlayerValue) (p : Play) → IsPlay s v p → length v.courses ≡ s.cpus

@@ -25,7 +25,7 @@ use Rattle.ule_members.proofs.CalendarStretches.{calm_close, entry_by_one, entry
 use Rattle.ule_members.proofs.Membership.{all_has, has_thread_of}
 use Rattle.ule_members.proofs.Numbered.{step_bounds}
 use Rattle.ule_members.proofs.Rest.{all_at}
-use Rattle.ule_rounds.proofs.Hands.{handled_thread}
+use Rattle.ule_courses.proofs.Hands.{handled_thread}
 use Rattle.ule_seq.specs.Promises.{HasCalendars, KeepsCalendarPromise, KeepsPromises}
 
 -- ---- the records
