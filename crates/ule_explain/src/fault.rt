@@ -1,5 +1,4 @@
 //! Why a scenario was not explained.
-use std::alloc::AllocError;
 use std::io;
 use thiserror::Error;
 use ule_io::{Memory, ReadAllFault, WriteFault};
@@ -49,12 +48,6 @@ impl From<io::Error> for Fault {
 
 impl From<Memory> for Fault {
     fn from(_: Memory) -> Fault {
-        Fault::Memory
-    }
-}
-
-impl From<AllocError> for Fault {
-    fn from(_: AllocError) -> Fault {
         Fault::Memory
     }
 }

@@ -1,22 +1,22 @@
-//! Explains a scenario: reads one from standard input, plays it, and prints its trace with what each
-//! entry came from below it, on lines that begin with two spaces. Without these lines the text is
-//! the trace that `ule run` prints.
+//! Explains a scenario: reads one from standard input, plays it a turn after another, and prints its
+//! trace with what each entry came from below it, on lines that begin with two spaces. Without these
+//! lines the text is the trace that `ule run` prints.
 //!
-//! It is also an example of how the library is used: `ule_scenario` reads a setup, `ule_seq` plays
-//! it, a `World` is stepped through the play once more, and each number that is told comes from the
-//! crate that owns its rule.
+//! It is also an example of how the library is used: `ule_scenario` reads a setup, a `Player` of
+//! `ule_seq` plays it, and each number that is told comes from the crate that owns its rule.
 #![tactic(auto)]
 
 mod choice;
 mod entry;
 mod fault;
+mod playing;
 mod records;
-mod replay;
 mod rules;
+mod search;
 mod view;
 
 use fault::Fault;
-use replay::explain;
+use playing::explain;
 use std::process::ExitCode;
 use ule_io::{StdSource, read_all};
 use ule_scenario::read;

@@ -1,22 +1,17 @@
 //! What an entry changed in the records of threads and in the numbers of CPUs.
 use crate::rules::{score_of, timeshare_priority_of};
-use crate::view::View;
+use crate::view::Scene;
 use std::io;
 use ule_prio::Class;
 use ule_score::{CpuLine, Settings};
 use ule_types::ThreadLine;
 
 /// Prints a line for each thread whose record changed.
-pub fn tell_records(
-    rt: &impl Print,
-    settings: &Settings,
-    before: &View,
-    after: &View,
-) -> io::Result<()> {
-    for standing in after.threads() {
-        if let Some(old) = before.thread(standing.line.id) {
+pub fn tell_records(rt: &impl Print, scene: &Scene) -> io::Result<()> {
+    for standing in scene.after.threads() {
+        if let Some(old) = scene.before.thread(standing.line.id) {
             if is_changed(&old.line, &standing.line) {
-                tell_record(rt, settings, &old.line, &standing.line)?;
+                tell_record(rt, &scene.settings, &old.line, &standing.line)?;
             }
         }
     }
@@ -50,18 +45,8 @@ fn tell_record(
     tell_number(rt, "CPU use", old.ticks, new.ticks)?;
     tell_number(rt, "slice count", old.slice_count, new.slice_count)?;
     tell_number(rt, "asleep since", old.slept_at, new.slept_at)?;
-    tell_number(
-        rt,
-        "base priority",
-        u64::from(old.base.0),
-        u64::from(new.base.0),
-    )?;
-    tell_number(
-        rt,
-        "priority",
-        u64::from(old.priority.0),
-        u64::from(new.priority.0),
-    )?;
+    tell_byte(rt, "base priority", old.base.0, new.base.0)?;
+    tell_byte(rt, "priority", old.priority.0, new.priority.0)?;
     println!(rt; "")?;
     if new.class == Class::Ts && is_rebased(old, new) {
         tell_score(rt, settings, new)?;
@@ -75,6 +60,11 @@ fn tell_number(rt: &impl Print, name: &str, old: u64, new: u64) -> io::Result<()
         print!(rt; " {name} {old} -> {new};")?;
     }
     Ok(())
+}
+
+/// Prints a small number that changed.
+fn tell_byte(rt: &impl Print, name: &str, old: u8, new: u8) -> io::Result<()> {
+    tell_number(rt, name, u64::from(old), u64::from(new))
 }
 
 /// Prints the score of a timeshare thread, and the priority that it leads to.
@@ -92,8 +82,9 @@ fn tell_score(rt: &impl Print, settings: &Settings, line: &ThreadLine) -> io::Re
 }
 
 /// Prints a line for each CPU whose numbers changed.
-pub fn tell_cpus(rt: &impl Print, before: &View, after: &View) -> io::Result<()> {
-    for (number, (old, new)) in before.cpus().iter().zip(after.cpus()).enumerate() {
+pub fn tell_cpus(rt: &impl Print, scene: &Scene) -> io::Result<()> {
+    let pairs = scene.before.cpus().iter().zip(scene.after.cpus());
+    for (number, (old, new)) in pairs.enumerate() {
         if is_renumbered(&old.line, &new.line) {
             print!(rt; "  CPU {number}:")?;
             tell_numbers(rt, &old.line, &new.line)?;
@@ -112,18 +103,8 @@ fn is_renumbered(old: &CpuLine, new: &CpuLine) -> bool {
 
 /// Prints the indexes and marks of a CPU that changed.
 fn tell_numbers(rt: &impl Print, old: &CpuLine, new: &CpuLine) -> io::Result<()> {
-    tell_number(
-        rt,
-        "insertion index",
-        u64::from(old.idx),
-        u64::from(new.idx),
-    )?;
-    tell_number(
-        rt,
-        "removal index",
-        u64::from(old.ridx),
-        u64::from(new.ridx),
-    )?;
+    tell_byte(rt, "insertion index", old.idx, new.idx)?;
+    tell_byte(rt, "removal index", old.ridx, new.ridx)?;
     tell_mark(rt, "asks for a switch", old.resched, new.resched)?;
     tell_mark(rt, "says that a slice ended", old.slice_end, new.slice_end)?;
     println!(rt; "")

@@ -1,11 +1,9 @@
-//! The rules by which numbers come about, called with what a view has. Each answers none where the
+//! The rules by which numbers come about, called with what a final line has. Each answers none where the
 //! numbers are out of the rule's range, which those of a play never are.
 ghost use Rattle.std.specs.Prelude.{◌+◌, ◌^◌, ◌<◌, ◌≤◌, IfSome};
 
-use crate::view::{Standing, View};
 use ule_history::{CpuUse, History};
-use ule_prio::ranges::PRI_MAX_IDLE;
-use ule_prio::{Cpu, Priority, preempts};
+use ule_prio::Priority;
 use ule_score::{Settings, score, ts_priority};
 use ule_slice::slice;
 use ule_types::ThreadLine;
@@ -73,34 +71,5 @@ pub fn slice_of(settings: &Settings, load: u32) -> Option<u16> {
         Some(slice(load, settings.slice))
     } else {
         None
-    }
-}
-
-/// A preemption test: the two priorities, whether another CPU asks, and what it says.
-#[derive(Clone, Copy)]
-pub struct Test {
-    pub new: Priority,
-    pub current: Priority,
-    pub remote: bool,
-    pub takes_over: bool,
-}
-
-/// The preemption test of a thread against the current one of a CPU, asked by a worker.
-pub fn test_of(settings: &Settings, view: &View, new: Priority, cpu: Cpu, worker: u8) -> Test {
-    let current = priority_of(view.current(cpu));
-    let remote = worker != cpu.0;
-    Test {
-        new,
-        current,
-        remote,
-        takes_over: preempts(new, current, remote, settings.preempt),
-    }
-}
-
-/// The priority of a current thread, or the worst of all where there is none.
-fn priority_of(current: Option<Standing>) -> Priority {
-    match current {
-        Some(standing) => standing.line.priority,
-        None => Priority(PRI_MAX_IDLE),
     }
 }

@@ -1,15 +1,13 @@
-//! What stands in a world between two entries, by the readers of a `World`.
+//! What stands in a world between two turns, by the readers of a `Player` and its `World`.
 ghost use Rattle.std.specs.Prelude.{◌<◌, IfSome};
 
 use std::alloc::Global;
 use ule_io::Memory;
 use ule_prio::{Cpu, Kind, ThreadId};
-use ule_score::{CpuLine, Place};
-use ule_seq::World;
-use ule_types::{Outcome, ThreadLine};
-
-/// The time of the final lines, which a view doesn't tell.
-const NO_TIME: u64 = 0;
+use ule_program::Stage;
+use ule_score::{CpuLine, Place, Settings};
+use ule_seq::{Player, World};
+use ule_types::{Entry, Outcome, ThreadLine};
 
 /// One thread: its final line as a trace would have it now, and how far its bucket lies ahead of the
 /// removal index, where it waits in a calendar.
@@ -26,18 +24,36 @@ pub struct Numbers {
     pub load: u32,
 }
 
-/// All threads by rising number, and all CPUs.
+/// All threads by rising number, all CPUs, and where a worker's program stands.
 #[derive(Drop)]
 pub struct View {
     threads: Vec<Standing>,
     cpus: Vec<Numbers>,
+    asked: Asked,
+}
+
+/// Where a worker's program stands in its command, and its jitter word.
+#[derive(Clone, Copy)]
+pub struct Asked {
+    pub stage: Stage,
+    pub word: u32,
+}
+
+/// What an entry is explained by: the settings, and what stood before and behind it.
+#[derive(Clone, Copy)]
+pub struct Scene<'a> {
+    pub settings: Settings,
+    pub entry: Entry,
+    pub before: &'a View,
+    pub after: &'a View,
 }
 
 impl View {
-    /// What stands in a world.
-    pub fn of(alloc: Global, world: &World) -> Result<View, Memory> {
+    /// What stands in the world of a play, and where the program of a worker stands.
+    pub fn of(alloc: Global, player: &Player, worker: u8) -> Result<View, Memory> {
+        let world = player.world();
         let mut lines = Outcome::with_room(alloc, 0)?;
-        world.finals(NO_TIME, &mut lines);
+        world.finals(player.now(), &mut lines);
         let mut threads = Vec::new(alloc);
         for line in lines.threads() {
             let standing = Standing {
@@ -58,7 +74,17 @@ impl View {
                 return Err(Memory);
             };
         }
-        Ok(View { threads, cpus })
+        let asked = asked_of(player, worker);
+        Ok(View {
+            threads,
+            cpus,
+            asked,
+        })
+    }
+
+    /// Where the program of the worker stands.
+    pub fn asked(&self) -> &Asked {
+        &self.asked
     }
 
     /// All threads, by rising number.
@@ -99,6 +125,20 @@ impl View {
     }
 }
 
+/// Where the program of a worker stands.
+fn asked_of(player: &Player, worker: u8) -> Asked {
+    match player.program(worker) {
+        Some(program) => Asked {
+            stage: program.own().stage,
+            word: program.own().jitter,
+        },
+        None => Asked {
+            stage: Stage::Ended,
+            word: 0,
+        },
+    }
+}
+
 /// The number of the CPU that a thread is queued on.
 pub fn queue_of(line: &ThreadLine) -> Option<u8>
     ensures { IfSome result (λ c. c < 16) }
@@ -109,29 +149,14 @@ pub fn queue_of(line: &ThreadLine) -> Option<u8>
     }
 }
 
-/// The bucket of the calendar in which a thread waits.
-fn calendar_bucket(line: &ThreadLine) -> Option<u8> {
-    match line.place {
-        Place::Queued {
-            kind: Kind::Batch,
-            bucket,
-            ..
-        } => Some(bucket),
-        _ => None,
-    }
-}
-
 /// How far a bucket lies ahead of the removal index, where a thread waits in a calendar.
 fn distance_of(world: &World, line: &ThreadLine) -> Option<u8> {
-    let cpu = queue_of(line)?;
-    let bucket = calendar_bucket(line)?;
-    distance_on(world, Cpu(cpu), bucket)
-}
-
-/// How far a bucket of a CPU's calendar lies ahead of the removal index.
-fn distance_on(world: &World, cpu: Cpu, bucket: u8) -> Option<u8> {
-    match world.queue(cpu) {
-        Some(tdq) if bucket < 64 => Some(tdq.calendar().distance(bucket)),
+    match line.place {
+        Place::Queued {
+            cpu,
+            kind: Kind::Batch,
+            bucket,
+        } if bucket < 64 => Some(world.queue(cpu)?.calendar().distance(bucket)),
         _ => None,
     }
 }
