@@ -1,11 +1,13 @@
 -- What every legal play keeps of each worker's course, by one induction for all schedulers.
-use Rattle.std.proofs.Common.{◌≡◌, ◌≢◌, ℕ, ◌+◌, ◌≤◌, List, [], ◌∷◌, drop, set, refl, sym, ap, ◌∙◌, subst, ⊎_elim, arith, ne_eqb, eq-eqb}
+use Rattle.std.proofs.Common.{◌≡◌, ◌≢◌, ℕ, suc, ◌+◌, ◌≤◌, Bool, true, false, ◌==◌, List, [], ◌∷◌, drop, set, refl, sym, ap, ◌∙◌, subst, inl, ⊎_elim, arith, ne_eqb, eq-eqb}
+use Rattle.std.specs.List.{AllByRecursion}
+use Rattle.std.proofs.lemmas.Bool.{eqb-true}
 use Rattle.std.specs.Prelude.{Option, Some, None, slice_get, if◌then◌else◌}
 use Rattle.ule_micro.specs.declared.entry.Entry.{Entry}
 use Rattle.ule_micro.specs.declared.todo.Todo.TheVariants.{Event, Advance}
 use Rattle.ule_micro.specs.Means.{Means}
 use Rattle.ule_micro.specs.Standings.{Standing, asks, has, rests, Acted, Journal}
-use Rattle.ule_micro.specs.Histories.{Follows, own_entries}
+use Rattle.ule_micro.specs.Histories.{Follows, IsNoEarlierThanShared, own_entries}
 use Rattle.ule_micro.specs.Courses.{WorkerCourse, unbegun, answered, ordered, advanced_by, done_by, LegalPlay, opens, answers, begins, advances, performs}
 use Rattle.ule_micro.specs.Laws.{IsLawful, AreOrders, AreValid, IsEmpty, total_charge}
 use Rattle.ule_micro.proofs.Lists.{get_set, map_get, drop_get, there}
@@ -19,6 +21,15 @@ module _ {E R : Type 0} where
   -- a worker's entries with one more of another
   pub own_else : (w : ℕ) (x : Entry E R) (h : List (Entry E R)) → x.worker ≢ w → own_entries w (x ∷ h) ≡ own_entries w h
   own_else w x h far = ap (λ b. if b then x ∷ own_entries w h else own_entries w h) (ne_eqb x.worker w far)
+
+  -- a worker's entries are by a time that is no earlier than each of them in the history
+  own_by : (w now : ℕ) (h : List (Entry E R)) → ((j : ℕ) (x : Entry E R) → slice_get h j ≡ Some x → x.worker ≡ w → x.now ≤ now) → AllByRecursion (λ y. y.now ≤ now) (own_entries w h)
+  own_by w now [] by = tt
+  own_by w now (x ∷ h) by = at_worker (x.worker == w) refl (own_by w now h (λ j y at own. by (suc j) y at own))
+    where
+      at_worker : (b : Bool) → (x.worker == w) ≡ b → AllByRecursion (λ y. y.now ≤ now) (own_entries w h) → AllByRecursion (λ y. y.now ≤ now) (if b then x ∷ own_entries w h else own_entries w h)
+      at_worker true own rest = (by 0 x refl (eqb-true x.worker w own), rest)
+      at_worker false other rest = rest
 
 module _ {H O G E R C : Type 0} (m : Means H O G E R C) (orders : ℕ → List C) where
   -- journal: the journal of a worker that began these commands, after this history
@@ -78,12 +89,13 @@ module _ {H O G E R C : Type 0} (m : Means H O G E R C) (orders : ℕ → List C
       }
 
     done_course : (h : List (Entry E R)) (vs : List G) (c : WorkerCourse O E R) (x : Entry E R) (after : Acted H G R) → c.standing ≡ has (Event x.event)
-        → Follows m vs (m.hand c.own) x after → IsCourse h x.worker c → IsCourse (x ∷ h) x.worker (done_by m c after.hand x.reply x.now)
-    done_course h vs c x after is follows r =
+        → Follows m vs (m.hand c.own) x after → IsNoEarlierThanShared h x.worker x.locks x.now → IsCourse h x.worker c → IsCourse (x ∷ h) x.worker (done_by m c after.hand x.reply x.now)
+    done_course h vs c x after is follows rules r =
         let so = effect_so m x.worker x.event x.now (m.hand c.own) x.locks vs follows.guarded follows.under after follows.effect in
         let j = journal r.given x.worker h in
         let z = laws.standing.performs j c.own x follows.guarded (stands_at h x.worker c r (has (Event x.event)) is) (sym r.number) follows.may
-        (its_locks m vs follows.guarded x.locks (m.needs x.event) follows.under follows.locks) (guarded_many x.locks vs follows.guarded follows.under) (sym follows.reply ∙ ap (λ (y : Acted H G R). y.reply) so) in
+        (its_locks m vs follows.guarded x.locks (m.needs x.event) follows.under follows.locks) (guarded_many x.locks vs follows.guarded follows.under) (sym follows.reply ∙ ap (λ (y : Acted H G R). y.reply) so)
+        (own_by x.worker x.now h (λ i y at own. rules.after i y at (inl own))) in
         let hand : after.hand ≡ (m.act x.worker x.event x.now (m.hand c.own) follows.guarded).hand = ap (λ (y : Acted H G R). y.hand) so in
         let now = asks (Some (x.reply, x.now)) in record {
           number = laws.hands.put_number c.own after.hand ∙ r.number;
@@ -129,7 +141,7 @@ module _ {H O G E R C : Type 0} (m : Means H O G E R C) (orders : ℕ → List C
     all_are_courses (advances {h} {vs} {cs} v d k play at is) w c here = set_course h cs v (advanced_by m d k) (λ u b e far. all_are_courses play u b e) (advanced_course h v d (all_are_courses play v d at) k is) w c here
     all_are_courses (performs {h} {vs} {cs} d x after play at is follows in_time) w c here =
         set_course (x ∷ h) cs x.worker (done_by m d after.hand x.reply x.now) (λ u b e far. else_course h x u b (λ same. far (sym same)) (all_are_courses play u b e))
-        (done_course h vs d x after is follows (all_are_courses play x.worker d at)) w c here
+        (done_course h vs d x after is follows in_time.no_earlier (all_are_courses play x.worker d at)) w c here
 
     -- what holds of a worker after a legal play
     module _ {h : List (Entry E R)} {vs : List G} {cs : List (WorkerCourse O E R)} (play : LegalPlay m orders h vs cs) (w : ℕ) (c : WorkerCourse O E R) (at : slice_get cs w ≡ Some c) where

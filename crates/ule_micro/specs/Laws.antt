@@ -1,5 +1,6 @@
 -- The laws that the parts of a scheduler keep.
 use Rattle.std.specs.Prelude.{◌≡◌, ◌≢◌, ℕ, ◌+◌, ◌^◌, ◌<◌, ◌≤◌, ◌⊎◌, ◌==◌, ◌||◌, Bool, true, false, List, [], ◌∷◌, length, map, Option, Some, None, slice_get}
+use Rattle.std.specs.List.{AllByRecursion}
 use Rattle.ule_micro.specs.declared.entry.Entry.{Entry}
 use Rattle.ule_micro.specs.declared.entry.HeldLocks.{HeldLocks}
 use Rattle.ule_micro.specs.declared.entry.HeldLocks.TheVariants.{One, Two}
@@ -124,10 +125,10 @@ module _ {H O G E R C : Type 0} (m : Means H O G E R C) where
         → (1 ≤ k) × (k ≤ 1000000) × m.stands j o (asks None) × (m.left o (asks None) + 1 ≤ m.left o (has (Advance k)))
     -- an event is asked for
     pub asks_for : (j : Journal E R C) (o : O) (e : E) → m.stands j o (has (Event e)) → m.asks (m.number o) j.mine (m.hand o) e
-    -- an event that is performed where it may be is one item
+    -- an event that is performed where it may be, no earlier than the worker's entries before it, is one item
     pub performs : (j : Journal E R C) (o : O) (x : Entry E R) (guarded : List G) → m.stands j o (has (Event x.event)) → x.worker ≡ m.number o
         → m.may x.worker x.event x.now (m.hand o) guarded → AreItsLocks x.locks guarded (m.needs x.event)
-        → length guarded ≡ lock_count x.locks → x.reply ≡ (m.act x.worker x.event x.now (m.hand o) guarded).reply
+        → length guarded ≡ lock_count x.locks → x.reply ≡ (m.act x.worker x.event x.now (m.hand o) guarded).reply → AllByRecursion (λ y. y.now ≤ x.now) j.mine
         → m.stands (with_made x j) (m.with_hand o (m.act x.worker x.event x.now (m.hand o) guarded).hand) (asks (Some (x.reply, x.now)))
         × (m.left (m.with_hand o (m.act x.worker x.event x.now (m.hand o) guarded).hand) (asks (Some (x.reply, x.now))) + 1 ≤ m.left o (has (Event x.event)))
     -- between two commands the hand is empty

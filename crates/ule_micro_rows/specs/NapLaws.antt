@@ -250,7 +250,7 @@ keeps_standing = record {
   advances = λ j o k stands. let five = stands.1.1 in let stage = stands.1.0 in
       (omega arith, omega arith, (stands.0 ∙ ap (λ s. full s (asks None)) (sym stage), tt), let d : nap_most o.stage (asks None) ≡ 0 = ap (λ s. nap_most s (asks None)) stage in omega arith);
   asks_for = λ j o e stands. stands.0;
-  performs = λ j o x guarded stands who may its many reply. ((performed o.stage o.hand x.event x.reply x.now guarded stands.0 stands.1 (many ∙ ap lock_count (held_one x.event x.locks guarded its).1) reply, tt), most_done x.event o.stage (Some (x.reply, x.now)) stands.1);
+  performs = λ j o x guarded stands who may its many reply by. ((performed o.stage o.hand x.event x.reply x.now guarded stands.0 stands.1 (many ∙ ap lock_count (held_one x.event x.locks guarded its).1) reply, tt), most_done x.event o.stage (Some (x.reply, x.now)) stands.1);
   ends = λ j o stands. empty_hand o.hand stands.0;
 }
 

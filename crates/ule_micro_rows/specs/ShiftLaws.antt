@@ -182,7 +182,7 @@ keeps_standing = record {
   goes_on = λ j o told stands. (tt, (stands.0, behind_next o.point told stands.1), most_next o.point told);
   advances = λ j o k stands. absurd stands.1;
   asks_for = λ j o e stands. (stands.0, stands.1.1);
-  performs = λ j o x guarded stands who may its many reply. let told = Some (x.reply, x.now) in
+  performs = λ j o x guarded stands who may its many reply by. let told = Some (x.reply, x.now) in
       ((hand_stays o.hand guarded ∙ stands.0, behind_event o.point told stands.1.0), let z : shift_most o.point (asks told) ≡ 0 = ap (λ p. shift_most p (asks told)) stands.1.0 in omega arith);
   ends = λ j o stands t d. no_lock t o.hand stands.0;
 }

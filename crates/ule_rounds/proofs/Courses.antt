@@ -16,29 +16,17 @@ use Rattle.ule_types.specs.declared.event.Item.TheVariants as item
 use Rattle.ule_types.specs.declared.event.Reply.{Reply}
 use Rattle.ule_topo.specs.Tree.{Tree}
 use Rattle.ule_program.specs.Courses.{Course, course_of, next_in, next_step, or_else, stepped}
-use Rattle.ule_program.specs.Hearing.{Allows, AllowsAt, IsReplyTo, IsSeat}
-use Rattle.ule_program.specs.Laws.{IsStageBy, LeadsTo, NamesWhatIs, hand_after, hand_by_word, hatching, time_at}
-use Rattle.ule_program.specs.Program.{after, after_giving, begun, in_hand, item_at, most, most_after, next_of, once_given, told_last}
+use Rattle.ule_program.specs.Hearing.{AllowsAt, IsReplyTo, IsSeat}
+use Rattle.ule_program.specs.Laws.{LeadsTo, NamesWhatIs, hand_by_word, hatching, time_at}
+use Rattle.ule_program.specs.Program.{after, after_giving, begun, in_hand, item_at, most, next_of, once_given, told_last}
 use Rattle.ule_program.specs.declared.own.Own.{Own}
 use Rattle.ule_program.specs.declared.stage.Stage.{Stage}
 use Rattle.ule_program.specs.declared.stage.Stage.TheVariants.{Advances, Ended, Gives}
-use Rattle.ule_program.specs.declared.stage.Next.{Next}
-use Rattle.ule_program.specs.declared.stage.Next.TheVariants.{Sees}
-use Rattle.ule_program.specs.declared.stage.Purpose.{Purpose}
-use Rattle.ule_program.specs.declared.stage.Purpose.TheVariants.{ToLand}
-use Rattle.ule_program.proofs.ProgramLaws.{allows_any, item_fits, item_seeks, to_after, to_begun}
+use Rattle.ule_program.proofs.Following.{after_goes_on}
+use Rattle.ule_program.proofs.Leading.{HasCome, IsTold, advance_no_event, allowed_at, at_itself, command_leads, ended_stage, reply_at, stage_later}
+use Rattle.ule_program.proofs.ProgramLaws.{allows_any, item_fits, item_seeks}
 pub use Rattle.ule_rounds.specs.Charges.{greatest_in}
 use Rattle.ule_model.specs.Legal.{Performs, Timed, acts, advances, amount_in, stays}
-
--- a stage without an item is the end of its command
-ended_stage : (st : Stage) → item_at st ≡ None → st ≡ Ended
-ended_stage Ended none = refl
-ended_stage (Advances k) none = cc
-ended_stage (Gives e next) none = cc
-
--- an advance of time is no event
-advance_no_event : (k : ℕ) (e : Event) → Some (item.Advance k) ≡ Some (item.Event e) → ⊥
-advance_no_event k e is = cc
 
 -- ---- where the next item is found
 
@@ -160,34 +148,26 @@ pub record IsOrderly (ids : List ℕ) (worker : ℕ) (t : Tree) (now left amount
   pub time : time_from script own ≡ amount
   pub forks : to_fork script own ≡ ahead
 
--- where a worker has come to by now, with the numbers that it has there
-at_itself : (ids : List ℕ) (worker : ℕ) (t : Tree) (now n k : ℕ) (us : List ℕ) (hand : Option ℕ) (own : Own) → LeadsTo (is_among ids) worker t now n k us hand own →
+-- where a worker has come to by now, with this hand
+come_with : (ids : List ℕ) (worker : ℕ) (t : Tree) (now n k : ℕ) (us : List ℕ) (hand : Option ℕ) (own : Own) → LeadsTo (is_among ids) worker t now n k us hand own →
     LeadsTo (is_among ids) worker t now (most own) (time_at own.stage) (hatching own.stage) hand own
-at_itself ids worker t now n k us hand own led = record {
-  same_worker = led.same_worker;
-  same_topology = led.same_topology;
-  few = omega arith;
-  time = refl;
-  hatches = refl;
-  hand = led.hand;
-  sound = led.sound;
-  named = led.named;
-  by_now = led.by_now;
+come_with ids worker t now n k us hand own led =
+    subst (λ h. LeadsTo (is_among ids) worker t now (most own) (time_at own.stage) (hatching own.stage) h own) led.hand (at_itself (is_among ids) worker t now n k us hand own led)
+
+-- where a worker has come to by a reply, with no time to add, no thread to hatch, and this hand
+told_leads : (ids : List ℕ) (worker : ℕ) (t : Tree) (now : ℕ) (hand : Option ℕ) (own : Own) → HasCome (is_among ids) worker t now own → time_at own.stage ≡ 0 → hatching own.stage ≡ [] →
+    in_hand own.stage ≡ hand → LeadsTo (is_among ids) worker t now (most own) 0 [] hand own
+told_leads ids worker t now hand own come time hatches held = record {
+  same_worker = come.same_worker;
+  same_topology = come.same_topology;
+  few = come.few;
+  time = time;
+  hatches = hatches;
+  hand = held;
+  sound = come.sound;
+  named = come.named;
+  by_now = come.by_now;
 }
-
--- a worker that has come to where it stands by now has come there by any later time
-stage_later : (st : Stage) (now later : ℕ) → now ≤ later → IsStageBy now st → IsStageBy later st
-stage_later Ended now later past by = tt
-stage_later (Advances k) now later past by = tt
-stage_later (Gives e next) now later past by = next_later next by
-  where
-    purpose_later : (purpose : Purpose) → IsStageBy now (Gives e (Sees purpose)) → IsStageBy later (Gives e (Sees purpose))
-    purpose_later (ToLand t card) by = omega (arith, by, past)
-    purpose_later _ by = tt
-
-    next_later : (next : Next) → IsStageBy now (Gives e next) → IsStageBy later (Gives e next)
-    next_later (Sees purpose) by = purpose_later purpose by
-    next_later _ by = tt
 
 -- a course of a worker that is orderly once it is told
 abbrev pub HasOrder : List ℕ → ℕ → Tree → ℕ → Course → Type 0
@@ -219,18 +199,6 @@ abbrev pub IsNextItem : List ℕ → ℕ → Tree → ℕ → Course → Item �
 IsNextItem ids worker t now course i after = IsFound (IsOrderly ids worker t now (left_of t.cpus course) (time_of course) (held_at course) (forks_ahead course)) i after
 
 module _ (ids : List ℕ) (worker : ℕ) (t : Tree) (seat : IsSeat worker t) (now : ℕ) where
-  -- the worker's seat, by its own part
-  seat_of : (own : Own) → own.worker ≡ worker → own.topology ≡ t → IsSeat own.worker own.topology
-  seat_of own same_worker same_topology = subst (λ s. IsSeat own.worker s) (sym same_topology) (subst (λ w. IsSeat w t) (sym same_worker) seat)
-
-  -- where this worker's command begins
-  begun_from : (c : Command) (own : Own) → is_command ids t.cpus c ≡ true → own.worker ≡ worker → own.topology ≡ t →
-      LeadsTo (is_among ids) worker t now (greatest_of c worker t.cpus) (amount_of c) (forked_by c) None (begun c (once_given own))
-  begun_from c own valid same_worker same_topology =
-      subst (λ s. LeadsTo (is_among ids) worker s now (greatest_of c worker s.cpus) (amount_of c) (forked_by c) None (begun c (once_given own))) same_topology
-      (subst (λ w. LeadsTo (is_among ids) w own.topology now (greatest_of c w own.topology.cpus) (amount_of c) (forked_by c) None (begun c (once_given own))) same_worker
-      (to_begun ids (once_given own) now c (seat_of own same_worker same_topology) (subst (λ (s : Tree). is_command ids s.cpus c ≡ true) (sym same_topology) valid)))
-
   -- a command that is begun keeps a worker orderly
   pub orderly_begun : (left amount : ℕ) (hand : Option ℕ) (ahead : List ℕ) → KeptAtBegin (IsOrderly ids worker t now left amount hand ahead)
   orderly_begun left amount hand ahead c cs own none orderly =
@@ -239,14 +207,14 @@ module _ (ids : List ℕ) (worker : ℕ) (t : Tree) (seat : IsSeat worker t) (no
       let short : time_at own.stage ≡ 0 = ap time_at ended in
       let parts = and_parts (is_command ids t.cpus c) (list_all (is_command ids t.cpus) cs) orderly.valid in
       let led : LeadsTo (is_among ids) worker t now (greatest_of c worker t.cpus) (amount_of c) (forked_by c) None (begun c (once_given own)) =
-      begun_from c own parts.0 orderly.leads.same_worker orderly.leads.same_topology in
+      command_leads ids worker t now c (once_given own) seat parts.0 orderly.leads.same_worker orderly.leads.same_topology in
       let first : greatest_in t.cpus (begun c (once_given own)).worker cs ≡ greatest_in t.cpus worker cs = ap (λ w. greatest_in t.cpus w cs) led.same_worker in
       let all : greatest_in t.cpus own.worker (c ∷ cs) ≡ greatest_in t.cpus worker (c ∷ cs) = ap (λ w. greatest_in t.cpus w (c ∷ cs)) orderly.leads.same_worker in
       let same : None ≡ hand = sym (ap in_hand ended) ∙ orderly.leads.hand in
       record {
         valid = parts.1;
         leads = subst (λ h. LeadsTo (is_among ids) worker t now (most (begun c (once_given own))) (time_at (begun c (once_given own)).stage) (hatching (begun c (once_given own)).stage) h
-            (begun c (once_given own))) same (at_itself ids worker t now (greatest_of c worker t.cpus) (amount_of c) (forked_by c) None (begun c (once_given own)) led);
+            (begun c (once_given own))) same (come_with ids worker t now (greatest_of c worker t.cpus) (amount_of c) (forked_by c) None (begun c (once_given own)) led);
         few = omega (arith, orderly.few, led.few, few, first, all, sum_by-cons (λ d. greatest_of d worker t.cpus) c cs);
         time = omega (arith, short, orderly.time, led.time, sum_by-cons amount_of c cs);
         forks = ap (λ us. us ++ flat_map forked_by cs) led.hatches ∙ sym (ap (λ st. hatching st ++ flat_map forked_by (c ∷ cs)) ended) ∙ orderly.forks;
@@ -289,7 +257,7 @@ module _ (ids : List ℕ) (worker : ℕ) (t : Tree) (now : ℕ) where
         orderly = record {
           valid = orderly.valid;
           leads = subst (λ h. LeadsTo (is_among ids) worker t now (most (told_at reached)) (time_at (told_at reached).stage) (hatching (told_at reached).stage) h (told_at reached))
-              (sym led.hand) (at_itself ids worker t now n 0 [] hand (told_at reached) led);
+              (sym led.hand) (come_with ids worker t now n 0 [] hand (told_at reached) led);
           few = omega arith;
           time = refl;
           forks = refl;
@@ -301,22 +269,6 @@ module _ (ids : List ℕ) (worker : ℕ) (t : Tree) (now : ℕ) where
       }
 
 module _ (ids : List ℕ) (worker : ℕ) (t : Tree) (seat : IsSeat worker t) (now : ℕ) where
-  -- where the reply to a worker's event leads
-  led_from : (left amount : ℕ) (hand : Option ℕ) (ahead : List ℕ) (script : List Command) (own : Own) (e : Event) (next : Next) (r : Reply) →
-      IsOrderly ids worker t now left amount hand ahead script (record own { stage = Gives e next }) → IsReplyTo (is_among ids) t.cpus now e r →
-      LeadsTo (is_among ids) worker t now (most_after next (record own { stage = Gives e next })) 0 [] (hand_by_word (handling e) (change_of e r) hand)
-      (after next r now (record own { stage = Gives e next }))
-  led_from left amount hand ahead script own e next r orderly says =
-      let at : Own = record own { stage = Gives e next } in
-      subst (λ h. LeadsTo (is_among ids) worker t now (most_after next at) 0 [] h (after next r now at))
-      (sym (orderly.leads.named.hand r now says) ∙ ap (hand_by_word (handling e) (change_of e r)) orderly.leads.hand)
-      (subst (λ w. LeadsTo (is_among ids) w t now (most_after next at) 0 [] (hand_after next r) (after next r now at)) orderly.leads.same_worker
-      (subst (λ s. LeadsTo (is_among ids) own.worker s now (most_after next at) 0 [] (hand_after next r) (after next r now at)) orderly.leads.same_topology
-      (to_after (is_among ids) at next r now (seat_of ids worker t seat now own orderly.leads.same_worker orderly.leads.same_topology) orderly.leads.sound orderly.leads.named.charges
-      (subst (λ w. Allows (is_among ids) w own.topology.cpus next r now) (sym orderly.leads.same_worker)
-      (subst (λ (s : Tree). Allows (is_among ids) worker s.cpus next r now) (sym orderly.leads.same_topology)
-      (orderly.leads.named.allows r now says orderly.leads.by_now))))))
-
   -- a worker that is told the reply to its next event goes on
   told_from : (course : Course) (script : List Command) (own : Own) (st : Stage) (e : Event) (r : Reply) →
       IsOrderly ids worker t now (left_of t.cpus course) (time_of course) (held_at course) (forks_ahead course) script (record own { stage = st }) →
@@ -329,11 +281,16 @@ module _ (ids : List ℕ) (worker : ℕ) (t : Tree) (seat : IsSeat worker t) (no
       let same : f ≡ e = cc in
       let back : e ≡ f = cc in
       let reached : Course = record { script = script; own = record own { stage = Gives f next }; last = Some (r, now) } in
+      let told : IsTold (is_among ids) worker t now f r (Gives f next) (record own { stage = Gives f next }) (told_at reached) =
+      reply_at (is_among ids) worker t seat now own (Gives f next) f r refl
+      (at_itself (is_among ids) worker t now (most (record own { stage = Gives f next })) 0 (hatched_by f) (held_at course) (record own { stage = Gives f next }) orderly.leads)
+      (subst (λ x. IsReplyTo (is_among ids) t.cpus now x r) back says) in
       subst (λ x. GoesOnAs ids worker t now 0 (hatched_by x) (hand_by_word (handling x) (change_of x r) (held_at course)) course reached) same
       (went_on ids worker t now course reached 0 (hatched_by f) (held_at course) (hand_by_word (handling f) (change_of f r) (held_at course)) (record own { stage = Gives f next })
-      (most_after next (record own { stage = Gives f next })) orderly
-      (led_from (left_of t.cpus course) (time_of course) (held_at course) (forks_ahead course) script own f next r orderly (subst (λ x. IsReplyTo (is_among ids) t.cpus now x r) back says))
-      (omega arith) refl refl)
+      (most (told_at reached)) orderly
+      (told_leads ids worker t now (hand_by_word (handling f) (change_of f r) (held_at course)) (told_at reached) told.come (after_goes_on next r now (record own { stage = Gives f next })).1 told.hatches
+      (told.hand ∙ ap (hand_by_word (handling f) (change_of f r)) orderly.leads.hand))
+      (omega (arith, told.fewer)) refl refl)
 
   -- a course that is told the reply to its next event goes on
   pub course_told : (course : Course) (e : Event) (after : Course) (r : Reply) → IsNextItem ids worker t now course (item.Event e) after →
@@ -411,9 +368,7 @@ hears_at ids worker t now left amount hand ahead script own (Advances k) e r ord
 hears_at ids worker t now left amount hand ahead script own (Gives f next) e r orderly is says =
     let back : e ≡ f = cc in
     allows_any (is_among ids) own.worker own.topology.cpus next r now
-    (subst (λ w. Allows (is_among ids) w own.topology.cpus next r now) (sym orderly.leads.same_worker)
-    (subst (λ (s : Tree). Allows (is_among ids) worker s.cpus next r now) (sym orderly.leads.same_topology)
-    (orderly.leads.named.allows r now (subst (λ x. IsReplyTo (is_among ids) t.cpus now x r) back says) orderly.leads.by_now)))
+    (allowed_at (is_among ids) worker t now (most (record own { stage = Gives f next })) 0 (hatched_by f) hand own f next r orderly.leads (subst (λ x. IsReplyTo (is_among ids) t.cpus now x r) back says))
 
 -- a course that has a thread in hand has a next item
 pub held_goes_on : (u : ℕ) (course : Course) → held_at course ≡ Some u → next_step course ≡ None → ⊥

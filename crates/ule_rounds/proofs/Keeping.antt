@@ -266,7 +266,8 @@ under_way_advanced s p worker k course after kept got found = record {
 pub next_replies : (s : Setup) (p : Play) (worker : ℕ) (course after : Course) (e : Event) → IsUnderWay s p → HasNext s p worker course e after →
     IsReplyTo (is_among (ids_in s)) s.cpus p.now e (step p.world worker e p.now).1
 next_replies s p worker course after e kept has =
-    step_replies (ids_in s) s.cpus p.world worker p.now (record { bound = kept.bound; last = kept.last; by_now = kept.by_now; parents = kept.parents; bounds = kept.bounds; made = kept.made.members }) e has.declared has.finds
+    step_replies (ids_in s) s.cpus p.world worker p.now (record { bound = kept.bound; last = kept.last; parents = kept.parents; bounds = kept.bounds; made = kept.made.members }) e has.declared has.finds
+    (all_along (λ (m : Member). IsBy p.now m.thread) (λ m. is_reached p.world worker e m.place ≡ true → IsBy p.now m.thread) p.world.members (λ m by reached. by) kept.by_now)
 
 -- the program that gave the event can hear the reply
 pub hears_reply : (s : Setup) (p : Play) (worker : ℕ) (course after : Course) (e : Event) → IsUnderWay s p → slice_get p.courses worker ≡ Some course →
