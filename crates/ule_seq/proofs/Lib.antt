@@ -9,3 +9,5 @@ pub mod StepPromises
 pub mod RefusalLaws
 pub mod FinalLaws
 pub mod PlayLaws
+pub mod OpeningWords
+pub mod PartLaws

@@ -6,3 +6,5 @@ pub mod Readiness
 pub mod Promises
 pub mod Outcomes
 pub mod Playing
+pub mod Parts
+pub mod PartLaws
