@@ -12,7 +12,7 @@ use Rattle.ule_types.specs.declared.setup.ThreadSpec.{ThreadSpec}
 use Rattle.ule_model.specs.Places.{lock_of}
 use Rattle.ule_model.specs.Start.{empty_world, laid, unborn_member, unborn_record, with_unborn, world_at_start}
 use Rattle.ule_model.specs.World.{Member, World, is_numbered, thread_of}
-use Rattle.ule_members.proofs.Starts.{IsGood, IsLaid, IsQueuedBelow, HasGoodNumbers, distinct_new, good_numbers, laid_is, laid_new, laid_once, newly_laid, queued_numbers, empty_laid}
+use Rattle.ule_members.proofs.Starts.{IsGood, IsLaid, IsQueuedBelow, HasGoodNumbers, distinct_new, good_numbers, laid_is, laid_new, laid_once, newly_laid, queued_numbers, laid_first_is}
 use Rattle.ule_parts.specs.Scheduler.{lock_or_limbo, opening_word}
 use Rattle.ule_seq.specs.Parts.{declared_word}
 
@@ -94,5 +94,5 @@ opening_word_is s t =
     let good : HasGoodNumbers s = good_numbers s in
     flat (λ (m : Member). lock_of m.place) (thread_of t (world_at_start s).members) ∙
     (all_unborn t (fold laid (empty_world s) s.threads) s.unborn ∙
-    (ap or_limbo (all_laid s.cpus s.settings t [] (empty_world s) s.threads good.queued good.distinct (empty_laid s)) ∙
+    (ap or_limbo (all_laid s.cpus s.settings t [] (empty_world s) s.threads good.queued good.distinct (laid_first_is s 0)) ∙
     flat_declared (find (λ (spec : ThreadSpec). spec.id == t) s.threads)))

@@ -55,7 +55,7 @@ sought_is limbo = refl
 sought_is (place_of t) = refl
 
 -- one command more is charged
-pub charged_more : (f : Command → ℕ) (cs : List Command) (k : ℕ) (c : Command) → slice_get cs k ≡ Some c → total_charge f (take (k + 1) cs) ≡ total_charge f (take k cs) + f c
+pub charged_more : (f : Command → ℕ) (cs : List Command) (k : ℕ) (c : Command) → slice_get cs k ≡ Some c → total_charge f (take (suc k) cs) ≡ total_charge f (take k cs) + f c
 charged_more f [] k c at = absurd (none-some c at)
 charged_more f (d ∷ cs) zero c at = let z = ap f (same_Some d c at) in omega arith
 charged_more f (d ∷ cs) (suc k) c at = let z = charged_more f cs k c at in omega arith

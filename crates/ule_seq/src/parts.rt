@@ -1,7 +1,10 @@
 //! The scheduler of a setup, as the parts of the step model.
 ghost use Rattle.std.specs.Prelude.{◌≡◌, ℕ, ◌<◌, ◌≤◌};
 ghost use Rattle.ule_types.specs.Commands.{greatest_of};
+ghost use Rattle.ule_program.specs.Hearing.{CanHear};
+ghost use Rattle.ule_program.specs.Program.{next_of};
 ghost use Rattle.ule_micro.specs.Laws.{total_charge};
+ghost use Rattle.ule_parts.specs.Acts.{todo_of};
 ghost use Rattle.ule_seq.specs.Parts.{declared_word};
 
 use crate::hand::Hand;
@@ -97,7 +100,11 @@ impl Parts for SchedParts {
         own.program.begin(c);
     }
 
-    fn next(&self, own: &mut SchedOwn, last: Option<(Reply, u64)>) -> Option<Todo<Event>> {
+    fn next(&self, own: &mut SchedOwn, last: Option<(Reply, u64)>) -> Option<Todo<Event>>
+        requires { CanHear last own.old.program }
+        ensures item { result ≡ todo_of (next_of last own.old.program).0 }
+        ensures own { own.new ≡ record { program = (next_of last own.old.program).1; hand = own.old.hand } }
+    {
         todo_of(own.program.next(last))
     }
 
