@@ -7,3 +7,5 @@ pub mod FinalRows
 pub mod Lines
 pub mod Parted
 pub mod ReadingRows
+pub mod ReadBack
+pub mod EventBack
