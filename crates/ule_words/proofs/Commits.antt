@@ -114,7 +114,8 @@ module _ {H O G E R C : Type 0} (m : Means H O G E R C) where
 
     -- the ticket stands where the entries so far end
     pub ticket_small : (n < 65536) × (p.seen ≤ n)
-    ticket_small = let a : n ≡ st.ticket = r.words.ticket in let b = r.budget.items in let c = together_at r.allowances w p.allowance it.left in let d = can.left in let f = it.knows.seen in ((omega arith), (omega arith))
+    ticket_small = let a : n ≡ st.ticket = r.words.ticket in let b = r.budget.items in let c = together_at r.allowances w p.allowance it.left in let d = can.left in
+        let f = it.knows.seen in ((omega arith), (omega arith))
 
     abbrev s' : Shared H G E R
     s' = committed m st w e locks now p.advanced after
@@ -147,7 +148,8 @@ module _ {H O G E R C : Type 0} (m : Means H O G E R C) where
       mine = (λ i. (p.advanced, record { number = (let z : n + 1 ≡ length st.history + 1 = omega arith in z) i; entry = entry_made w e locks now left.reply }) ∷ k.mine i)
           ∙ sym (made_here w (record { entry = entry_made w e locks now left.reply; amount = p.advanced }) st.history refl);
       seen = omega arith;
-      numbers = numbers_more (p.advanced, record { number = n + 1; entry = entry_made w e locks now left.reply }) p.mine p.seen (n + 1) p.advanced k.numbers (let a = ticket_small.1 in omega arith) (omega arith) (omega arith);
+      numbers = numbers_more (p.advanced, record { number = n + 1; entry = entry_made w e locks now left.reply }) p.mine p.seen (n + 1) p.advanced k.numbers
+          (let a = ticket_small.1 in omega arith) (omega arith) (omega arith);
     }
 
     abbrev allowances' : List ℕ
@@ -165,8 +167,10 @@ module _ {H O G E R C : Type 0} (m : Means H O G E R C) where
           (record { number = it.number; knows = knows_after; left = get_here r.allowances w (p.allowance - 1) (there r.allowances w p.allowance it.left) })
           (λ x far o. record {
             number = o.number;
-            knows = knows_kept st s' x (get_else st.hands w x.number after.hand far) (λ l. refl) (λ l h. laid_else st.values locks left.values l (not_its x.number l far (o.knows.holds l ∙ h))) (put_else st.pending w (m.change e after.reply) x.number far)
-                (put_else st.read w None x.number far) refl (made_else x.number (record { entry = entry_made w e locks now left.reply; amount = p.advanced }) st.history (λ z. far (sym z))) (omega arith) o.knows;
+            knows = knows_kept st s' x (get_else st.hands w x.number after.hand far) (λ l. refl) (λ l h. laid_else st.values locks left.values l (not_its x.number l far
+                (o.knows.holds l ∙ h))) (put_else st.pending w (m.change e after.reply) x.number far)
+                (put_else st.read w None x.number far) refl (made_else x.number (record { entry = entry_made w e locks now left.reply; amount = p.advanced }) st.history
+                (λ z. far (sym z))) (omega arith) o.knows;
             left = get_else r.allowances w x.number (p.allowance - 1) far ∙ o.left;
           });
       advances = r.advances;
@@ -194,7 +198,8 @@ module _ {H O G E R C : Type 0} (m : Means H O G E R C) where
                 (λ i. (one (committing m (same i) e (both_read i).0 (both_read i).1 (n + 1)), me.1)),
                 t.0,
                 subst (λ (z : Worker H G E R). z.seen ≤ n) same t.1,
-                subst₂ (λ (z : Worker H G E R) (y : ℕ). m.may z.number e y z.hand (held_values z.held)) same (ap (λ (z : HeldLocks × ℕ). z.1) both_read) (may_commit law s r id p at_p e locks now can ready.few),
+                subst₂ (λ (z : Worker H G E R) (y : ℕ). m.may z.number e y z.hand (held_values z.held)) same (ap (λ (z : HeldLocks × ℕ). z.1) both_read)
+                    (may_commit law s r id p at_p e locks now can ready.few),
               ),
         )
 

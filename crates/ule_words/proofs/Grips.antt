@@ -84,7 +84,8 @@ module _ {G : Type 0} where
       (λ (z : (l ≡ y.0) × (v ≡ w)). laid_first values y.0 x.0 v u (λ n. far (sym n)) (there values y.0 y.1 b) l z.0 ∙ ap Some z.1)
       (two_found (x.0, u) (y.0, v) l w e)
 
-  laid_two : (locks : HeldLocks) (values : List G) (v u : G) (us : List G) (l : ℕ) (a b : ℕ) → in_rising_order a b ≡ locks → laid_under locks values (v ∷ u ∷ us) ≡ laid_under (in_rising_order a b) values (v ∷ u ∷ [])
+  laid_two : (locks : HeldLocks) (values : List G) (v u : G) (us : List G) (l : ℕ) (a b : ℕ) → in_rising_order a b ≡ locks
+      → laid_under locks values (v ∷ u ∷ us) ≡ laid_under (in_rising_order a b) values (v ∷ u ∷ [])
   laid_two locks values v u us l a b e = subst (λ z. laid_under z values (v ∷ u ∷ us) ≡ laid_under (in_rising_order a b) values (v ∷ u ∷ [])) e (by (nat_lt a b)) where
     by : (c : Bool) → laid_under (if c then Two a b else Two b a) values (v ∷ u ∷ us) ≡ laid_under (if c then Two a b else Two b a) values (v ∷ u ∷ [])
     by true = refl
@@ -100,7 +101,8 @@ module _ {G : Type 0} where
 
   module _ (values : List G) (locks : HeldLocks) (rise : AreInRisingOrder locks) where
     -- the values under the locks are those that are held
-    pub under_held : (held : List (ℕ × G)) → length held ≤ 2 → locks_of held ≡ Some locks → ((l : ℕ) (v : G) → value_held held l ≡ Some v → slice_get values l ≡ Some v) → values_under locks values ≡ Some (held_values held)
+    pub under_held : (held : List (ℕ × G)) → length held ≤ 2 → locks_of held ≡ Some locks → ((l : ℕ) (v : G) → value_held held l ≡ Some v
+        → slice_get values l ≡ Some v) → values_under locks values ≡ Some (held_values held)
     under_held [] few e at = absurd (none-some locks e)
     under_held (x ∷ []) few e at = subst (λ z. values_under z values ≡ Some (x.1 ∷ [])) (same_Some (One x.0) locks e) (ap alone (at x.0 x.1 (found_here x [] x.0 refl)))
     under_held (x ∷ y ∷ []) few e at = let is = same_Some (in_rising_order x.0 y.0) locks e in

@@ -80,7 +80,8 @@ module _ {H O G E R C : Type 0} (m : Means H O G E R C) where
   put_out f n a k e = ap (λ b. cond b a (f k)) (ne_eqb k n e)
 
   -- a seat that knows several workers gives the first one to a new seat
-  pub workers_deal : (views : List (View H G E R)) (s : Shared H G E R) (left : List ℕ) (id : ℕ) (p : Worker H G E R) (ps : List (Worker H G E R)) → get_elem? views id ≡ some (record { workers = p ∷ ps })
+  pub workers_deal : (views : List (View H G E R)) (s : Shared H G E R) (left : List ℕ) (id : ℕ) (p : Worker H G E R) (ps : List (Worker H G E R))
+      → get_elem? views id ≡ some (record { workers = p ∷ ps })
       → ShowsWorkers m views s left → ShowsWorkers m (set views id (record { workers = ps }) ++ record { workers = p ∷ [] } ∷ []) s left
   workers_deal views s left id p ps at r =
       let v : View H G E R = record { workers = p ∷ ps } in let stays : View H G E R = record { workers = ps } in let goes : View H G E R = record { workers = p ∷ [] } in

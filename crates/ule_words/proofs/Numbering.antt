@@ -29,7 +29,8 @@ module _ {E R : Type 0} where
   number_small w (x ∷ h) i y e = dite (ℕ_discrete x.entry.worker w)
       (λ d. by i (ap (λ l. slice_get l i) (sym (made_here w x h d)) ∙ e) (λ j f. number_small w h j y f))
       (λ d. let a = number_small w h i y (ap (λ l. slice_get l i) (sym (made_else w x h d)) ∙ e) in omega arith) where
-        by : (j : ℕ) → slice_get ((x.amount, record { number = length h + 1; entry = x.entry }) ∷ made_by w h) j ≡ Some y → ((k : ℕ) → slice_get (made_by w h) k ≡ Some y → y.1.number ≤ length h) → y.1.number ≤ length (x ∷ h)
+        by : (j : ℕ) → slice_get ((x.amount, record { number = length h + 1; entry = x.entry }) ∷ made_by w h) j ≡ Some y → ((k : ℕ)
+            → slice_get (made_by w h) k ≡ Some y → y.1.number ≤ length h) → y.1.number ≤ length (x ∷ h)
         by zero f rest = let a = ap (λ (z : ℕ × Numbered E R). z.1.number) (same_Some _ y f) in omega arith
         by (suc j) f rest = let a = rest j f in omega arith
 
@@ -38,7 +39,8 @@ module _ {E R : Type 0} where
   newest x h v i y e is = dite (ℕ_discrete x.entry.worker v) (λ d. sym d) (λ d. absurd (let a = number_small v h i y (ap (λ l. slice_get l i) (sym (made_else v x h d)) ∙ e) in omega arith))
 
   -- an older number is where it was
-  older : (x : Stamped E R) (h : List (Stamped E R)) (v i : ℕ) (y : ℕ × Numbered E R) → slice_get (made_by v (x ∷ h)) i ≡ Some y → y.1.number ≢ length h + 1 → (j : ℕ) × (slice_get (made_by v h) j ≡ Some y)
+  older : (x : Stamped E R) (h : List (Stamped E R)) (v i : ℕ) (y : ℕ × Numbered E R) → slice_get (made_by v (x ∷ h)) i ≡ Some y → y.1.number ≢ length h + 1
+      → (j : ℕ) × (slice_get (made_by v h) j ≡ Some y)
   older x h v i y e far = dite (ℕ_discrete x.entry.worker v)
       (λ d. by i (ap (λ l. slice_get l i) (sym (made_here v x h d)) ∙ e))
       (λ d. (i, ap (λ l. slice_get l i) (sym (made_else v x h d)) ∙ e)) where

@@ -45,14 +45,16 @@ module _ {H O G E R C : Type 0} (m : Means H O G E R C) where
   -- the allowances at the start are the budgets
   first_budgets : (w : ℕ) (owns : List O) → together (map (λ (p : Worker H G E R). p.allowance) (first_workers m w owns)) + budgets m.budget w ≡ budgets m.budget (w + length owns)
   first_budgets w [] = let c = ap (budgets m.budget) (let z : w ≡ w + 0 = omega arith in z) in omega arith
-  first_budgets w (own ∷ owns) = let a = first_budgets (w + 1) owns in let b = budgets_next m.budget w in let c = ap (budgets m.budget) (let z : w + 1 + length owns ≡ w + suc (length owns) = omega arith in z) in omega arith
+  first_budgets w (own ∷ owns) = let a = first_budgets (w + 1) owns in let b = budgets_next m.budget w in
+      let c = ap (budgets m.budget) (let z : w + 1 + length owns ≡ w + suc (length owns) = omega arith in z) in omega arith
 
   module _ (law : IsLawful m) where
     no_thread : (t w : ℕ) → m.declared t ≡ true → carried_by m (map m.hand m.owns) w t ≡ false
     no_thread t w dec = by (slice_get (map m.hand m.owns) w) refl where
       by : (o : Option H) → slice_get (map m.hand m.owns) w ≡ o → carried_by m (map m.hand m.owns) w t ≡ false
       by None e = ap (λ i. elim i as (λ _. Bool) [ None ↦ false | Some h ↦ m.carried_in h t ]) e
-      by (Some h) e = let o = map_get m.hand m.owns w h e in ap (λ i. elim i as (λ _. Bool) [ None ↦ false | Some h ↦ m.carried_in h t ]) e ∙ (ap (λ i. m.carried_in i t) (sym o.2) ∙ law.settled.empty t w o.0 dec o.1)
+      by (Some h) e = let o = map_get m.hand m.owns w h e in ap (λ i. elim i as (λ _. Bool) [ None ↦ false | Some h ↦ m.carried_in h t ]) e
+          ∙ (ap (λ i. m.carried_in i t) (sym o.2) ∙ law.settled.empty t w o.0 dec o.1)
 
     -- the state at the start agrees
     pub first_agrees : Agrees m (first_state m)
@@ -134,12 +136,14 @@ module _ {H O G E R C : Type 0} (m : Means H O G E R C) where
       budget = record {
         each = λ j k e. absurd (none-some k e);
         now = refl;
-        items = let a = first_budgets 0 m.owns in let b = law.small.small in let c = ap (budgets m.budget) (let y : 0 + length m.owns ≡ length m.owns = omega arith in y) in let d : budgets m.budget 0 ≡ 0 = refl in omega arith;
+        items = let a = first_budgets 0 m.owns in let b = law.small.small in let c = ap (budgets m.budget) (let y : 0 + length m.owns ≡ length m.owns = omega arith in
+            y) in let d : budgets m.budget 0 ≡ 0 = refl in omega arith;
       };
     }
 
   -- a seat may give its first worker to a new seat
-  pub deals : (id : ℕ) (p : Worker H G E R) (ps : List (Worker H G E R)) → Splits (Shows m) id (record { workers = p ∷ ps }) (rest_of (record { workers = p ∷ ps })) (first_of (record { workers = p ∷ ps }))
+  pub deals : (id : ℕ) (p : Worker H G E R) (ps : List (Worker H G E R))
+      → Splits (Shows m) id (record { workers = p ∷ ps }) (rest_of (record { workers = p ∷ ps })) (first_of (record { workers = p ∷ ps }))
   deals id p ps s r at = record {
     state = r.state;
     agrees = r.agrees;
@@ -156,10 +160,12 @@ module _ {H O G E R C : Type 0} (m : Means H O G E R C) where
   pub first_drop : (w n : ℕ) (owns : List O) (own : O) → slice_get owns n ≡ Some own → drop n (first_workers m w owns) ≡ first_worker m (w + n) own ∷ drop (suc n) (first_workers m w owns)
   first_drop w n [] own e = absurd (none-some own e)
   first_drop w zero (x ∷ owns) own e = λ i. first_worker m (let z : w ≡ w + 0 = omega arith in z i) (same_Some x own e i) ∷ first_workers m (w + 1) owns
-  first_drop w (suc n) (x ∷ owns) own e = first_drop (w + 1) n owns own e ∙ ap (λ i. first_worker m i own ∷ drop (suc n) (first_workers m (w + 1) owns)) (let z : w + 1 + n ≡ w + suc n = omega arith in z)
+  first_drop w (suc n) (x ∷ owns) own e = first_drop (w + 1) n owns own e
+      ∙ ap (λ i. first_worker m i own ∷ drop (suc n) (first_workers m (w + 1) owns)) (let z : w + 1 + n ≡ w + suc n = omega arith in z)
 
   -- the passes of the first workers, with one more
-  pub first_passes_more : (n : ℕ) (z : TableId) (ps ps' : List (PassState O H G E R)) (p : PassState O H G E R) → AreFirstPasses m n z ps → p.table ≡ z → slice_get m.owns n ≡ Some p.own → p.worker ≡ first_worker m n p.own
+  pub first_passes_more : (n : ℕ) (z : TableId) (ps ps' : List (PassState O H G E R)) (p : PassState O H G E R) → AreFirstPasses m n z ps → p.table ≡ z
+      → slice_get m.owns n ≡ Some p.own → p.worker ≡ first_worker m n p.own
       → ps' ≡ ps ++ p ∷ [] → AreFirstPasses m (n + 1) z ps'
   first_passes_more n z ps ps' p old table own worker is = let many = old.count in record {
     count = let a : length ps' ≡ length (ps ++ p ∷ []) = ap length is in let b = length-append ps (p ∷ []) in omega arith;

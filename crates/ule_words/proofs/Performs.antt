@@ -49,7 +49,8 @@ module _ {G : Type 0} where
 
 module _ {H O G E R C : Type 0} (m : Means H O G E R C) where
   -- a pass whose worker can commit is ready
-  pub ready_pass : (w left time : ℕ) (h : H) (holding : Holding G) (list : LogState (Numbered E R)) (me : Me (Option G) (View H G E R)) (t : IsTied w left time h holding list me) (e : E) (locks : HeldLocks) (now : ℕ)
+  pub ready_pass : (w left time : ℕ) (h : H) (holding : Holding G) (list : LogState (Numbered E R)) (me : Me (Option G) (View H G E R))
+      (t : IsTied w left time h holding list me) (e : E) (locks : HeldLocks) (now : ℕ)
       → CanCommit m t.worker e locks now → IsReady m me e
   ready_pass w left time h holding list me t e locks now can = record {
     worker = t.worker;
@@ -60,7 +61,8 @@ module _ {H O G E R C : Type 0} (m : Means H O G E R C) where
     few = subst (λ f. length f ≤ 2) (sym t.held) (two_at_most holding.last holding.first);
   }
 
-  module _ (p : Worker H G E R) (own : O) (holding : Holding G) (now time : ℕ) (e : E) (num : m.number own ≡ p.number) (hand : m.hand own ≡ p.hand) (held : in_fields holding ≡ p.held) (moment : time ≡ now) where
+  module _ (p : Worker H G E R) (own : O) (holding : Holding G) (now time : ℕ) (e : E) (num : m.number own ≡ p.number) (hand : m.hand own ≡ p.hand)
+      (held : in_fields holding ≡ p.held) (moment : time ≡ now) where
     -- what is performed with: a worker's number, a time, its hand and what it holds
     abbrev With : Type 0
     With = ℕ × ℕ × H × List (ℕ × G)
@@ -92,7 +94,8 @@ module _ {H O G E R C : Type 0} (m : Means H O G E R C) where
         allowance = ap (λ z. z - 1) t.allowance;
         time = λ r none. absurd (none-some r none);
         held = sym held;
-        log = ap (λ l. l.items) noted ∙ ((λ i. t.log i ++ is i ∷ []) ∙ sym (reverse-append (let z : List (Numbered E R) = record { number = number; entry = entry_made p.number e locks now (act_of m p e now).reply } ∷ [] in z) (map numbered_in p.mine)));
+        log = ap (λ l. l.items) noted ∙ ((λ i. t.log i ++ is i ∷ [])
+            ∙ sym (reverse-append (let z : List (Numbered E R) = record { number = number; entry = entry_made p.number e locks now (act_of m p e now).reply } ∷ [] in z) (map numbered_in p.mine)));
         room = subst (λ (l : LogState (Numbered E R)). length l.items + (left - 1) ≤ l.room) (sym noted) (let z = t.room in omega (arith, length-append list.items (made ∷ [])));
         order = λ none. absurd (none-some y (sym none ∙ after));
         apart = λ u b at_u at_b lock_same. let old = below b at_b in t.apart x old.0 top old.1 (sym same ∙ (same_lock y u (sym after ∙ at_u) ∙ (lock_same ∙ old.2)));

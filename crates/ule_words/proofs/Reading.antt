@@ -27,9 +27,11 @@ module _ {H O G E R C : Type 0} (m : Means H O G E R C) where
     word_found word told is so = let z = told.1 p t is refl in subst (IsWordOf m p t) (thread_word_same z.0 word (sym z.1 ∙ sym so)) z.3
 
   -- a thread whose word names a lock that the worker holds stands under it
-  pub stands_held : (p : Worker H G E R) (t l : ℕ) (v : G) (word : Word) → IsWordOf m p t word → m.declared t ≡ true → p.pending ≡ None → word ≡ Lock l → value_held p.held l ≡ Some v → m.stands_in v t ≡ true
+  pub stands_held : (p : Worker H G E R) (t l : ℕ) (v : G) (word : Word) → IsWordOf m p t word → m.declared t ≡ true → p.pending ≡ None → word ≡ Lock l
+      → value_held p.held l ≡ Some v → m.stands_in v t ≡ true
   stands_held p t l v word r dec quiet named has = let s = r.state in let own = r.knows.holds l ∙ ap is_some has in
-      sym (stands_here m s.values l t v (r.knows.values l v has)) ∙ word_tells s.holds s.pending (λ i. stands_under m s.values i t) (λ u. carried_by m s.hands u t) t (s.words t) p.number l (r.knows.pending ∙ quiet)
+      sym (stands_here m s.values l t v (r.knows.values l v has))
+      ∙ word_tells s.holds s.pending (λ i. stands_under m s.values i t) (λ u. carried_by m s.hands u t) t (s.words t) p.number l (r.knows.pending ∙ quiet)
       (λ u h. one_holder (s.locks l) (λ i. s.holds i l) (r.agrees.locks l) u p.number h own) (r.is ∙ named) (r.agrees.threads t dec)
 
   -- a lock that the worker does not hold is held by another
@@ -37,5 +39,6 @@ module _ {H O G E R C : Type 0} (m : Means H O G E R C) where
   holder_other p l w r free same = true≢false (sym ((r.agrees.locks l).held w r.is) ∙ (ap (λ u. r.state.holds u l) same ∙ (r.knows.holds l ∙ free)))
 
   -- what a take that did not win tells
-  pub busy_tells : (me me' : Me (Option G) (View H G E R)) (l found : ℕ) (p : Worker H G E R) → Takes m l me found me' → me.0 ≡ one p → found ≢ 0 → (me' ≡ me) × ((w : ℕ) × (found ≡ w + 1) × IsHolderOf m p l w)
+  pub busy_tells : (me me' : Me (Option G) (View H G E R)) (l found : ℕ) (p : Worker H G E R) → Takes m l me found me' → me.0 ≡ one p → found ≢ 0
+      → (me' ≡ me) × ((w : ℕ) × (found ≡ w + 1) × IsHolderOf m p l w)
   busy_tells me me' l found p told is busy = (told p is).1 busy

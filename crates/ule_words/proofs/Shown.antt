@@ -65,7 +65,8 @@ module _ {H G E R : Type 0} (words : List ℕ) (s s' : Shared H G E R) (r : Show
     count = length-set words (25 + t) n ∙ r.count;
     locks = λ i near. get_or-set_other words (25 + t) i n 0 (λ e. (let a : i < 25 = near in omega arith)) ∙ (r.locks i near ∙ ap lock_word (sym (locks i)));
     threads = λ u near. dite (ℕ_discrete u t)
-        (λ z. subst (λ j. get_or (set words (25 + t) n) (25 + j) 0 ≡ thread_word (s'.words j)) (sym z) (get_or-set_same words (25 + t) n 0 (let a : length words ≡ 283 = r.count in omega arith) ∙ ap thread_word (sym here)))
+        (λ z. subst (λ j. get_or (set words (25 + t) n) (25 + j) 0 ≡ thread_word (s'.words j)) (sym z) (get_or-set_same words (25 + t) n 0
+        (let a : length words ≡ 283 = r.count in omega arith) ∙ ap thread_word (sym here)))
         (λ far. get_or-set_other words (25 + t) (25 + u) n 0 (λ e. far (omega arith)) ∙ (r.threads u near ∙ ap thread_word (sym (others u far))));
     ticket = get_or-set_other words (25 + t) 281 n 0 (λ e. omega arith) ∙ (r.ticket ∙ sym ticket);
     now = get_or-set_other words (25 + t) 282 n 0 (λ e. omega arith) ∙ (r.now ∙ sym now);
@@ -100,7 +101,8 @@ module _ {H O G E R C : Type 0} (m : Means H O G E R C) (s : Shared H G E R) (k 
         held v a at has = subst (λ i. i < 25) (lock_injective a l (sym at ∙ named)) (holders v a has)
 
         by : (p : Place) → WordAgrees s.holds s.pending t (s.words t) p → IsThere (λ i. stands_under m s.values i t) (λ v. carried_by m s.hands v t) p → l < 25
-        by (under j) (inl (is, calm)) st = let v = stands_value m s.values j t st in let z = there s.values j v.0 v.1 in let same : j ≡ l = lock_injective j l (sym is ∙ named) in let c : length s.values ≡ 25 = k.values in omega arith
+        by (under j) (inl (is, calm)) st = let v = stands_value m s.values j t st in let z = there s.values j v.0 v.1 in let same : j ≡ l = lock_injective j l (sym is
+            ∙ named) in let c : length s.values ≡ 25 = k.values in omega arith
         by (under j) (inr (v, (is, has, inl b))) st = absurd (lock_not_blocked l (sym named ∙ b))
         by (under j) (inr (v, (is, has, inr (a, at, ha)))) st = held v a at ha
         by (in_hand v) (inl (is, calm)) st = absurd (lock_not_blocked l (sym named ∙ is))

@@ -31,9 +31,11 @@ module _ {O H G E R : Type 0} where
     worker_is = ap (λ (s : PassState O H G E R). s.worker) (sym seen ∙ state_is z w h own me t.worker (slots_out t.worker.held) t.view)
 
     -- the pass after its worker became q, and nothing else changed
-    pub state_after : (z' : TableId) (me' : Me (Option G) (View H G E R)) (q : Worker H G E R) (c : List (ℕ × Option G)) → z' ≡ z → me' ≡ (one q, c) → pass_state_of z' w h own me' ≡ record st { worker = q }
+    pub state_after : (z' : TableId) (me' : Me (Option G) (View H G E R)) (q : Worker H G E R) (c : List (ℕ × Option G)) → z' ≡ z → me' ≡ (one q, c)
+        → pass_state_of z' w h own me' ≡ record st { worker = q }
     state_after z' me' q c same now = state_is z' w h own me' q c now
-        ∙ ap₂ (λ (a : TableId) (b : O). let r : PassState O H G E R = record { table = a; own = b; worker = q } in r) (same ∙ ap (λ (s : PassState O H G E R). s.table) seen) (ap (λ (s : PassState O H G E R). s.own) seen)
+        ∙ ap₂ (λ (a : TableId) (b : O). let r : PassState O H G E R = record { table = a; own = b; worker = q } in r) (same
+        ∙ ap (λ (s : PassState O H G E R). s.table) seen) (ap (λ (s : PassState O H G E R). s.own) seen)
 
 module _ {X : Type 0} where
   head_or : X → List X → X
@@ -72,7 +74,8 @@ module _ {H G E R : Type 0} where
   )
 
   -- a pass after it took a lock
-  pub put_tied : (w left time : ℕ) (h : H) (holding new : Holding G) (log : LogState (Numbered E R)) (me me' : Me (Option G) (View H G E R)) (t : IsTied w left time h holding log me) (l : ℕ) (v : G) (x : Held G)
+  pub put_tied : (w left time : ℕ) (h : H) (holding new : Holding G) (log : LogState (Numbered E R)) (me me' : Me (Option G) (View H G E R))
+      (t : IsTied w left time h holding log me) (l : ℕ) (v : G) (x : Held G)
       → x.lock ≡ l → x.value ≡ v → new.last ≡ Some x → new.first ≡ holding.last → holding.first ≡ None → value_held t.worker.held l ≡ None → l < 25
       → me' ≡ (one (taking t.worker l v), (l, None) ∷ slots_out t.worker.held) → IsTied w left time h new log me'
   put_tied w left time h holding new log me me' t l v x xl xv last first bare fresh near now = record {
@@ -87,12 +90,14 @@ module _ {H G E R : Type 0} where
     held = (λ i. (sym xl i, sym xv i) ∷ (t.held ∙ ((λ j. in_field holding.last ++ in_field (bare j)) ∙ append-nil (in_field holding.last))) i) ∙ (λ i. in_field (sym last i) ++ in_field (sym first i));
     order = λ e. absurd (none-some x (sym e ∙ last));
     apart = λ a b at_a at_b same. none-some b.value (sym fresh ∙ (ap (λ z. value_held z l) t.held
-        ∙ (ap (λ z. value_held (in_field z ++ in_field holding.first) l) (sym first ∙ at_b) ∙ found_here (b.lock, b.value) (in_field holding.first) l (sym same ∙ (same_lock a x (sym at_a ∙ last) ∙ xl)))));
+        ∙ (ap (λ z. value_held (in_field z ++ in_field holding.first) l) (sym first ∙ at_b) ∙ found_here (b.lock, b.value) (in_field holding.first) l (sym same
+        ∙ (same_lock a x (sym at_a ∙ last) ∙ xl)))));
     low = λ k y has. dite (ℕ_discrete l k) (λ e. subst (λ z. z < 25) e near) (λ d. t.low k y (sym (found_else (l, v) t.worker.held k d) ∙ has));
   }
 
   -- what a take that won tells
-  pub won : {O C : Type 0} (m : Rattle.ule_micro.specs.Means.Means H O G E R C) (w left time : ℕ) (h : H) (holding : Holding G) (log : LogState (Numbered E R)) (me me' : Me (Option G) (View H G E R)) (l found : ℕ) (t : IsTied w left time h holding log me)
+  pub won : {O C : Type 0} (m : Rattle.ule_micro.specs.Means.Means H O G E R C) (w left time : ℕ) (h : H) (holding : Holding G) (log : LogState (Numbered E R))
+      (me me' : Me (Option G) (View H G E R)) (l found : ℕ) (t : IsTied w left time h holding log me)
       → Takes m l me found me' → found ≡ 0 → (v : G) × (me' ≡ (one (taking t.worker l v), (l, Some v) ∷ slots_out t.worker.held)) × (value_held t.worker.held l ≡ None)
   won m w left time h holding log me me' l found t told free = let k = (told t.worker (ap (λ x. x.0) t.view)).0 free in
       (k.0, k.1 ∙ ap (λ x. (one (taking t.worker l k.0), (l, Some k.0) ∷ x.1)) t.view, k.2)
@@ -103,10 +108,12 @@ module _ {G : Type 0} where
   alone_first (Some y) l n = ap (λ b. if b then held_but l [] else (y.lock, y.value) ∷ []) (ne_eqb y.lock l (λ e. n y refl (sym e)))
 
   drawn_some : (x : Held G) (first : Option (Held G)) (l : ℕ) → x.lock ≡ l → ((y : Held G) → first ≡ Some y → x.lock ≢ y.lock) → held_but l ((x.lock, x.value) ∷ in_field first) ≡ in_field first
-  drawn_some x first l e apart = ap (λ b. if b then held_but l (in_field first) else (x.lock, x.value) ∷ held_but l (in_field first)) (eq-eqb x.lock l e) ∙ alone_first first l (λ y at same. apart y at (e ∙ same))
+  drawn_some x first l e apart = ap (λ b. if b then held_but l (in_field first) else (x.lock, x.value) ∷ held_but l (in_field first)) (eq-eqb x.lock l e)
+      ∙ alone_first first l (λ y at same. apart y at (e ∙ same))
 
   -- what is left beside the lock that was taken last
-  pub drawn_last : (last first : Option (Held G)) (x : Held G) (l : ℕ) → last ≡ Some x → x.lock ≡ l → ((x y : Held G) → last ≡ Some x → first ≡ Some y → x.lock ≢ y.lock) → held_but l (in_field last ++ in_field first) ≡ in_field first
+  pub drawn_last : (last first : Option (Held G)) (x : Held G) (l : ℕ) → last ≡ Some x → x.lock ≡ l → ((x y : Held G) → last ≡ Some x → first ≡ Some y
+      → x.lock ≢ y.lock) → held_but l (in_field last ++ in_field first) ≡ in_field first
   drawn_last last first x l is e apart = ap (λ t. held_but l (in_field t ++ in_field first)) is ∙ drawn_some x first l e (λ y at. apart x y is at)
 
   -- the value of the lock that was taken last
@@ -147,13 +154,19 @@ module _ {H G E R : Type 0} where
     held = ap (held_but l) t.held ∙ sym fs;
     order = λ e. bare;
     apart = λ x y a b. absurd (none-some y (sym bare ∙ b));
-    low = λ k y has. dite (ℕ_discrete k l) (λ e. absurd (none-some y (sym (but_here t.worker.held l) ∙ (ap (value_held (held_but l t.worker.held)) (sym e) ∙ has)))) (λ d. t.low k y (sym (but_else t.worker.held l k d) ∙ has));
+    low = λ k y has. dite (ℕ_discrete k l) (λ e. absurd (none-some y (sym (but_here t.worker.held l) ∙ (ap (value_held (held_but l t.worker.held)) (sym e)
+        ∙ has)))) (λ d. t.low k y (sym (but_else t.worker.held l k d) ∙ has));
   }
 
   -- the seat with the value of the lock back in its slot
   pub front : (me me1 me2 : Me (Option G) (View H G E R)) (p : Worker H G E R) (l : ℕ) (v : G) (fs : List (ℕ × G))
-      → me ≡ (one p, slots_out p.held) → p.held ≡ fs → me1 ≡ (me.0, (l, None) ∷ slots_out (held_but l fs)) → me2 ≡ (me1.0, (l, Some v) ∷ rest me1.1) → me2 ≡ (one p, (l, Some v) ∷ slots_out (held_but l p.held))
-  front me me1 me2 p l v fs view fields_are drawn now = now ∙ λ i. ((ap (λ z. z.0) drawn ∙ ap (λ z. z.0) view) i, (l, Some v) ∷ (ap (λ z. rest z.1) drawn ∙ ap (λ f. slots_out (held_but l f)) (sym fields_are)) i)
+      → me ≡ (one p, slots_out p.held) → p.held ≡ fs → me1 ≡ (me.0, (l, None) ∷ slots_out (held_but l fs)) → me2 ≡ (me1.0, (l, Some v) ∷ rest me1.1)
+      → me2 ≡ (one p, (l, Some v) ∷ slots_out (held_but l p.held))
+  front me me1 me2 p l v fs view fields_are drawn now = now ∙ λ i. (
+    (ap (λ z. z.0) drawn ∙ ap (λ z. z.0) view) i,
+    (l, Some v) ∷ (ap (λ z. rest z.1) drawn
+        ∙ ap (λ f. slots_out (held_but l f)) (sym fields_are)) i,
+  )
 
 module _ {O H G E R : Type 0} where
   -- a pass that took a lock
@@ -182,9 +195,24 @@ module _ {H G E R : Type 0} where
   -- a pass that advanced now
   pub advanced_tied : (w left time k : ℕ) (h : H) (holding : Holding G) (log : LogState (Numbered E R)) (me me' : Me (Option G) (View H G E R)) (t : IsTied w left time h holding log me)
       → me' ≡ (one (advancing t.worker k), slots_out t.worker.held) → IsTied w (left - 1) time h holding log me'
-  advanced_tied w left time k h holding log me me' t now = record { worker = advancing t.worker k; view = now; number = t.number; hand = t.hand; allowance = ap (λ z. z - 1) t.allowance; time = λ r e. absurd (none-some r e); held = t.held; log = t.log; room = (let z = t.room in omega arith); order = t.order; apart = t.apart; low = t.low }
+  advanced_tied w left time k h holding log me me' t now = record {
+    worker = advancing t.worker k;
+    view = now;
+    number = t.number;
+    hand = t.hand;
+    allowance = ap
+        (λ z. z - 1) t.allowance;
+    time = λ r e. absurd (none-some r e);
+    held = t.held;
+    log = t.log;
+    room = (let z = t.room in omega arith);
+    order = t.order;
+    apart = t.apart;
+    low = t.low;
+  }
 
 module _ {H G E R : Type 0} where
   -- a pass with the same hand
-  pub hand_tied : (w left time : ℕ) (h h' : H) (holding : Holding G) (log : LogState (Numbered E R)) (me : Me (Option G) (View H G E R)) → IsTied w left time h holding log me → h' ≡ h → IsTied w left time h' holding log me
+  pub hand_tied : (w left time : ℕ) (h h' : H) (holding : Holding G) (log : LogState (Numbered E R)) (me : Me (Option G) (View H G E R))
+      → IsTied w left time h holding log me → h' ≡ h → IsTied w left time h' holding log me
   hand_tied w left time h h' holding log me t same = subst (λ x. IsTied w left time x holding log me) (sym same) t

@@ -153,10 +153,21 @@ module _ {H O G E R C : Type 0} (m : Means H O G E R C) (s : State (Option G) (V
 module _ {H O G E R C : Type 0} (m : Means H O G E R C) where
   -- now may be read
   pub now_allows : (slots id : ℕ) (p : Worker H G E R) (c : List (ℕ × Option G)) → Allows (Shows m) slots id (one p, c) 282 (λ n. n) (Times (one p, c))
-  now_allows slots id p c s r deep at small = (one (timed p (get_or s.words 282 0)), keeps, tt, reads_now m s r id p at, λ q e. ap (λ z. (one (timed z (get_or s.words 282 0)), c)) (one_injective p q e))
+  now_allows slots id p c s r deep at small = (
+    one (timed p (get_or s.words 282 0)),
+    keeps,
+    tt,
+    reads_now m s r id p at,
+    λ q e. ap (λ z. (
+      one (timed z
+          (get_or s.words 282 0)),
+      c,
+    )) (one_injective p q e),
+  )
 
   -- now may be advanced
-  pub advance_allows : (slots id : ℕ) (p : Worker H G E R) (c : List (ℕ × Option G)) (k : ℕ) → 1 ≤ k → k ≤ 1000000 → 0 < p.allowance → Allows (Shows m) slots id (one p, c) 282 (λ n. (n + k) % 2 ^ 64) (λ _. Advances k (one p, c))
+  pub advance_allows : (slots id : ℕ) (p : Worker H G E R) (c : List (ℕ × Option G)) (k : ℕ) → 1 ≤ k → k ≤ 1000000 → 0 < p.allowance
+      → Allows (Shows m) slots id (one p, c) 282 (λ n. (n + k) % 2 ^ 64) (λ _. Advances k (one p, c))
   advance_allows slots id p c k least few left s r deep at small = let n : ℕ = get_or s.words 282 0 in
       let fits : n + k < 2 ^ 64 = (let a = now_small m s r id p at in let b : n ≡ r.state.now = r.words.now in omega arith) in (
         one (advancing p k),

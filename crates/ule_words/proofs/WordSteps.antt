@@ -61,14 +61,17 @@ module _ {H O G E R C : Type 0} (m : Means H O G E R C) where
       state = s';
       agrees = taking_agrees m st w l r.agrees free;
       holders = λ u i h. dite (ℕ_discrete i l)
-          (λ z. dite (ℕ_discrete u w) (λ y. (subst (λ x. x < length m.owns) (sym y) here.number, subst (λ x. x < 25) (sym z) near)) (λ far. r.holders u i (sym (hold_other st.holds w l true u i far) ∙ h)))
+          (λ z. dite (ℕ_discrete u w) (λ y. (subst (λ x. x < length m.owns) (sym y) here.number, subst (λ x. x < 25) (sym z) near)) (λ far. r.holders u i (sym
+          (hold_other st.holds w l true u i far) ∙ h)))
           (λ far. r.holders u i (sym (hold_else st.holds w l true u i far) ∙ h));
       words = shows_lock s.words st s' r.words l (Some w) near (put_here st.locks l (Some w)) (λ i far. put_else st.locks l (Some w) i far) (λ t. refl) refl refl;
       values = record {
         count = length-set s.homes l none ∙ r.values.count;
         home = λ i u e. dite (ℕ_discrete i l)
-            (λ z. subst (λ j. IsKept (get_elem? (set s.homes l none) j) u (s'.locks j)) (sym z) (subst (IsKept (get_elem? (set s.homes l none) l) u) (sym (put_here st.locks l (Some w))) (set_here s.homes l none (let a : length s.homes ≡ 25 = r.values.count in omega arith))))
-            (λ far. kept_as (get_elem? s.homes i) (get_elem? (set s.homes l none) i) u (st.locks i) (s'.locks i) (set_else s.homes l i none far) (put_else st.locks l (Some w) i far) (r.values.home i u e));
+            (λ z. subst (λ j. IsKept (get_elem? (set s.homes l none) j) u (s'.locks j)) (sym z) (subst (IsKept (get_elem? (set s.homes l none) l) u) (sym
+            (put_here st.locks l (Some w))) (set_here s.homes l none (let a : length s.homes ≡ 25 = r.values.count in omega arith))))
+            (λ far. kept_as (get_elem? s.homes i) (get_elem? (set s.homes l none) i) u (st.locks i) (s'.locks i) (set_else s.homes l i none far) (put_else st.locks l
+            (Some w) i far) (r.values.home i u e));
       };
       allowances = r.allowances;
       workers = workers_after m s.views st s' r.allowances r.allowances id p q at refl r.workers
@@ -106,15 +109,19 @@ module _ {H O G E R C : Type 0} (m : Means H O G E R C) where
           state = s';
           agrees = releasing_agrees m st w l r.agrees own (k.pending ∙ quiet);
           holders = λ u i h. dite (ℕ_discrete i l)
-              (λ z. dite (ℕ_discrete u w) (λ y. absurd (true≢false (sym h ∙ ((λ n. with_hold st.holds w l false (y n) (z n)) ∙ hold_here st.holds w l false)))) (λ far. r.holders u i (sym (hold_other st.holds w l false u i far) ∙ h)))
+              (λ z. dite (ℕ_discrete u w) (λ y. absurd (true≢false (sym h ∙ ((λ n. with_hold st.holds w l false (y n) (z n))
+              ∙ hold_here st.holds w l false)))) (λ far. r.holders u i (sym (hold_other st.holds w l false u i far) ∙ h)))
               (λ far. r.holders u i (sym (hold_else st.holds w l false u i far) ∙ h));
           words = shows_lock s.words st s' r.words l None near (put_here st.locks l None) (λ i far. put_else st.locks l None i far) (λ t. refl) refl refl;
           values = record {
             count = length-set s.homes l (some (Some v)) ∙ r.values.count;
             home = λ i u e. dite (ℕ_discrete i l)
-                (λ z. subst (λ j. IsKept (get_elem? (set s.homes l (some (Some v))) j) u (s'.locks j)) (sym z) (subst (IsKept (get_elem? (set s.homes l (some (Some v))) l) u) (sym (put_here st.locks l None))
-                (set_here s.homes l (some (Some v)) (let a : length s.homes ≡ 25 = r.values.count in omega arith) ∙ ap (λ x. some (some (Some x))) (one_there st.values l v u (k.values l v has) (ap (slice_get st.values) (sym z) ∙ e)))))
-                (λ far. kept_as (get_elem? s.homes i) (get_elem? (set s.homes l (some (Some v))) i) u (st.locks i) (s'.locks i) (set_else s.homes l i (some (Some v)) far) (put_else st.locks l None i far) (r.values.home i u e));
+                (λ z. subst (λ j. IsKept (get_elem? (set s.homes l (some (Some v))) j) u (s'.locks j)) (sym z) (subst (IsKept (get_elem? (set s.homes l (some
+                (Some v))) l) u) (sym (put_here st.locks l None))
+                (set_here s.homes l (some (Some v)) (let a : length s.homes ≡ 25 = r.values.count in omega arith)
+                ∙ ap (λ x. some (some (Some x))) (one_there st.values l v u (k.values l v has) (ap (slice_get st.values) (sym z) ∙ e)))))
+                (λ far. kept_as (get_elem? s.homes i) (get_elem? (set s.homes l (some (Some v))) i) u (st.locks i) (s'.locks i) (set_else s.homes l i (some
+                (Some v)) far) (put_else st.locks l None i far) (r.values.home i u e));
           };
           allowances = r.allowances;
           workers = workers_after m s.views st s' r.allowances r.allowances id p q at refl r.workers
@@ -179,17 +186,19 @@ module _ {H O G E R C : Type 0} (m : Means H O G E R C) where
     unmoved s id (25 + t) (one p) c at r,
     (
       refl,
-      λ q u e word. let same : t ≡ u = omega arith in subst (λ (y : ℕ). (x : Word) × (get_or s.words (25 + t) 0 ≡ thread_word x) × Rattle.ule_words.specs.Tells.IsLow x × Rattle.ule_words.specs.Tells.IsWordOf m q y x) same (
-        r.state.words t,
-        r.words.threads t near,
-        words_low m r.state r.agrees (λ w l h. (r.holders w l h).1) t,
-        record { state = r.state; agrees = r.agrees; knows = subst (KnowsItsPart r.state) (one_injective p q e) (here s r id p at).knows; is = refl },
-      ),
+      λ q u e word. let same : t ≡ u = omega arith in
+          subst (λ (y : ℕ). (x : Word) × (get_or s.words (25 + t) 0 ≡ thread_word x) × Rattle.ule_words.specs.Tells.IsLow x × Rattle.ule_words.specs.Tells.IsWordOf m q y x) same (
+            r.state.words t,
+            r.words.threads t near,
+            words_low m r.state r.agrees (λ w l h. (r.holders w l h).1) t,
+            record { state = r.state; agrees = r.agrees; knows = subst (KnowsItsPart r.state) (one_injective p q e) (here s r id p at).knows; is = refl },
+          ),
     ),
   )
 
   -- a lock may be tried
-  pub take_allows : (slots id : ℕ) (p : Worker H G E R) (c : List (ℕ × Option G)) (l : ℕ) → l < 25 → Allows (Shows m) slots id (one p, c) l (λ n. either (eqb n 0) (p.number + 1) n) (Takes m l (one p, c))
+  pub take_allows : (slots id : ℕ) (p : Worker H G E R) (c : List (ℕ × Option G)) (l : ℕ) → l < 25
+      → Allows (Shows m) slots id (one p, c) l (λ n. either (eqb n 0) (p.number + 1) n) (Takes m l (one p, c))
   take_allows slots id p c l near s r deep at small = let x : ℕ = get_or s.words l 0 in let word = r.words.locks l near in
       exchanged x 0 (p.number + 1) (λ n. (w : View H G E R) × (a : Act (Option G)) × Valid s.homes c a × Shows m (stepped s l n id c w a) × Takes m l (one p, c) x (w, carried_after c a))
       (λ zero_word. let free = lock_free (r.state.locks l) (sym word ∙ zero_word) in let v = something r.state.values l (let a : length r.state.values ≡ 25 = r.agrees.values in omega arith) in (
@@ -236,7 +245,8 @@ module _ {H O G E R C : Type 0} (m : Means H O G E R C) where
   release_allows slots id p c l v has quiet s r deep at small = (one (releasing p l), gives, tt, released s r id p at l v c has quiet, λ q e. ap (λ z. (one (releasing z l), c)) (one_injective p q e))
 
   -- a word may be blocked as it is pending
-  pub block_allows : (slots id : ℕ) (p : Worker H G E R) (c : List (ℕ × Option G)) (t : ℕ) → t < 256 → p.pending ≡ Some (Block t) → Allows (Shows m) slots id (one p, c) (25 + t) (λ _. 0) (λ _. Calms (one p, c))
+  pub block_allows : (slots id : ℕ) (p : Worker H G E R) (c : List (ℕ × Option G)) (t : ℕ) → t < 256 → p.pending ≡ Some (Block t)
+      → Allows (Shows m) slots id (one p, c) (25 + t) (λ _. 0) (λ _. Calms (one p, c))
   block_allows slots id p c t near is s r deep at small = (
     one (calm p),
     keeps,
@@ -246,7 +256,8 @@ module _ {H O G E R C : Type 0} (m : Means H O G E R C) where
   )
 
   -- a word may be pointed as it is pending
-  pub point_allows : (slots id : ℕ) (p : Worker H G E R) (c : List (ℕ × Option G)) (t l : ℕ) → t < 256 → p.pending ≡ Some (Point t l) → Allows (Shows m) slots id (one p, c) (25 + t) (λ _. l + 1) (λ _. Calms (one p, c))
+  pub point_allows : (slots id : ℕ) (p : Worker H G E R) (c : List (ℕ × Option G)) (t l : ℕ) → t < 256 → p.pending ≡ Some (Point t l)
+      → Allows (Shows m) slots id (one p, c) (25 + t) (λ _. l + 1) (λ _. Calms (one p, c))
   point_allows slots id p c t l near is s r deep at small = (
     one (calm p),
     keeps,

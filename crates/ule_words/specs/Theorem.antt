@@ -29,7 +29,8 @@ module _ {H O G E R C : Type 0} (m : Means H O G E R C) where
 
   -- holders have values: the worker that a lock's word names holds the lock's value
   abbrev pub HoldersHaveValues : Type 0
-  HoldersHaveValues = (t : State (Option G) (View H G E R)) (r : Shows m t) (p : Worker H G E R) (l : ℕ) (v : G) → IsKnown t p → l < LOCKS → slice_index t.words l ≡ p.number + 1 → slice_get r.state.values l ≡ Some v
+  HoldersHaveValues = (t : State (Option G) (View H G E R)) (r : Shows m t) (p : Worker H G E R) (l : ℕ) (v : G) → IsKnown t p → l < LOCKS
+      → slice_index t.words l ≡ p.number + 1 → slice_get r.state.values l ≡ Some v
       → value_held p.held l ≡ Some v
 
   -- words tell places: a thread whose word names a lock that a worker holds, which has no change pending, stands under that lock

@@ -6,7 +6,8 @@ use Rattle.ule_words.proofs.start.first_slots.Goals as goal
 pub loop-l-preserved : goal.loop-l-preserved
 loop-l-preserved g c = let i = c.loop-l.invariant in let vs = (g.P.Parts.means c.args.parts.now).values in (
   (let a = c.loop-l-test.true in omega arith),
-  c.push_reserved.ensures.items ∙ (ap (λ z. z ++ Some c.in_ok-value.value ∷ []) i.1 ∙ (sym (map_end (λ v. Some v) (take c.loop-l.l vs) c.in_ok-value.value) ∙ ap (map (λ v. Some v)) (sym (take_on c.loop-l.l vs c.in_ok-value.value c.in_ok-value.ensures)))),
+  c.push_reserved.ensures.items ∙ (ap (λ z. z ++ Some c.in_ok-value.value ∷ []) i.1 ∙ (sym (map_end (λ v. Some v) (take c.loop-l.l vs) c.in_ok-value.value)
+      ∙ ap (map (λ v. Some v)) (sym (take_on c.loop-l.l vs c.in_ok-value.value c.in_ok-value.ensures)))),
   search rules,
   search rules,
 )

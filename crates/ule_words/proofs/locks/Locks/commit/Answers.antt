@@ -14,10 +14,12 @@ raise-number-requires-clause-can g c = let m = g.P.Parts.means c.args.self.now.p
 
 pub overflow_add-number : goal.overflow_add-number
 overflow_add-number g c = let m = g.P.Parts.means c.args.self.now.parts in let can = c.requires.can in
-    let k = (c.raise-number.ensures.done c.p.invariant.worker can.0 can.1 (ap (λ z. z.0) c.p.invariant.view) (subst (λ z. CanCommit m z c.args.e.now can.0 can.1) (worker_is _ _ _ _ _ _ _ _ _ _ c.p.view_is c.p.invariant) can.2)).1 in search rules
+    let k = (c.raise-number.ensures.done c.p.invariant.worker can.0 can.1 (ap (λ z. z.0) c.p.invariant.view) (subst (λ z. CanCommit m z c.args.e.now can.0 can.1)
+    (worker_is _ _ _ _ _ _ _ _ _ _ c.p.view_is c.p.invariant) can.2)).1 in search rules
 
 pub locks-locks-requires-clause-some : goal.locks-locks-requires-clause-some
-locks-locks-requires-clause-some g c = let m = g.P.Parts.means c.args.self.now.parts in let can = subst (λ z. CanCommit m z c.args.e.now c.requires.can.0 c.requires.can.1) (worker_is _ _ _ _ _ _ _ _ _ _ c.p.view_is c.p.invariant) c.requires.can.2 in
+locks-locks-requires-clause-some g c = let m = g.P.Parts.means c.args.self.now.parts in
+    let can = subst (λ z. CanCommit m z c.args.e.now c.requires.can.0 c.requires.can.1) (worker_is _ _ _ _ _ _ _ _ _ _ c.p.view_is c.p.invariant) c.requires.can.2 in
     last_held c.p.inside.holding c.requires.can.0 c.p.invariant.order (ap locks_of (sym c.p.invariant.held) ∙ can.holds)
 
 pub perform-reply-requires : goal.perform-reply-requires
@@ -44,9 +46,14 @@ invariant_of-p g c = let m = g.P.Parts.means c.args.self.now.parts in let t = c.
     (record { number = c.raise-number.result + 1; entry = entry_made c.p.inside.number e c.locks-locks.result c.p.inside.time c.perform-reply.result })
     (subst (λ z. 0 < z) t.allowance can.left) top.2 top.3 top.4 c.perform-reply.ensures.first
     (c.perform-reply.ensures.held ∙ (λ i. Rattle.ule_words.specs.Held.held_with (sym t.held i) (alike i).values))
-    (sym (g.met.P.Parts.same_hand c.args.self.now.parts c.perform-reply.new.own) ∙ (ap m.hand c.perform-reply.ensures.own ∙ ((g.met.P.Parts.lawful c.args.self.now.parts).hands.put c.p.inside.own _ ∙ ap (λ a. a.hand) alike)))
+    (sym (g.met.P.Parts.same_hand c.args.self.now.parts c.perform-reply.new.own) ∙ (ap m.hand c.perform-reply.ensures.own
+    ∙ ((g.met.P.Parts.lawful c.args.self.now.parts).hands.put c.p.inside.own _ ∙ ap (λ a. a.hand) alike)))
     c.push.ensures
-    (λ i. record { number = c.raise-number.result + 1; entry = entry_made (sym t.number i) e (its i) (sym (t.time (locks, now) can.read) i) ((c.perform-reply.ensures.reply ∙ ap (λ a. a.reply) alike) i) })
+    (λ i. record {
+      number = c.raise-number.result + 1;
+      entry = entry_made (sym t.number i) e (its i) (sym (t.time (locks, now) can.read) i)
+          ((c.perform-reply.ensures.reply ∙ ap (λ a. a.reply) alike) i);
+    })
     told.0
 
 pub returns : goal.returns
@@ -62,7 +69,8 @@ returns g c = let m = g.P.Parts.means c.args.self.now.parts in let t = c.p.invar
       may = subst (λ z. m.may z.number e now z.hand (held_values z.held)) (sym w) told.3;
       ticket = c.raise-number.result + 1;
       above = let a = told.2 in let b = ap (λ z. z.seen) w in omega arith;
-      worker = ap (λ s. s.worker) (state_is c.raise-number.new.seat.table_id c.p.inside.number (g.P.Own.OwnPart.hand c.perform-reply.new.own) c.perform-reply.new.own c.raise-number.new.seat.me _ _ told.0) ∙ ap (λ z. committing m z e locks now (c.raise-number.result + 1)) (sym w);
+      worker = ap (λ s. s.worker) (state_is c.raise-number.new.seat.table_id c.p.inside.number
+          (g.P.Own.OwnPart.hand c.perform-reply.new.own) c.perform-reply.new.own c.raise-number.new.seat.me _ _ told.0) ∙ ap (λ z. committing m z e locks now (c.raise-number.result + 1)) (sym w);
       own = c.perform-reply.ensures.own ∙ (λ i. m.with_hand ((ap (λ s. s.own) c.p.view_is) i) ((alike ∙ ap (λ z. act_of m z e now) (sym w)) i).hand);
       is_reply = c.perform-reply.ensures.reply ∙ ap (λ a. a.reply) (alike ∙ ap (λ z. act_of m z e now) (sym w));
       table = c.raise-number.ensures.place.0 ∙ ap (λ s. s.table) c.p.view_is;

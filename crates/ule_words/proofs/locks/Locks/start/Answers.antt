@@ -27,7 +27,8 @@ split_seat-own_seat-requires g c = let i = c.loop-worker.invariant in let m = g.
     let made = c.in-Ok.ensures.ok in (
       i.4,
       (let a = made.0 in let z = c.first_words-words.ensures.count in omega arith),
-      subst₂ (λ k u. Splits (Shows (g.P.Parts.means k)) c.loop-worker.seat.id u (rest_of u) (first_of u)) (sym made.5) (sym v) (deals m c.loop-worker.seat.id (first_worker m (0 + w) own) (drop (suc w) (first_workers m 0 m.owns))),
+      subst₂ (λ k u. Splits (Shows (g.P.Parts.means k)) c.loop-worker.seat.id u (rest_of u) (first_of u)) (sym made.5) (sym v) (deals m c.loop-worker.seat.id
+          (first_worker m (0 + w) own) (drop (suc w) (first_workers m 0 m.owns))),
     )
 
 pub first_pass-requires-clause-knows : goal.first_pass-requires-clause-knows
@@ -49,7 +50,8 @@ loop-worker-preserved g c = let i = c.loop-worker.invariant in let m = g.P.Parts
       c.split_seat-own_seat.ensures.2 ∙ ((λ k. (rest_of (v k), ap (λ z. z.1) i.5 k)) ∙ ap (λ n. (view_of (drop n (first_workers m 0 m.owns)), [])) next),
       search rules,
       c.push_reserved.ensures.len ∙ ap (λ n. n + 1) i.7,
-      first_passes_more m w _ c.loop-worker.list.items c.push_reserved.new.self.items c.in_ok-pass.pass i.8 (c.in_ok-pass.ensures.table ∙ (c.split_seat-own_seat.ensures.3 ∙ i.4)) c.in_ok-pass.ensures.own c.in_ok-pass.ensures.worker c.push_reserved.ensures.items,
+      first_passes_more m w _ c.loop-worker.list.items c.push_reserved.new.self.items c.in_ok-pass.pass i.8 (c.in_ok-pass.ensures.table
+          ∙ (c.split_seat-own_seat.ensures.3 ∙ i.4)) c.in_ok-pass.ensures.own c.in_ok-pass.ensures.worker c.push_reserved.ensures.items,
     )
 
 pub invariant_of-result : goal.invariant_of-result
