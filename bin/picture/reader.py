@@ -5,10 +5,10 @@ from . import grammar
 
 
 class NotATrace(Exception):
-    """The text is no trace: `line` is the first line at which it can't be one, counted from 1."""
+    """The text is no trace, or no weave: `line` is the first line at which it can't be one, counted from 1."""
 
-    def __init__(self, line):
-        super().__init__("line %d is not how a trace goes on" % line)
+    def __init__(self, line, what="trace"):
+        super().__init__("line %d is not how a %s goes on" % (line, what))
         self.line = line
 
 
@@ -32,14 +32,14 @@ class Trace(NamedTuple):
 
 
 class Lines:
-    """The lines of a text, taken one after another."""
+    """The lines of a text, taken one after another; `what` is what it is to be."""
 
-    def __init__(self, text):
+    def __init__(self, text, what="trace"):
         *self.whole, self.unended = text.split("\n")
-        self.taken = 0
+        self.what, self.taken = what, 0
 
     def peek(self):
-        """The next line, which ends with a newline; a text that has none is no trace."""
+        """The next line, which ends with a newline; a text that has none is wrong there."""
         if self.taken == len(self.whole):
             raise self.fault()
         return self.whole[self.taken]
@@ -52,7 +52,7 @@ class Lines:
 
     def fault(self):
         """The fault that names the next line."""
-        return NotATrace(self.taken + 1)
+        return NotATrace(self.taken + 1, self.what)
 
     def end(self):
         """Checks that the text ends here."""

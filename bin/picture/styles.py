@@ -59,6 +59,24 @@ LINK_LOOKS = {
 # the bars of groups of CPUs by their depth
 GROUP_COLOURS = ("#000000", "#D55E00", "#0072B2", "#CC79A7")
 
+# the fill and the edge of each kind of step of a weave, and of a turn that was no step
+STEP_LOOKS = {
+    "read": ("#FFFFFF", "#7A7A7A"),
+    "take": ("#D6ECF9", "#0072B2"),
+    "now": ("#F4F4F4", "#7A7A7A"),
+    "commit": ("#71CBAE", "#000000"),
+    "block": ("#F0B440", "#7A7A7A"),
+    "point": ("#F0E442", "#7A7A7A"),
+    "release": ("#FFFFFF", "#0072B2"),
+    "advance": ("#E4E4E4", "#7A7A7A"),
+    "lost": ("#FFFFFF", "#D55E00"),
+    "blocked": ("#FFFFFF", "#D55E00"),
+    "finished": ("#FFFFFF", "#CCCCCC"),
+}
+
+# the edge of a word that is still to be changed
+WRONG_WORD = "#D55E00"
+
 LOAD = "#0072B2"
 LINE = "#4D4D4D"
 EDGE = "#7A7A7A"

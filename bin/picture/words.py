@@ -5,25 +5,29 @@ import os
 from .groups import NotGroups, groups_in
 from .reader import NotATrace, read_trace
 from .scene import EntryAxis, TickAxis, folds_of, scene_of
+from .turns import is_weave, read_weave
 
 STANDARD_INPUT, STANDARD_OUTPUT, STANDARD_ERROR = 0, 1, 2
 NO_PICTURE, WRONG_WORDS = 1, 2
 
 USAGE = "usage: ule-picture [--perfetto | --svg] [--ticks] [--from K] [--to K] [--scenario FILE] [FILE]"
 ABOUT = """
-Reads a trace, from FILE or from standard input, and writes a picture of it to standard output.
+Reads a trace or a weave, from FILE or from standard input, and writes a picture of it to standard output.
+A weave is drawn by its turns: what each worker does, who holds which lock, and the word and the place of each thread.
 
   --perfetto  write JSON of the Chrome trace event format, which Perfetto and chrome://tracing open
   --svg       write an SVG picture without script
               (else write one page of HTML, which needs no network)
   --ticks     begin with time in hz ticks along the axis, in place of the numbers of the entries;
               a long time without an entry is folded, but not in JSON
-  --from K    draw from entry K on
-  --to K      draw up to entry K
+  --from K    draw from entry K on, of a weave from turn K on
+  --to K      draw up to entry K, of a weave up to turn K
   --scenario FILE
               draw the groups of CPUs of the scenario in FILE too: a bar for each group along its CPUs,
               left of their lanes, the outermost leftmost; not in JSON
   --help      write this page
+
+Of these --perfetto, --ticks and --scenario are for traces alone.
 
 The status is 0, or 1 where there is no picture, and 2 where the words are wrong.
 """
@@ -66,10 +70,10 @@ def asked_by(arguments):
     return asked
 
 
-def trace_in(file):
-    """The trace in a file, or in standard input for `-`."""
+def bytes_in(file):
+    """The bytes in a file, or in standard input for `-`."""
     with open(STANDARD_INPUT if file == "-" else file, "rb") as source:
-        return read_trace(source.read())
+        return source.read()
 
 
 def groups_of(file):
@@ -106,10 +110,27 @@ def text_of(asked, trace):
     return page_text(scene, axis)
 
 
+def weave_text_of(asked, weave):
+    """The picture of a weave that the words ask for."""
+    if asked.perfetto or asked.ticks or asked.scenario is not None:
+        raise WrongWords("a weave has no times and no groups that could be drawn")
+    last = min(asked.last, len(weave.turns))
+    if asked.first > max(last, 1):
+        raise WrongWords("no turn is from %d on; the weave has %d" % (asked.first, len(weave.turns)))
+    from .weave import weave_page, weave_svg
+
+    return (weave_svg if asked.svg else weave_page)(weave, name_of(asked.file), asked.first, last)
+
+
+def picture_of(asked, data):
+    """The picture of a trace or of a weave that the words ask for."""
+    return weave_text_of(asked, read_weave(data)) if is_weave(data) else text_of(asked, read_trace(data))
+
+
 def picture(arguments):
     """Writes what the words of the command line ask for."""
     asked = asked_by(arguments)
-    text = USAGE + "\n" + ABOUT if asked.help else text_of(asked, trace_in(asked.file))
+    text = USAGE + "\n" + ABOUT if asked.help else picture_of(asked, bytes_in(asked.file))
     with open(STANDARD_OUTPUT, "wb") as sink:
         sink.write(text.encode("ascii", "replace"))
 
