@@ -23,7 +23,7 @@ module _ {E R : Type 0} where
   own_else w x h far = ap (λ b. if b then x ∷ own_entries w h else own_entries w h) (ne_eqb x.worker w far)
 
   -- a worker's entries are by a time that is no earlier than each of them in the history
-  own_by : (w now : ℕ) (h : List (Entry E R)) → ((j : ℕ) (x : Entry E R) → slice_get h j ≡ Some x → x.worker ≡ w → x.now ≤ now) → AllByRecursion (λ y. y.now ≤ now) (own_entries w h)
+  pub own_by : (w now : ℕ) (h : List (Entry E R)) → ((j : ℕ) (x : Entry E R) → slice_get h j ≡ Some x → x.worker ≡ w → x.now ≤ now) → AllByRecursion (λ y. y.now ≤ now) (own_entries w h)
   own_by w now [] by = tt
   own_by w now (x ∷ h) by = at_worker (x.worker == w) refl (own_by w now h (λ j y at own. by (suc j) y at own))
     where

@@ -1,5 +1,6 @@
 pub mod Standings
 pub mod Means
+pub mod Notes
 pub mod Histories
 pub mod Courses
 pub mod Laws

@@ -35,7 +35,7 @@ abbrev pub together : List ℕ → ℕ
 together [] = 0
 together (a ∷ amounts) = a + together amounts
 
--- shared: the lock words, the threads' words, the ticket, now, the values under the locks and the workers' hands; of each worker the locks that it holds, its pending change, the time that it read and did not use yet, and what it advanced; and the history, the newest entry first
+-- shared: the lock words, the threads' words, the ticket, now, the values under the locks and the workers' hands; of each worker the locks that it holds, its pending change, a time that it read under them, and what it advanced; and the history, the newest entry first
 pub record Shared (H G E R : Type 0) : Type 0 where
   pub locks : ℕ → Option ℕ
   pub words : ℕ → Word

@@ -23,8 +23,13 @@ pub trait OwnPart {
     /// A command.
     type Order;
 
+    ghost use Rattle.std.specs.Prelude.{ℕ};
+
     /// What the part has in hand.
     ghost hand: { Self → Self.Hand };
+
+    /// The number of its worker.
+    ghost number: { Self → ℕ };
 }
 
 /// The parts of a scheduler: the values under its 25 locks, its workers' own parts, its events and
@@ -33,6 +38,7 @@ pub trait Parts {
     ghost use Rattle.std.specs.Prelude.{◌≡◌, ℕ, ◌<◌, ◌∷◌, [], ◌-◌, List, length, slice_get, IfOk, Option, Some};
     ghost use Rattle.ule_micro.specs.Means.{Means, thread_sought_by, fixed_by};
     ghost use Rattle.ule_micro.specs.Laws.{AreOrders, AreRising, IsLawful};
+    ghost use Rattle.ule_micro.specs.Notes.{AreSound, Notes};
 
     /// What a worker has in hand between two events.
     type Hand;
@@ -59,11 +65,17 @@ pub trait Parts {
     >
         + Drop;
 
+    /// What a program keeps of the end of a play.
+    type Ends;
+
     /// What all of it means.
     ghost means: { Self → Means Self.Hand Self.Own Self.Value Self.Event Self.Reply Self.Order };
 
     /// The commands of each worker, one after another.
     ghost orders: { Self → ℕ → List Self.Order };
+
+    /// What is kept of the end of a play.
+    ghost notes: { Self → Notes Self.Ends Self.Value Self.Event Self.Reply };
 
     /// The number of workers.
     fn workers(&self) -> u8
@@ -154,8 +166,41 @@ pub trait Parts {
         requires { AreRising ((means self.now).needs e.now) }
         ensures { result ≡ (means self.now).change e.now r.now };
 
+    /// Keeps an entry, for which there is room: one event of a worker, at a time in hz ticks, and its
+    /// reply. Entries come in the order of the history.
+    fn note_entry(
+        &self,
+        out: &mut Self::Ends,
+        worker: u8,
+        now: u64,
+        e: &Self::Event,
+        r: &Self::Reply,
+    )
+        requires { 0 < (notes self.now).room out.old }
+        ensures { out.new ≡ (notes self.now).entry out.old worker now e.now r.now };
+
+    /// Keeps the value of a lock at the end. Lock 0 may come at any time, each other one behind the
+    /// lock before it.
+    fn note_value(&self, out: &mut Self::Ends, l: LockId, v: &Self::Value)
+        requires { (notes self.now).ready out.old l }
+        ensures { out.new ≡ (notes self.now).value out.old l v.now };
+
+    /// Keeps a thread's word at the end: the lock that it names, or none where it is blocked.
+    fn note_word(&self, out: &mut Self::Ends, t: ThreadId, w: Option<LockId>)
+        ensures { out.new ≡ (notes self.now).word out.old t w };
+
+    /// Keeps the time at the end, in hz ticks.
+    fn note_now(&self, out: &mut Self::Ends, now: u64)
+        ensures { out.new ≡ (notes self.now).now out.old now };
+
     /// The own part's hand is that of `OwnPart`.
     ghost same_hand: { (p : Self) (o : Self.Own) → (means p).hand o ≡ Self.Own.hand o };
+
+    /// The own part's number is that of `OwnPart`.
+    ghost same_number: { (p : Self) (o : Self.Own) → (means p).number o ≡ Self.Own.number o };
+
+    /// What is kept of the end keeps the room, and gets the values in the order of their locks.
+    ghost sound: { (p : Self) → AreSound (notes p) };
 
     /// The laws: of the start, of what an event moves, of what an own part keeps, of what a worker
     /// asks for, and of when that may be performed.

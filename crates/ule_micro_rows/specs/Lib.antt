@@ -1,3 +1,4 @@
+pub mod Ends
 pub mod Nap
 pub mod NapLaws
 pub mod Shift

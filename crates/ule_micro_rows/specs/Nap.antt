@@ -29,6 +29,12 @@ stands_in Empty t = false
 stands_in Awake t = t == 0
 stands_in Asleep t = t == 0
 
+-- stands here: the thread stands under a lock whose value is not empty
+abbrev pub stands_here : Spot → Bool
+stands_here Empty = false
+stands_here Awake = true
+stands_here Asleep = true
+
 -- carried in: the thread is in a hand that is full
 abbrev pub carried_in : Bool → ℕ → Bool
 carried_in false t = false

@@ -33,6 +33,9 @@ is_zero t e = dite (ℕ_discrete t 0) (λ z. z) (λ n. absurd (true≢false (sym
 pub same_hand : (own : Napper) → nap_means.hand own ≡ own.hand
 same_hand own = refl
 
+pub same_number : (own : Napper) → nap_means.number own ≡ own.number
+same_number own = refl
+
 numbered : (w : ℕ) (o : Napper) → slice_get nap_means.owns w ≡ Some o → nap_means.number o ≡ w
 numbered zero o e = sym (ap (λ (x : Napper). x.number) (same_Some _ o e)) ∙ refl
 numbered (suc zero) o e = sym (ap (λ (x : Napper). x.number) (same_Some _ o e)) ∙ refl

@@ -32,6 +32,9 @@ is_zero t e = dite (ℕ_discrete t 0) (λ z. z) (λ n. absurd (true≢false (sym
 pub same_hand : (own : Mover) → shift_means.hand own ≡ own.hand
 same_hand own = refl
 
+pub same_number : (own : Mover) → shift_means.number own ≡ own.number
+same_number own = refl
+
 -- a move that is given again and again is given 512 times
 again_length : (e : Move) → length (again e) ≡ 512
 unfolding again

@@ -2,8 +2,9 @@
 //! chain, and the other way round.
 ghost use Rattle.std.specs.Prelude.{◌≡◌, Some, None, if◌then◌else◌};
 ghost use Rattle.ule_micro.specs.declared.todo.Todo.TheVariants as todo;
-ghost use Rattle.ule_micro_rows.specs.Nap.{acted, nap_item, napper, nap_stage_after, told_left};
+ghost use Rattle.ule_micro_rows.specs.Nap.{acted, nap_item, napper, nap_stage_after, stands_here, told_left};
 
+use crate::ends::End;
 use std::alloc::Global;
 use ule_io::Memory;
 use ule_micro::entry::HeldLocks;
@@ -103,6 +104,8 @@ impl OwnPart for Napper {
     type Order = Wish;
 
     ghost hand = { λ own. own.hand };
+
+    ghost number = { λ own. own.number };
 }
 
 impl Parts for Nap {
@@ -118,12 +121,17 @@ impl Parts for Nap {
 
     type Own = Napper;
 
-    ghost use Rattle.ule_micro_rows.specs.Nap.{nap_means, nap_orders};
-    ghost use Rattle.ule_micro_rows.specs.NapLaws.{nap_lawful, nap_orders_fit, same_hand};
+    type Ends = End<Act, Answer>;
+
+    ghost use Rattle.ule_micro_rows.specs.Nap.{nap_means, nap_orders, stands_here};
+    ghost use Rattle.ule_micro_rows.specs.NapLaws.{nap_lawful, nap_orders_fit, same_hand, same_number};
+    ghost use Rattle.ule_micro_rows.specs.Ends.{end_notes, ends_sound};
 
     ghost means = { λ _. nap_means };
 
     ghost orders = { λ _. nap_orders };
+
+    ghost notes = { λ _. end_notes stands_here };
 
     fn workers(&self) -> u8 {
         2
@@ -218,7 +226,27 @@ impl Parts for Nap {
         }
     }
 
+    fn note_entry(&self, out: &mut End<Act, Answer>, worker: u8, now: u64, e: &Act, r: &Answer) {
+        out.note_entry(worker, now, *e, *r);
+    }
+
+    fn note_value(&self, out: &mut End<Act, Answer>, l: LockId, v: &Spot) {
+        out.note_value(l, stands_here(v));
+    }
+
+    fn note_word(&self, out: &mut End<Act, Answer>, t: ThreadId, w: Option<LockId>) {
+        out.note_word(t, w);
+    }
+
+    fn note_now(&self, out: &mut End<Act, Answer>, now: u64) {
+        out.note_now(now);
+    }
+
     ghost same_hand = { λ _. same_hand };
+
+    ghost same_number = { λ _. same_number };
+
+    ghost sound = { λ _. ends_sound stands_here };
 
     ghost lawful = { λ _. nap_lawful };
 
@@ -273,5 +301,15 @@ fn if_left(last: Option<(Answer, u64)>, e: Act) -> Option<Todo<Act>>
         Some((Answer::Left, _)) => Some(Todo::Event(e)),
         Some((Answer::Stayed | Answer::Came, _)) => None,
         None => None,
+    }
+}
+
+/// Whether the thread stands under a lock with this value.
+fn stands_here(v: &Spot) -> bool
+    ensures { result ≡ stands_here v.now }
+{
+    match v {
+        Spot::Empty => false,
+        Spot::Awake | Spot::Asleep => true,
     }
 }

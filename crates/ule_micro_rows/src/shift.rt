@@ -4,6 +4,7 @@ ghost use Rattle.std.specs.Prelude.{◌≡◌, ◌<◌, ◌-◌, slice_get};
 ghost use Rattle.ule_micro_rows.specs.Shift.{again, shift_item, mover};
 ghost use Rattle.ule_micro_rows.specs.declared.shift.Point.TheVariants.{Over};
 
+use crate::ends::End;
 use std::alloc::Global;
 use ule_io::Memory;
 use ule_micro::entry::HeldLocks;
@@ -73,6 +74,8 @@ impl OwnPart for Mover {
     type Order = Move;
 
     ghost hand = { λ own. own.hand };
+
+    ghost number = { λ own. own.number };
 }
 
 impl Parts for Shifts {
@@ -88,12 +91,17 @@ impl Parts for Shifts {
 
     type Own = Mover;
 
+    type Ends = End<Move, Place>;
+
     ghost use Rattle.ule_micro_rows.specs.Shift.{shift_means, shift_orders};
-    ghost use Rattle.ule_micro_rows.specs.ShiftLaws.{shift_lawful, shift_orders_fit, same_hand};
+    ghost use Rattle.ule_micro_rows.specs.ShiftLaws.{shift_lawful, shift_orders_fit, same_hand, same_number};
+    ghost use Rattle.ule_micro_rows.specs.Ends.{end_notes, ends_sound};
 
     ghost means = { λ _. shift_means };
 
     ghost orders = { λ _. shift_orders };
+
+    ghost notes = { λ _. end_notes (λ v. v) };
 
     fn workers(&self) -> u8 {
         2
@@ -193,7 +201,27 @@ impl Parts for Shifts {
         }
     }
 
+    fn note_entry(&self, out: &mut End<Move, Place>, worker: u8, now: u64, e: &Move, r: &Place) {
+        out.note_entry(worker, now, *e, *r);
+    }
+
+    fn note_value(&self, out: &mut End<Move, Place>, l: LockId, v: &bool) {
+        out.note_value(l, *v);
+    }
+
+    fn note_word(&self, out: &mut End<Move, Place>, t: ThreadId, w: Option<LockId>) {
+        out.note_word(t, w);
+    }
+
+    fn note_now(&self, out: &mut End<Move, Place>, now: u64) {
+        out.note_now(now);
+    }
+
     ghost same_hand = { λ _. same_hand };
+
+    ghost same_number = { λ _. same_number };
+
+    ghost sound = { λ _. ends_sound (λ v. v) };
 
     ghost lawful = { λ _. shift_lawful };
 

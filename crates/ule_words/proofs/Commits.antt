@@ -1,6 +1,6 @@
 -- A commit keeps the rule.
-use Rattle.std.proofs.Common.{◌≡◌, ◌≢◌, ℕ, zero, suc, ◌+◌, ◌-◌, ◌<◌, ◌≤◌, ◌%◌, ◌^◌, Bool, true, false, List, [], ◌∷◌, length, set, refl, sym, ap, ◌∙◌, subst, subst₂, ⊎_elim, arith, get_or, eq-eqb, ne_eqb, mod-eq_of_lt}
-use Rattle.std.specs.Prelude.{Option, Some, None, slice_get, ◌==◌, if◌then◌else◌}
+use Rattle.std.proofs.Common.{◌≡◌, ◌≢◌, ℕ, zero, suc, ◌+◌, ◌-◌, ◌<◌, ◌≤◌, ◌%◌, ◌^◌, Bool, true, false, List, [], ◌∷◌, length, set, refl, sym, ap, ◌∙◌, subst, subst₂, ⊎_elim, inl, arith, get_or, eq-eqb, ne_eqb, mod-eq_of_lt}
+use Rattle.std.specs.Prelude.{Option, Some, slice_get, ◌==◌, if◌then◌else◌}
 use Rattle.std.proofs.lemmas.Option.{same_Some}
 use mathlib.Core.Option.{some}
 use lib.ListN.{get_elem?}
@@ -11,8 +11,10 @@ use Rattle.ule_micro.specs.Means.{Means, Needs, one as one_lock, both, lock_of}
 use Rattle.ule_micro.specs.Standings.{Acted}
 use Rattle.ule_micro.specs.Histories.{AreLocksFor, effect_on, entry_made, is_lock_among, own_entries, values_under}
 use Rattle.ule_micro.specs.Laws.{AreInRisingOrder, AreItsLocks, AreRising, IsLawful, has_true, places}
-use Rattle.ule_micro.specs.Shared.{CanCommit as SharedCanCommit, Shared, Stamped, committed, unstamped}
+use Rattle.ule_micro.specs.Shared.{CanCommit as SharedCanCommit, Shared, Stamped, unstamped}
+use Rattle.std.specs.List.{AllByRecursion}
 use Rattle.ule_micro.proofs.Among.{bool_case}
+use Rattle.ule_micro.proofs.Courses.{own_by}
 use Rattle.ule_micro.proofs.Effects.{effect_is, laid_else, stands_here, under_one}
 use Rattle.ule_micro.proofs.Lists.{get_else, get_here, something, there}
 use Rattle.ule_micro.proofs.SharedCommit.{committing_agrees, committing_may}
@@ -25,6 +27,7 @@ use Rattle.ule_words.specs.Tells.{CanCommit, Commits, IsReady}
 use Rattle.ule_words.specs.declared.log.Numbered.{Numbered}
 use Rattle.ule_words.specs.declared.view.View.{View}
 use Rattle.ule_words.specs.declared.view.Worker.{Worker}
+use Rattle.ule_words.proofs.Again.{again, agrees_again}
 use Rattle.ule_words.proofs.Grips.{among_held, laid_held, still_held, under_held}
 use Rattle.ule_words.proofs.Knows.{knows_kept, one_injective, workers_after}
 use Rattle.ule_words.proofs.Shown.{shows_ticket, together_at, together_set}
@@ -105,7 +108,7 @@ module _ {H O G E R C : Type 0} (m : Means H O G E R C) where
     }
 
     small : st.now < 2 ^ 36
-    small = let a = now_small m s r id p at in omega arith
+    small = let a = now_small m s r id p at law in omega arith
 
     -- the event may be performed
     pub may_commit : m.may w e now p.hand (held_values p.held)
@@ -114,10 +117,16 @@ module _ {H O G E R C : Type 0} (m : Means H O G E R C) where
 
     -- the ticket stands where the entries so far end
     pub ticket_small : (n < 65536) × (p.seen ≤ n)
-    ticket_small = let a : n ≡ st.ticket = r.words.ticket in let b = r.budget.items in let c = together_at r.allowances w p.allowance it.left in let d = can.left in let f = it.knows.seen in ((omega arith), (omega arith))
+    ticket_small = let a : n ≡ st.ticket = r.words.ticket in let b = r.budget.items in let c = together_at r.allowances w p.allowance it.left in let d = can.left in let f = it.knows.seen in let k = law.small.small in ((omega arith), (omega arith))
 
+    -- no entry of its own is later
+    pub none_later : AllByRecursion (λ y. y.now ≤ now) (entries_in p.mine)
+    none_later = subst (AllByRecursion (λ y. y.now ≤ now)) (sym (ap entries_in it.knows.mine ∙ entries_made w st.history))
+        (own_by w now (unstamped st.history) (λ j x is own. (r.agrees.times w (record { locks = locks; now = now }) shared_can.read).no_earlier.after j x is (inl own)))
+
+    -- the state behind the commit, in which the worker may use the time again
     abbrev s' : Shared H G E R
-    s' = committed m st w e locks now p.advanced after
+    s' = again m st w e locks now p.advanced after
 
     abbrev q : Worker H G E R
     q = committing m p e locks now (n + 1)
@@ -142,7 +151,7 @@ module _ {H O G E R C : Type 0} (m : Means H O G E R C) where
       holds = λ l. k.holds l ∙ sym (still_held p.held left.values l);
       values = laid_held st.values locks rise p.held left.values few can.holds k.values;
       pending = put_here st.pending w (m.change e after.reply);
-      read = put_here st.read w None;
+      read = k.read;
       advanced = k.advanced;
       mine = (λ i. (p.advanced, record { number = (let z : n + 1 ≡ length st.history + 1 = omega arith in z) i; entry = entry_made w e locks now left.reply }) ∷ k.mine i)
           ∙ sym (made_here w (record { entry = entry_made w e locks now left.reply; amount = p.advanced }) st.history refl);
@@ -156,7 +165,8 @@ module _ {H O G E R C : Type 0} (m : Means H O G E R C) where
     pub commits : (c : List (ℕ × Option G)) → Shows m (stepped s 281 (n + 1) id c (one q) keeps)
     commits c = let ticket : n ≡ st.ticket = r.words.ticket in record {
       state = s';
-      agrees = committing_agrees m law st w e p.hand locks now p.advanced after r.agrees shared_can small (effect_is m w e now p.hand locks st.values (held_values p.held) under);
+      agrees = agrees_again m st w e locks now p.advanced after r.agrees shared_can.read
+          (committing_agrees m law st w e p.hand locks now p.advanced after r.agrees shared_can small (effect_is m w e now p.hand locks st.values (held_values p.held) under));
       holders = r.holders;
       words = shows_ticket s.words st s' r.words (n + 1) (ap (λ z. z + 1) (sym ticket)) (λ l. refl) (λ t. refl) refl;
       values = record { count = r.values.count; home = home_after };
@@ -166,7 +176,7 @@ module _ {H O G E R C : Type 0} (m : Means H O G E R C) where
           (λ x far o. record {
             number = o.number;
             knows = knows_kept st s' x (get_else st.hands w x.number after.hand far) (λ l. refl) (λ l h. laid_else st.values locks left.values l (not_its x.number l far (o.knows.holds l ∙ h))) (put_else st.pending w (m.change e after.reply) x.number far)
-                (put_else st.read w None x.number far) refl (made_else x.number (record { entry = entry_made w e locks now left.reply; amount = p.advanced }) st.history (λ z. far (sym z))) (omega arith) o.knows;
+                refl refl (made_else x.number (record { entry = entry_made w e locks now left.reply; amount = p.advanced }) st.history (λ z. far (sym z))) (omega arith) o.knows;
             left = get_else r.allowances w x.number (p.allowance - 1) far ∙ o.left;
           });
       advances = r.advances;
@@ -195,6 +205,7 @@ module _ {H O G E R C : Type 0} (m : Means H O G E R C) where
                 t.0,
                 subst (λ (z : Worker H G E R). z.seen ≤ n) same t.1,
                 subst₂ (λ (z : Worker H G E R) (y : ℕ). m.may z.number e y z.hand (held_values z.held)) same (ap (λ (z : HeldLocks × ℕ). z.1) both_read) (may_commit law s r id p at_p e locks now can ready.few),
+                subst₂ (λ (z : Worker H G E R) (y : ℕ). AllByRecursion (λ x. x.now ≤ y) (entries_in z.mine)) same (ap (λ (z : HeldLocks × ℕ). z.1) both_read) (none_later law s r id p at_p e locks now can ready.few),
               ),
         )
 

@@ -8,6 +8,8 @@ pub mod TimeSteps
 pub mod Opens
 pub mod Grips
 pub mod Commits
+pub mod Again
+pub mod Standing
 pub mod Numbering
 pub mod Ties
 pub mod Performs

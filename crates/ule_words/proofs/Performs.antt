@@ -49,9 +49,9 @@ module _ {G : Type 0} where
 
 module _ {H O G E R C : Type 0} (m : Means H O G E R C) where
   -- a pass whose worker can commit is ready
-  pub ready_pass : (w left time : ℕ) (h : H) (holding : Holding G) (list : LogState (Numbered E R)) (me : Me (Option G) (View H G E R)) (t : IsTied w left time h holding list me) (e : E) (locks : HeldLocks) (now : ℕ)
+  pub ready_pass : (w left time : ℕ) (h : H) (u : ℕ) (holding : Holding G) (list : LogState (Numbered E R)) (me : Me (Option G) (View H G E R)) (t : IsTied w left time h u holding list me) (e : E) (locks : HeldLocks) (now : ℕ)
       → CanCommit m t.worker e locks now → IsReady m me e
-  ready_pass w left time h holding list me t e locks now can = record {
+  ready_pass w left time h u holding list me t e locks now can = record {
     worker = t.worker;
     knows = ap (λ z. z.0) t.view;
     locks = locks;
@@ -77,20 +77,21 @@ module _ {H O G E R C : Type 0} (m : Means H O G E R C) where
     acts_alike = ap (λ (z : With). m.act z.0 e z.1 z.2 (held_values z.3)) with_same
 
   -- a pass after a commit
-  pub committed_tied : (w left time : ℕ) (h h' : H) (holding new : Holding G) (list list' : LogState (Numbered E R)) (me me' : Me (Option G) (View H G E R)) (t : IsTied w left time h holding list me)
+  pub committed_tied : (w left time : ℕ) (h h' : H) (u u' : ℕ) (holding new : Holding G) (list list' : LogState (Numbered E R)) (me me' : Me (Option G) (View H G E R)) (t : IsTied w left time h u holding list me)
       (e : E) (locks : HeldLocks) (now number : ℕ) (x y : Held G) (made : Numbered E R)
       → 0 < left → holding.last ≡ Some x → new.last ≡ Some y → y.lock ≡ x.lock → ((b : Held G) → new.first ≡ Some b → (a : Held G) × (holding.first ≡ Some a) × (b.lock ≡ a.lock))
-      → in_fields new ≡ held_with t.worker.held (act_of m t.worker e now).values → h' ≡ (act_of m t.worker e now).hand
+      → in_fields new ≡ held_with t.worker.held (act_of m t.worker e now).values → h' ≡ (act_of m t.worker e now).hand → u' ≡ u
       → list' ≡ record { items = list.items ++ made ∷ []; room = list.room } → made ≡ record { number = number; entry = entry_made t.worker.number e locks now (act_of m t.worker e now).reply }
-      → me' ≡ (one (committing m t.worker e locks now number), me.1) → IsTied w (left - 1) time h' new list' me'
-  committed_tied w left time h h' holding new list list' me me' t e locks now number x y made more top after same below held hand noted is now_me =
+      → me' ≡ (one (committing m t.worker e locks now number), me.1) → IsTied w (left - 1) time h' u' new list' me'
+  committed_tied w left time h h' u u' holding new list list' me me' t e locks now number x y made more top after same below held hand num noted is now_me =
       let p = t.worker in let vs = (act_of m p e now).values in record {
         worker = committing m p e locks now number;
         view = now_me ∙ (λ i. (one (committing m p e locks now number), (ap (λ z. z.1) t.view ∙ sym (slots_still p.held vs)) i));
         number = t.number;
+        part = num ∙ t.part;
         hand = sym hand;
         allowance = ap (λ z. z - 1) t.allowance;
-        time = λ r none. absurd (none-some r none);
+        time = t.time;
         held = sym held;
         log = ap (λ l. l.items) noted ∙ ((λ i. t.log i ++ is i ∷ []) ∙ sym (reverse-append (let z : List (Numbered E R) = record { number = number; entry = entry_made p.number e locks now (act_of m p e now).reply } ∷ [] in z) (map numbered_in p.mine)));
         room = subst (λ (l : LogState (Numbered E R)). length l.items + (left - 1) ≤ l.room) (sym noted) (let z = t.room in omega (arith, length-append list.items (made ∷ [])));

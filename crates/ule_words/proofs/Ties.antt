@@ -1,5 +1,5 @@
 -- What lies in a pass, and what its seat knows.
-use Rattle.std.proofs.Common.{append-nil, ◌≡◌, ◌≢◌, ℕ, ◌-◌, ◌<◌, eq-eqb, ne_eqb, true, List, [], ◌∷◌, ◌++◌, length, sym, refl, ap, ◌∙◌, subst, ap₂, arith}
+use Rattle.std.proofs.Common.{append-nil, ◌≡◌, ◌≢◌, ℕ, ◌-◌, ◌<◌, eq-eqb, ne_eqb, true, List, [], ◌∷◌, ◌++◌, length, sym, refl, ap, ◌∙◌, subst, subst₂, ap₂, arith}
 use Rattle.std.specs.Prelude.{Option, Some, None, if◌then◌else◌}
 use Rattle.std.proofs.lemmas.Option.{none-some, same_Some}
 use mathlib.Core.Logic.{dite}
@@ -24,8 +24,8 @@ module _ {O H G E R : Type 0} where
       → pass_state_of z w h own me ≡ record { table = z; own = own; worker = p }
   state_is z w h own me p c e = ap (λ (x : Me (Option G) (View H G E R)). pass_state_of z w h own x) e
 
-  module _ (z : TableId) (w : ℕ) (h : H) (own : O) (me : Me (Option G) (View H G E R)) (st : PassState O H G E R) (holding : Holding G)
-      (left time : ℕ) (log : LogState (Numbered E R)) (seen : pass_state_of z w h own me ≡ st) (t : IsTied w left time h holding log me) where
+  module _ (z : TableId) (w : ℕ) (h : H) (u : ℕ) (own : O) (me : Me (Option G) (View H G E R)) (st : PassState O H G E R) (holding : Holding G)
+      (left time : ℕ) (log : LogState (Numbered E R)) (seen : pass_state_of z w h own me ≡ st) (t : IsTied w left time h u holding log me) where
     -- the worker that a contract sees
     pub worker_is : st.worker ≡ t.worker
     worker_is = ap (λ (s : PassState O H G E R). s.worker) (sym seen ∙ state_is z w h own me t.worker (slots_out t.worker.held) t.view)
@@ -72,13 +72,14 @@ module _ {H G E R : Type 0} where
   )
 
   -- a pass after it took a lock
-  pub put_tied : (w left time : ℕ) (h : H) (holding new : Holding G) (log : LogState (Numbered E R)) (me me' : Me (Option G) (View H G E R)) (t : IsTied w left time h holding log me) (l : ℕ) (v : G) (x : Held G)
+  pub put_tied : (w left time : ℕ) (h : H) (u : ℕ) (holding new : Holding G) (log : LogState (Numbered E R)) (me me' : Me (Option G) (View H G E R)) (t : IsTied w left time h u holding log me) (l : ℕ) (v : G) (x : Held G)
       → x.lock ≡ l → x.value ≡ v → new.last ≡ Some x → new.first ≡ holding.last → holding.first ≡ None → value_held t.worker.held l ≡ None → l < 25
-      → me' ≡ (one (taking t.worker l v), (l, None) ∷ slots_out t.worker.held) → IsTied w left time h new log me'
-  put_tied w left time h holding new log me me' t l v x xl xv last first bare fresh near now = record {
+      → me' ≡ (one (taking t.worker l v), (l, None) ∷ slots_out t.worker.held) → IsTied w left time h u new log me'
+  put_tied w left time h u holding new log me me' t l v x xl xv last first bare fresh near now = record {
     worker = taking t.worker l v;
     view = now;
     number = t.number;
+    part = t.part;
     hand = t.hand;
     allowance = t.allowance;
     time = λ r e. absurd (none-some r e);
@@ -92,9 +93,9 @@ module _ {H G E R : Type 0} where
   }
 
   -- what a take that won tells
-  pub won : {O C : Type 0} (m : Rattle.ule_micro.specs.Means.Means H O G E R C) (w left time : ℕ) (h : H) (holding : Holding G) (log : LogState (Numbered E R)) (me me' : Me (Option G) (View H G E R)) (l found : ℕ) (t : IsTied w left time h holding log me)
+  pub won : {O C : Type 0} (m : Rattle.ule_micro.specs.Means.Means H O G E R C) (w left time : ℕ) (h : H) (u : ℕ) (holding : Holding G) (log : LogState (Numbered E R)) (me me' : Me (Option G) (View H G E R)) (l found : ℕ) (t : IsTied w left time h u holding log me)
       → Takes m l me found me' → found ≡ 0 → (v : G) × (me' ≡ (one (taking t.worker l v), (l, Some v) ∷ slots_out t.worker.held)) × (value_held t.worker.held l ≡ None)
-  won m w left time h holding log me me' l found t told free = let k = (told t.worker (ap (λ x. x.0) t.view)).0 free in
+  won m w left time h u holding log me me' l found t told free = let k = (told t.worker (ap (λ x. x.0) t.view)).0 free in
       (k.0, k.1 ∙ ap (λ x. (one (taking t.worker l k.0), (l, Some k.0) ∷ x.1)) t.view, k.2)
 
 module _ {G : Type 0} where
@@ -133,12 +134,13 @@ module _ {G : Type 0} where
 
 module _ {H G E R : Type 0} where
   -- a pass after it gave a lock back
-  pub drawn_tied : (w left time : ℕ) (h : H) (holding new : Holding G) (log : LogState (Numbered E R)) (me me' : Me (Option G) (View H G E R)) (t : IsTied w left time h holding log me) (l : ℕ)
-      → in_fields new ≡ held_but l (in_fields holding) → new.first ≡ None → me' ≡ (one (releasing t.worker l), slots_out (held_but l t.worker.held)) → IsTied w left time h new log me'
-  drawn_tied w left time h holding new log me me' t l fs bare now = record {
+  pub drawn_tied : (w left time : ℕ) (h : H) (u : ℕ) (holding new : Holding G) (log : LogState (Numbered E R)) (me me' : Me (Option G) (View H G E R)) (t : IsTied w left time h u holding log me) (l : ℕ)
+      → in_fields new ≡ held_but l (in_fields holding) → new.first ≡ None → me' ≡ (one (releasing t.worker l), slots_out (held_but l t.worker.held)) → IsTied w left time h u new log me'
+  drawn_tied w left time h u holding new log me me' t l fs bare now = record {
     worker = releasing t.worker l;
     view = now;
     number = t.number;
+    part = t.part;
     hand = t.hand;
     allowance = t.allowance;
     time = λ r e. absurd (none-some r e);
@@ -170,21 +172,21 @@ read_time (Some locks) now r e = ap (λ (z : HeldLocks × ℕ). z.1) (sym (same_
 
 module _ {H G E R : Type 0} where
   -- a pass whose pending change was stored
-  pub calm_tied : (w left time : ℕ) (h : H) (holding : Holding G) (log : LogState (Numbered E R)) (me me' : Me (Option G) (View H G E R)) (t : IsTied w left time h holding log me)
-      → me' ≡ (one (calm t.worker), slots_out t.worker.held) → IsTied w left time h holding log me'
-  calm_tied w left time h holding log me me' t now = record { worker = calm t.worker; view = now; number = t.number; hand = t.hand; allowance = t.allowance; time = t.time; held = t.held; log = t.log; room = t.room; order = t.order; apart = t.apart; low = t.low }
+  pub calm_tied : (w left time : ℕ) (h : H) (u : ℕ) (holding : Holding G) (log : LogState (Numbered E R)) (me me' : Me (Option G) (View H G E R)) (t : IsTied w left time h u holding log me)
+      → me' ≡ (one (calm t.worker), slots_out t.worker.held) → IsTied w left time h u holding log me'
+  calm_tied w left time h u holding log me me' t now = record { worker = calm t.worker; view = now; number = t.number; part = t.part; hand = t.hand; allowance = t.allowance; time = t.time; held = t.held; log = t.log; room = t.room; order = t.order; apart = t.apart; low = t.low }
 
   -- a pass that read now
-  pub timed_tied : (w left time now : ℕ) (h : H) (holding : Holding G) (log : LogState (Numbered E R)) (me me' : Me (Option G) (View H G E R)) (t : IsTied w left time h holding log me)
-      → me' ≡ (one (timed t.worker now), slots_out t.worker.held) → IsTied w left now h holding log me'
-  timed_tied w left time now h holding log me me' t is = record { worker = timed t.worker now; view = is; number = t.number; hand = t.hand; allowance = t.allowance; time = λ r e. read_time (locks_of t.worker.held) now r e; held = t.held; log = t.log; room = t.room; order = t.order; apart = t.apart; low = t.low }
+  pub timed_tied : (w left time now : ℕ) (h : H) (u : ℕ) (holding : Holding G) (log : LogState (Numbered E R)) (me me' : Me (Option G) (View H G E R)) (t : IsTied w left time h u holding log me)
+      → me' ≡ (one (timed t.worker now), slots_out t.worker.held) → IsTied w left now h u holding log me'
+  timed_tied w left time now h u holding log me me' t is = record { worker = timed t.worker now; view = is; number = t.number; part = t.part; hand = t.hand; allowance = t.allowance; time = λ r e. read_time (locks_of t.worker.held) now r e; held = t.held; log = t.log; room = t.room; order = t.order; apart = t.apart; low = t.low }
 
   -- a pass that advanced now
-  pub advanced_tied : (w left time k : ℕ) (h : H) (holding : Holding G) (log : LogState (Numbered E R)) (me me' : Me (Option G) (View H G E R)) (t : IsTied w left time h holding log me)
-      → me' ≡ (one (advancing t.worker k), slots_out t.worker.held) → IsTied w (left - 1) time h holding log me'
-  advanced_tied w left time k h holding log me me' t now = record { worker = advancing t.worker k; view = now; number = t.number; hand = t.hand; allowance = ap (λ z. z - 1) t.allowance; time = λ r e. absurd (none-some r e); held = t.held; log = t.log; room = (let z = t.room in omega arith); order = t.order; apart = t.apart; low = t.low }
+  pub advanced_tied : (w left time k : ℕ) (h : H) (u : ℕ) (holding : Holding G) (log : LogState (Numbered E R)) (me me' : Me (Option G) (View H G E R)) (t : IsTied w left time h u holding log me)
+      → me' ≡ (one (advancing t.worker k), slots_out t.worker.held) → IsTied w (left - 1) time h u holding log me'
+  advanced_tied w left time k h u holding log me me' t now = record { worker = advancing t.worker k; view = now; number = t.number; part = t.part; hand = t.hand; allowance = ap (λ z. z - 1) t.allowance; time = λ r e. absurd (none-some r e); held = t.held; log = t.log; room = (let z = t.room in omega arith); order = t.order; apart = t.apart; low = t.low }
 
 module _ {H G E R : Type 0} where
-  -- a pass with the same hand
-  pub hand_tied : (w left time : ℕ) (h h' : H) (holding : Holding G) (log : LogState (Numbered E R)) (me : Me (Option G) (View H G E R)) → IsTied w left time h holding log me → h' ≡ h → IsTied w left time h' holding log me
-  hand_tied w left time h h' holding log me t same = subst (λ x. IsTied w left time x holding log me) (sym same) t
+  -- a pass with the same hand, and the own part of the same worker
+  pub hand_tied : (w left time : ℕ) (h h' : H) (u u' : ℕ) (holding : Holding G) (log : LogState (Numbered E R)) (me : Me (Option G) (View H G E R)) → IsTied w left time h u holding log me → h' ≡ h → u' ≡ u → IsTied w left time h' u' holding log me
+  hand_tied w left time h h' u u' holding log me t same num = subst₂ (λ x y. IsTied w left time x y holding log me) (sym same) (sym num) t

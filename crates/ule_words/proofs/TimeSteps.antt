@@ -7,6 +7,7 @@ use lib.ListN.{get_elem?}
 use Rattle.atomic_table.specs.Table.{State, keeps, stepped, Allows}
 use Rattle.ule_micro.specs.declared.entry.HeldLocks.{HeldLocks}
 use Rattle.ule_micro.specs.Means.{Means}
+use Rattle.ule_micro.specs.Laws.{IsLawful}
 use Rattle.ule_micro.specs.Shared.{Shared, TimeRead, now_advanced, now_read}
 use Rattle.ule_micro.proofs.Among.{first_among}
 use Rattle.ule_micro.proofs.Lists.{get_else, get_here, there}
@@ -110,8 +111,8 @@ module _ {H O G E R C : Type 0} (m : Means H O G E R C) (s : State (Option G) (V
   reads_now = by_locks (locks_of p.held) refl
 
   -- now is far below the greatest number
-  pub now_small : st.now ≤ 65536020000
-  now_small = let a = together_small r.advances r.budget.each in let b = r.budget.now in let c = r.budget.items in omega arith
+  pub now_small : IsLawful m → st.now ≤ 65536020000
+  now_small law = let a = together_small r.advances r.budget.each in let b = r.budget.now in let c = r.budget.items in let d = law.small.small in omega arith
 
   raises_now : (k : ℕ) → 1 ≤ k → k ≤ 1000000 → 0 < p.allowance → Shows m record { words = set s.words 282 (n + k); homes = s.homes; views = set s.views id (one (advancing p k)) }
   raises_now j least few left = let k = it.knows in let s' : Shared H G E R = now_advanced st w p.advanced j in let less : ℕ = p.allowance - 1 in record {
@@ -156,9 +157,9 @@ module _ {H O G E R C : Type 0} (m : Means H O G E R C) where
   now_allows slots id p c s r deep at small = (one (timed p (get_or s.words 282 0)), keeps, tt, reads_now m s r id p at, λ q e. ap (λ z. (one (timed z (get_or s.words 282 0)), c)) (one_injective p q e))
 
   -- now may be advanced
-  pub advance_allows : (slots id : ℕ) (p : Worker H G E R) (c : List (ℕ × Option G)) (k : ℕ) → 1 ≤ k → k ≤ 1000000 → 0 < p.allowance → Allows (Shows m) slots id (one p, c) 282 (λ n. (n + k) % 2 ^ 64) (λ _. Advances k (one p, c))
-  advance_allows slots id p c k least few left s r deep at small = let n : ℕ = get_or s.words 282 0 in
-      let fits : n + k < 2 ^ 64 = (let a = now_small m s r id p at in let b : n ≡ r.state.now = r.words.now in omega arith) in (
+  pub advance_allows : IsLawful m → (slots id : ℕ) (p : Worker H G E R) (c : List (ℕ × Option G)) (k : ℕ) → 1 ≤ k → k ≤ 1000000 → 0 < p.allowance → Allows (Shows m) slots id (one p, c) 282 (λ n. (n + k) % 2 ^ 64) (λ _. Advances k (one p, c))
+  advance_allows law slots id p c k least few left s r deep at small = let n : ℕ = get_or s.words 282 0 in
+      let fits : n + k < 2 ^ 64 = (let a = now_small m s r id p at law in let b : n ≡ r.state.now = r.words.now in omega arith) in (
         one (advancing p k),
         keeps,
         tt,

@@ -51,11 +51,13 @@ module _ {H G E R : Type 0} where
   pass_state_of table w hand own me = record { table = table; own = own; worker = first_or (nothing_known w hand) me.0.workers }
 
   -- is tied: what lies in a pass is what its seat knows
-  pub record IsTied (w left last_time : ℕ) (carried : H) (holding : Holding G) (list : LogState (Numbered E R)) (me : Me (Option G) (View H G E R)) : Type 0 where
+  pub record IsTied (w left last_time : ℕ) (carried : H) (of_part : ℕ) (holding : Holding G) (list : LogState (Numbered E R)) (me : Me (Option G) (View H G E R)) : Type 0 where
     pub worker : Worker H G E R
     -- the seat knows this worker alone, and has taken the slots of the locks that it holds
     pub view : me ≡ (one worker, slots_out worker.held)
     pub number : worker.number ≡ w
+    -- its own part is its worker's
+    pub part : of_part ≡ w
     pub hand : worker.hand ≡ carried
     pub allowance : worker.allowance ≡ left
     pub time : (r : HeldLocks × ℕ) → worker.read ≡ Some r → r.1 ≡ last_time

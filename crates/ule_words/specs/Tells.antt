@@ -1,15 +1,19 @@
 -- What each step on the table tells the worker that makes it.
-use Rattle.std.specs.Prelude.{◌≡◌, ◌≢◌, ℕ, ◌+◌, ◌<◌, ◌≤◌, ◌∷◌, length, take, drop, Option, Some, None}
+use Rattle.std.specs.Prelude.{◌≡◌, ◌≢◌, ℕ, ◌+◌, ◌<◌, ◌≤◌, List, ◌∷◌, length, take, drop, Option, Some, None}
+use Rattle.std.specs.List.{AllByRecursion}
 use Rattle.atomic_table.specs.Table.{Me, rest}
 use Rattle.ule_micro.specs.declared.entry.HeldLocks.{HeldLocks}
 use Rattle.ule_micro.specs.declared.locks.TheConstants.{LOCKS}
+use Rattle.ule_micro.specs.declared.todo.Todo.TheVariants.{Event}
 use Rattle.ule_micro.specs.declared.word.Word.{Word}
 use Rattle.ule_micro.specs.declared.word.Word.TheVariants.{Lock, Blocked}
 use Rattle.ule_micro.specs.Laws.{AreItsLocks}
 use Rattle.ule_micro.specs.Means.{Means}
 use Rattle.ule_micro.specs.Shared.{Agrees, Shared}
+use Rattle.ule_micro.specs.Standings.{asks, has}
 use Rattle.ule_words.specs.Held.{held_values, locks_of, value_held}
 use Rattle.ule_words.specs.Passes.{PassState}
+use Rattle.ule_words.specs.Programs.{StandsAt}
 use Rattle.ule_words.specs.Workers.{KnowsItsPart, act_of, advancing, calm, committing, entries_in, one, releasing, taking, timed}
 use Rattle.ule_words.specs.Rule.{thread_word}
 use Rattle.ule_words.specs.declared.view.View.{View}
@@ -56,10 +60,10 @@ module _ {H O G E R C : Type 0} (m : Means H O G E R C) where
     pub needs : AreItsLocks m locks (held_values p.held) (m.needs e)
     pub asks : m.asks p.number (entries_in p.mine) p.hand e
 
-  -- commits: the ticket was raised from this number for an event, which may be performed
+  -- commits: the ticket was raised from this number for an event, which may be performed at a time that none of the worker's entries is later than
   abbrev pub Commits : E → Me (Option G) (View H G E R) → ℕ → Me (Option G) (View H G E R) → Type 0
   Commits e me found me' = (p : Worker H G E R) (locks : HeldLocks) (now : ℕ) → me.0 ≡ one p → CanCommit p e locks now
-      → (me' ≡ (one (committing m p e locks now (found + 1)), me.1)) × (found < 65536) × (p.seen ≤ found) × m.may p.number e now p.hand (held_values p.held)
+      → (me' ≡ (one (committing m p e locks now (found + 1)), me.1)) × (found < 65536) × (p.seen ≤ found) × m.may p.number e now p.hand (held_values p.held) × AllByRecursion (λ y. y.now ≤ now) (entries_in p.mine)
 
   -- is ready: the one worker that a seat knows can commit the event, and holds at most two locks
   pub record IsReady (me : Me (Option G) (View H G E R)) (e : E) : Type 0 where
@@ -82,6 +86,8 @@ module _ {H O G E R C : Type 0} (m : Means H O G E R C) where
     pub own : q.own ≡ m.with_hand p.own (act_of m p.worker e now).hand
     pub is_reply : reply ≡ (act_of m p.worker e now).reply
     pub table : q.table ≡ p.table
+    -- where the event was the worker's item, it now asks for its next one, with one less to come
+    pub stands : (given : List C) → StandsAt m given p (has (Event e)) → StandsAt m given q (asks (Some (reply, now))) × (m.left q.own (asks (Some (reply, now))) + 1 ≤ m.left p.own (has (Event e)))
 
 module _ {H G E R : Type 0} where
   -- releases: the lock was given back, with its value

@@ -101,7 +101,7 @@ module _ {H O G E R C : Type 0} (m : Means H O G E R C) where
     hand = (act_of p e now).hand;
     held = held_with p.held (act_of p e now).values;
     pending = m.change e (act_of p e now).reply;
-    read = None;
+    read = p.read;
     advanced = p.advanced;
     allowance = p.allowance - 1;
     mine = (p.advanced, record { number = number; entry = entry_made p.number e locks now (act_of p e now).reply }) ∷ p.mine;

@@ -1,8 +1,11 @@
 //! The lock words and the threads' words, and the steps on them.
-ghost use Rattle.std.specs.Prelude.{◌≡◌, ◌≢◌, ℕ, ◌≤◌, ◌<◌, true, false, length, Some, None, OnOk, OnErr, IfErr};
+ghost use Rattle.std.specs.Prelude.{◌≡◌, ◌≢◌, ℕ, ◌+◌, ◌≤◌, ◌<◌, true, false, List, length, Some, None, OnOk, OnErr, IfErr};
+ghost use Rattle.ule_micro.specs.Standings.{asks, has};
+ghost use Rattle.ule_micro.specs.declared.todo.Todo.TheVariants.{Advance};
 ghost use Rattle.ule_micro.specs.declared.word.Word.TheVariants.{Lock};
 ghost use Rattle.ule_micro.specs.declared.word.WordChange.TheVariants.{Block, Point};
 ghost use Rattle.ule_words.specs.Held.{is_held, value_held};
+ghost use Rattle.ule_words.specs.Programs.{StandsAt};
 ghost use Rattle.ule_words.specs.Rule.{thread_word};
 ghost use Rattle.ule_words.specs.Tells.{CanCommit, Commits, HasCommitted, IsHolderOf, IsReady, IsWordOf};
 ghost use Rattle.ule_words.specs.Workers.{advancing, calm, releasing, taking, timed};
@@ -135,7 +138,8 @@ impl<P: Parts> Locks<P> {
             .store::<Brand>(&mut p.seat, LOCKS as usize + t.0 as usize, l.0 as u64 + 1);
     }
 
-    /// The time in hz ticks, which the pass keeps for a commit under the locks that it holds.
+    /// The time in hz ticks, which the pass keeps for commits under the locks that it holds, until it
+    /// takes one, gives one back, or advances now.
     pub fn read_now(&self, p: &mut Pass<P::Own>) -> u64
         requires { p.old.table ≡ self.now.table.shared.table_id }
         ensures { p.new ≡ record p.old { worker = timed p.old.worker result } }
@@ -146,13 +150,15 @@ impl<P: Parts> Locks<P> {
     }
 
     /// Advances now by 1 to 1,000,000 hz ticks, and forgets the time that the pass read. It is one of
-    /// the pass's items.
+    /// the pass's items: where it was the next one of its worker's program, the worker then asks for
+    /// its next item.
     pub fn advance_now(&self, p: &mut Pass<P::Own>, k: u32)
         requires table { p.old.table ≡ self.now.table.shared.table_id }
         requires some { 1 ≤ k }
         requires few { k ≤ 1000000 }
         requires left { 0 < p.old.worker.allowance }
-        ensures { p.new ≡ record p.old { worker = advancing p.old.worker k } }
+        ensures pass { p.new ≡ record p.old { worker = advancing p.old.worker k } }
+        ensures stands { (given : List P.Order) → StandsAt (P.means self.now.parts) given p.old (has (Advance k)) → StandsAt (P.means self.now.parts) given p.new (asks None) × ((P.means self.now.parts).left p.new.own (asks None) + 1 ≤ (P.means self.now.parts).left p.old.own (has (Advance k))) }
     {
         self.table
             .shared
@@ -176,10 +182,10 @@ impl<P: Parts> Locks<P> {
     /// Lets an event take effect, on the pass's hand and on the values under the locks that it holds,
     /// which are all of the event, and answers its reply. The time is the one that the pass read under
     /// these locks. It raises the ticket, and its entry goes to the pass's list. It is one of the pass's
-    /// items.
+    /// items: where it was the next one of its worker's program, the worker then asks for its next
+    /// item, and tells the reply and the time.
     pub fn commit(&self, p: &mut Pass<P::Own>, e: &P::Event) -> P::Reply
         requires table { p.old.table ≡ self.now.table.shared.table_id }
-        requires own { (P.means self.now.parts).number p.old.own ≡ p.old.worker.number }
         requires can { (locks : _) × (now : ℕ) × CanCommit (P.means self.now.parts) p.old.worker e.now locks now }
         ensures { HasCommitted (P.means self.now.parts) p.old e.now result p.new }
     {

@@ -29,7 +29,7 @@ impl<O: OwnPart> Model for Pass<O> {
 
     ghost view = { λ p. pass_state_of p.seat.table_id p.number (O.hand p.own) p.own p.seat.me };
 
-    ghost invariant = { λ p. IsTied p.number p.allowance p.time (O.hand p.own) p.holding p.log p.seat.me };
+    ghost invariant = { λ p. IsTied p.number p.allowance p.time (O.hand p.own) (O.number p.own) p.holding p.log p.seat.me };
 }
 
 /// The passes of all workers, in rising number.

@@ -1,7 +1,9 @@
 //! A worker's program: the commands that its pass begins, and their items.
-ghost use Rattle.std.specs.Prelude.{◌≡◌, ◌≤◌, ℕ, List, ◌∷◌, None};
+ghost use Rattle.std.specs.Prelude.{◌≡◌, ◌≤◌, ℕ, List, ◌∷◌, Some, None};
 ghost use Rattle.ule_micro.specs.Standings.{asks, rests, standing_with};
+ghost use Rattle.ule_micro.specs.declared.todo.Todo.TheVariants.{Advance, Event};
 ghost use Rattle.ule_words.specs.Programs.{StandsAt};
+ghost use Rattle.ule_words.specs.Workers.{entries_in};
 
 use crate::locks::Locks;
 use crate::pass::Pass;
@@ -21,7 +23,8 @@ impl<P: Parts> Locks<P> {
 
     /// The next item of the command begun last; none exactly where it has no further item. `last` is
     /// the reply and the time of the item before, if it was an event of this command. It makes no
-    /// step, and leaves all but the own part.
+    /// step, and leaves all but the own part. An event is one that the worker asks for, and an advance
+    /// is by 1 to 1,000,000.
     pub fn next(
         &self,
         p: &mut Pass<P::Own>,
@@ -31,6 +34,8 @@ impl<P: Parts> Locks<P> {
         ensures item { result ≡ ((P.means self.now.parts).next p.old.own last).0 }
         ensures own { p.new ≡ record p.old { own = ((P.means self.now.parts).next p.old.own last).1 } }
         ensures stands { (given : List P.Order) → StandsAt (P.means self.now.parts) given p.old (asks last) → StandsAt (P.means self.now.parts) given p.new (standing_with result) }
+        ensures event { (e : P.Event) → result ≡ Some (Event e) → (P.means self.now.parts).asks p.new.worker.number (entries_in p.new.worker.mine) p.new.worker.hand e }
+        ensures advance { (k : ℕ) → result ≡ Some (Advance k) → (1 ≤ k) × (k ≤ 1000000) }
         ensures left { (P.means self.now.parts).left p.new.own (standing_with result) ≤ (P.means self.now.parts).left p.old.own (asks last) }
     {
         self.parts.next(&mut p.own, last)

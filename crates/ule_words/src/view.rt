@@ -25,7 +25,7 @@ pub struct Worker<H, G, E, R> {
     pub held: LinkedList<(u64, G)>,
     /// The change of a thread's word that it has yet to store.
     pub pending: Option<WordChange>,
-    /// The time that it read and did not use yet, with the locks that it read it under.
+    /// The time that it read last, with the locks that it read it under, which it holds since.
     pub read: Option<(HeldLocks, u64)>,
     /// How many hz ticks it advanced now so far.
     pub advanced: u64,

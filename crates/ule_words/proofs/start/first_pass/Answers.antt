@@ -1,4 +1,4 @@
-use Rattle.std.proofs.Common.{◌≤◌, ◌+◌, length, sym, refl, subst, arith}
+use Rattle.std.proofs.Common.{◌≤◌, ◌+◌, ◌∙◌, length, sym, refl, subst, arith}
 use Rattle.std.proofs.lemmas.Option.{none-some}
 use Rattle.ule_words.specs.Workers.{first_worker}
 use Rattle.ule_words.proofs.start.first_pass.Goals as goal
@@ -8,6 +8,7 @@ invariant_of-result g c = let m = g.P.Parts.means c.args.parts.now in let own = 
   worker = first_worker m c.args.worker own;
   view = c.requires.knows own c.own_at_start.ensures;
   number = refl;
+  part = sym (g.met.P.Parts.same_number c.args.parts.now own) ∙ (g.met.P.Parts.lawful c.args.parts.now).small.numbered c.args.worker own c.own_at_start.ensures;
   hand = g.met.P.Parts.same_hand c.args.parts.now own;
   allowance = sym c.budget-allowance.ensures;
   time = λ r e. absurd (none-some r e);

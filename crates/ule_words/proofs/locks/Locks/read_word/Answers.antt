@@ -20,7 +20,7 @@ returns-clause-same g c = (λ i. pass_state_of (c.load-found.ensures.0 i) c.p.in
 
 found : (g : _) (c : goal.After-word_in g) → IsWordOf (g.P.Parts.means c.args.self.now.parts) c.args.p.now.worker c.args.t c.word_in.result
 found g c = subst (λ k. IsWordOf (g.P.Parts.means k) c.args.p.now.worker c.args.t c.word_in.result) c.args.self.now.same
-    (subst (λ w. IsWordOf (g.P.Parts.means c.args.self.now.table.shared.key) w c.args.t c.word_in.result) (sym (worker_is _ _ _ _ _ _ _ _ _ _ c.p.view_is c.p.invariant))
+    (subst (λ w. IsWordOf (g.P.Parts.means c.args.self.now.table.shared.key) w c.args.t c.word_in.result) (sym (worker_is _ _ _ _ _ _ _ _ _ _ _ c.p.view_is c.p.invariant))
     (subst (λ t. IsWordOf (g.P.Parts.means c.args.self.now.table.shared.key) c.p.invariant.worker t c.word_in.result) c.t.view_is
     (word_found (g.P.Parts.means c.args.self.now.table.shared.key) _ _ c.t.inside.0 _ c.p.invariant.worker c.word_in.result c.load-found.ensures.2 (ap (λ z. z.0) c.p.invariant.view) c.word_in.ensures)))
 
