@@ -5,6 +5,8 @@ pub mod Worlds
 pub mod Readiness
 pub mod Promises
 pub mod Outcomes
+pub mod Notes
+pub mod NoteLaws
 pub mod Playing
 pub mod Parts
 pub mod PartLaws

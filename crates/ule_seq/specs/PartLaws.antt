@@ -2,14 +2,25 @@
 use Rattle.std.proofs.Common.{◌≡◌, refl}
 use Rattle.ule_types.specs.declared.setup.Setup.{Setup}
 use Rattle.ule_micro.specs.Laws.{AreOrders, IsLawful}
+use Rattle.ule_micro.specs.Notes.{AreSound}
 use Rattle.ule_parts.specs.Workers.{Worker}
 use Rattle.ule_parts.specs.Scheduler.{orders_of, sched_means}
 use Rattle.ule_parts.proofs.Lawful.{is_lawful}
 use Rattle.ule_parts.proofs.Orders.{are_orders, are_scripts}
+use Rattle.ule_seq.specs.Notes.{sched_notes}
+use Rattle.ule_seq.specs.NoteLaws.{are_sound}
 
 -- same hand: the hand of an own part is that of the means
 pub same_hand : (s : Setup) (o : Worker) → (sched_means s).hand o ≡ o.hand
 same_hand s o = refl
+
+-- same number: the number of an own part is that of the means
+pub same_number : (s : Setup) (o : Worker) → (sched_means s).number o ≡ o.program.worker
+same_number s o = refl
+
+-- notes are sound: what the scheduler keeps of the end keeps the room, and gets the values in the order of their locks
+pub notes_are_sound : (s : Setup) → AreSound (sched_notes s)
+notes_are_sound s = are_sound s
 
 -- scheduler lawful: the scheduler of a setup is lawful
 pub sched_lawful : (s : Setup) → IsLawful (sched_means s)

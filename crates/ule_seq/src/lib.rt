@@ -12,6 +12,7 @@ pub use world::{Ready, World};
 pub mod finals;
 pub mod hand;
 pub mod lock;
+mod notes;
 pub mod opening;
 pub mod own;
 pub mod pair;

@@ -36,6 +36,8 @@ impl OwnPart for SchedOwn {
     type Order = Command;
 
     ghost hand = { λ o. o.hand };
+
+    ghost number = { λ o. o.program.worker };
 }
 
 impl SchedOwn {

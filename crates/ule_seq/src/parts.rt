@@ -9,6 +9,7 @@ ghost use Rattle.ule_seq.specs.Parts.{declared_word};
 
 use crate::hand::Hand;
 use crate::lock::{Guarded, LIMBO_LOCK, step_at};
+use crate::notes::{set_cpu_line, set_lines, set_word};
 use crate::opening::opening;
 use crate::own::SchedOwn;
 use crate::pair::step_pair_at;
@@ -19,7 +20,7 @@ use std::marker::Model;
 use ule_io::Memory;
 use ule_micro::{HeldLocks, Parts, Todo, WordChange};
 use ule_prio::{LockId, ThreadId};
-use ule_types::{Command, Event, Reply, Setup, ThreadSpec, greatest};
+use ule_types::{Command, Entry, Event, Outcome, Reply, Setup, ThreadSpec, greatest};
 
 /// The scheduler of a setup: the values under its locks, its workers' own parts, its events and its
 /// programs.
@@ -59,12 +60,17 @@ impl Parts for SchedParts {
 
     type Own = SchedOwn;
 
+    type Ends = Outcome;
+
     ghost use Rattle.ule_parts.specs.Scheduler.{orders_of, sched_means};
-    ghost use Rattle.ule_seq.specs.PartLaws.{same_hand, sched_lawful, sched_orders};
+    ghost use Rattle.ule_seq.specs.Notes.{sched_notes};
+    ghost use Rattle.ule_seq.specs.PartLaws.{notes_are_sound, same_hand, same_number, sched_lawful, sched_orders};
 
     ghost means = { λ s. sched_means s };
 
     ghost orders = { λ s. orders_of s };
+
+    ghost notes = { λ s. sched_notes s };
 
     fn workers(&self) -> u8 {
         self.setup.cpus
@@ -142,7 +148,33 @@ impl Parts for SchedParts {
         word_change(e, r)
     }
 
+    fn note_entry(&self, out: &mut Outcome, worker: u8, now: u64, e: &Event, r: &Reply) {
+        out.note(Entry {
+            worker,
+            event: *e,
+            now,
+            reply: *r,
+        });
+    }
+
+    fn note_value(&self, out: &mut Outcome, l: LockId, v: &Guarded) {
+        set_lines(v, 256, out);
+        set_cpu_line(v, self.setup.cpus, l, out);
+    }
+
+    fn note_word(&self, out: &mut Outcome, t: ThreadId, w: Option<LockId>) {
+        set_word(out, t, w);
+    }
+
+    fn note_now(&self, out: &mut Outcome, now: u64) {
+        out.set_now(now);
+    }
+
     ghost same_hand = { λ s. same_hand s };
+
+    ghost same_number = { λ s. same_number s };
+
+    ghost sound = { λ s. notes_are_sound s };
 
     ghost lawful = { λ s. sched_lawful s };
 
