@@ -13,3 +13,8 @@ pub mod Standing
 pub mod Numbering
 pub mod Ties
 pub mod Performs
+pub mod Places
+pub mod Merges
+pub mod Noting
+pub mod Joins
+pub mod Endings

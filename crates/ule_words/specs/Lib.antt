@@ -6,3 +6,5 @@ pub mod Tells
 pub mod Starts
 pub mod Programs
 pub mod Theorem
+pub mod Merge
+pub mod Ends

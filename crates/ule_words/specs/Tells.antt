@@ -1,5 +1,5 @@
 -- What each step on the table tells the worker that makes it.
-use Rattle.std.specs.Prelude.{◌≡◌, ◌≢◌, ℕ, ◌+◌, ◌<◌, ◌≤◌, List, ◌∷◌, length, take, drop, Option, Some, None}
+use Rattle.std.specs.Prelude.{◌≡◌, ◌≢◌, ℕ, ◌+◌, ◌<◌, ◌≤◌, List, [], ◌∷◌, ◌++◌, length, take, drop, Option, Some, None}
 use Rattle.std.specs.List.{AllByRecursion}
 use Rattle.atomic_table.specs.Table.{Me, rest}
 use Rattle.ule_micro.specs.declared.entry.HeldLocks.{HeldLocks}
@@ -113,3 +113,11 @@ module _ {H G E R : Type 0} where
   -- rest of: what is known of the other workers
   abbrev pub rest_of : View H G E R → View H G E R
   rest_of v = record { workers = drop 1 v.workers }
+
+  -- both of: what is known of the workers of two seats, the second one's first
+  abbrev pub both_of : View H G E R → View H G E R → View H G E R
+  both_of v w = record { workers = w.workers ++ v.workers }
+
+  -- none known: nothing is known of any worker
+  abbrev pub none_known : View H G E R
+  none_known = record { workers = [] }

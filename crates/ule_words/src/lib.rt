@@ -2,14 +2,17 @@
 //! workers that run at once perform the events of their programs in atomic steps.
 #![tactic(auto)]
 
+mod close;
 mod holding;
 pub mod laws;
 mod locks;
 mod log;
+mod merge;
 mod pass;
 mod perform;
 mod programs;
 mod start;
+mod tape;
 mod view;
 
 pub use locks::{Busy, Locks};

@@ -1,5 +1,5 @@
 //! The lock words and the threads' words, and the steps on them.
-ghost use Rattle.std.specs.Prelude.{◌≡◌, ◌≢◌, ℕ, ◌+◌, ◌≤◌, ◌<◌, true, false, List, length, Some, None, OnOk, OnErr, IfErr};
+ghost use Rattle.std.specs.Prelude.{◌≡◌, ◌≢◌, ℕ, ◌+◌, ◌≤◌, ◌<◌, [], true, false, List, length, Some, None, OnOk, OnErr, IfErr};
 ghost use Rattle.ule_micro.specs.Standings.{asks, has};
 ghost use Rattle.ule_micro.specs.declared.todo.Todo.TheVariants.{Advance};
 ghost use Rattle.ule_micro.specs.declared.word.Word.TheVariants.{Lock};
@@ -10,9 +10,10 @@ ghost use Rattle.ule_words.specs.Rule.{thread_word};
 ghost use Rattle.ule_words.specs.Tells.{CanCommit, Commits, HasCommitted, IsHolderOf, IsReady, IsWordOf};
 ghost use Rattle.ule_words.specs.Workers.{advancing, calm, releasing, taking, timed};
 
-use crate::log::Numbered;
+use crate::log::{Log, Numbered};
 use crate::pass::Pass;
 use crate::perform::perform;
+use crate::tape::Tape;
 use crate::view::{Board, Deed, NOW, Place, TICKET};
 use crossbeam_utils::Backoff;
 use std::marker::Brand;
@@ -27,7 +28,10 @@ use ule_prio::{LockId, ThreadId};
 pub struct Locks<P: Parts> {
     pub(crate) parts: P,
     pub(crate) table: Board<P>,
+    /// Room for a tape of the entries of each pass, for the end.
+    pub(crate) rack: Log<Tape<Numbered<P::Event, P::Reply>>>,
     ghost same: { table.shared.key ≡ parts },
+    ghost racked: { (rack.items ≡ []) × (255 ≤ rack.room) },
     ghost sized: { (table.shared.table_id.words ≡ 283) × (table.shared.table_id.slots ≡ 25) },
 }
 

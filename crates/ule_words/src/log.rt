@@ -47,4 +47,12 @@ impl<T> Log<T> {
     {
         self.items.push_reserved(x);
     }
+
+    /// The entries, the oldest first.
+    pub(crate) fn into_vec(self) -> Vec<T>
+        ensures { result.items ≡ self.items }
+    {
+        let Log { items } = self;
+        items
+    }
 }

@@ -27,6 +27,7 @@ impl<P: Parts + Drop> Locks<P> {
         let words = first_words(&parts);
         let count = parts.workers();
         let mut list = Vec::with_capacity(alloc, count as usize)?;
+        let rack = Log::with_room(alloc, u8::MAX as usize)?;
         let Ok(made) = Table::new(alloc, &words, slots, &parts) else {
             return Err(Memory);
         };
@@ -38,7 +39,7 @@ impl<P: Parts + Drop> Locks<P> {
             list.push_reserved(pass);
             worker += 1;
         }
-        Ok((Locks { parts, table }, Passes { list }))
+        Ok((Locks { parts, table, rack }, Passes { list }))
     }
 }
 

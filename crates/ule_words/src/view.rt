@@ -1,6 +1,6 @@
 //! What the seats of the table know, and the rule of the table.
 use crate::log::Numbered;
-use atomic_table::{Play, Seat, Split, Table, TableRule};
+use atomic_table::{Join, Play, Seat, Split, Table, TableRule};
 use std::alloc::Global;
 use std::collections::LinkedList;
 use std::marker::{Brand, PhantomData};
@@ -71,6 +71,17 @@ impl<H, G, E, R> Split<View<H, G, E, R>> for Deals {
     ghost left = { λ v. rest_of v };
 
     ghost right = { λ v. first_of v };
+}
+
+/// How two seats become one: it knows the workers of both, and the other seat is spent.
+pub(crate) struct Gathers;
+
+impl<H, G, E, R> Join<View<H, G, E, R>> for Gathers {
+    ghost use Rattle.ule_words.specs.Tells.{both_of, none_known};
+
+    ghost both = { λ v w. both_of v w };
+
+    ghost spent = { none_known };
 }
 
 /// The event that the ticket is raised for. It is picked at each call.

@@ -55,6 +55,7 @@ loop-worker-preserved g c = let i = c.loop-worker.invariant in let m = g.P.Parts
 pub invariant_of-result : goal.invariant_of-result
 invariant_of-result g c = let made = c.in-Ok.ensures.ok in let law = g.met.P.Parts.lawful c.args.parts in record {
   same = made.5;
+  racked = c.in_ok-rack.ensures;
   sized = (made.0 ∙ c.first_words-words.ensures.count, made.1 ∙ (ap length c.in_ok-slots.ensures ∙ (length-map (g.P.Parts.means c.args.parts).values (λ v. Some v) ∙ law.small.locks)));
 }
 
