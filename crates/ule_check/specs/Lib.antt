@@ -1,0 +1,4 @@
+pub mod Same
+pub mod Judge
+pub mod Ending
+pub mod Judged
