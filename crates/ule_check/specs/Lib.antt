@@ -2,3 +2,4 @@ pub mod Same
 pub mod Judge
 pub mod Ending
 pub mod Judged
+pub mod Laws
