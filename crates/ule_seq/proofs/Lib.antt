@@ -13,3 +13,4 @@ pub mod OpeningWords
 pub mod PartLaws
 pub mod PlaceLaws
 pub mod StepLaws
+pub mod EventLockLaws

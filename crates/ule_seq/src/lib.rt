@@ -5,11 +5,13 @@
 pub use own::SchedOwn;
 pub use parts::SchedParts;
 pub use places::{is_legal_so_far, place, place_in};
+pub use event_locks::EventLocks;
 pub use records::{STARTING_TIME, record_of};
 pub use rounds::{GREATEST_ROUNDS, play};
 pub use ule_program::Program;
 pub use world::{Ready, World};
 
+pub mod event_locks;
 pub mod finals;
 pub mod hand;
 pub mod lock;

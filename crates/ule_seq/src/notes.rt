@@ -65,10 +65,8 @@ pub(crate) fn set_word(out: &mut Outcome, t: ThreadId, word: Option<LockId>)
 fn line_of(lines: &[ThreadLine], t: ThreadId) -> Option<ThreadLine>
     ensures { result ≡ find (λ line. line.id == t) lines.now }
 {
-    for line in lines {
-        if line.id == t {
-            return Some(*line);
-        }
+    match lines.iter().find(|line| line.id == t) {
+        Some(line) => Some(*line),
+        None => None,
     }
-    None
 }
