@@ -1,6 +1,5 @@
 -- What the scheduler of a setup keeps of the end of a play: an outcome, which the entries, the lines under each lock, the threads' words and the time come to one after another.
-use Rattle.std.specs.Prelude.{ℕ, ◌-◌, ◌≤◌, ◌==◌, Bool, nat_lt, if◌then◌else◌, unwrap_or, find, min, Option, Some, None, List, [], ◌∷◌, ◌++◌, length, fold}
-use Rattle.std.specs.List.{filter_map, range_with_len}
+use Rattle.std.specs.Prelude.{ℕ, ◌-◌, ◌≤◌, ◌==◌, Bool, nat_lt, if◌then◌else◌, unwrap_or, find, min, Option, Some, None, List, [], ◌∷◌, ◌++◌, length, zero, suc}
 use Rattle.ule_score.specs.declared.record.CpuLine.{CpuLine}
 use Rattle.ule_types.specs.Outcome.{OutcomeValue, placed, with_cpu}
 use Rattle.ule_types.specs.declared.event.Event.{Event}
@@ -24,8 +23,9 @@ with_line None lines = lines
 with_line (Some line) lines = placed line lines
 
 -- the thread lines with that of each of the first so many threads that is under a lock
-abbrev pub with_lines_under : LockValue → ℕ → List ThreadLine → List ThreadLine
-with_lines_under v count lines = fold (λ so_far line. placed line so_far) lines (filter_map (line_under v) (range_with_len 0 count))
+unfoldable pub with_lines_under : LockValue → ℕ → List ThreadLine → List ThreadLine
+with_lines_under v zero lines = lines
+with_lines_under v (suc t) lines = with_line (line_under v t) (with_lines_under v t lines)
 
 -- the line of a CPU that there isn't
 abbrev pub blank_line : CpuLine

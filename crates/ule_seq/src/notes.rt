@@ -20,6 +20,14 @@ const BLANK_LINE: CpuLine = CpuLine {
 };
 
 /// Sets the lines of those of the first so many threads that are under a lock.
+#[tactic(
+    auto,
+    using(
+        crate::proofs::NoteSteps::none_before,
+        crate::proofs::NoteSteps::line_more,
+        crate::proofs::NoteSteps::no_line_more
+    )
+)]
 pub(crate) fn set_lines(v: &Guarded, count: u16, out: &mut Outcome)
     requires { count ≤ 256 }
     ensures { out.new ≡ record out.old { threads = with_lines_under v.now count out.old.threads } }
@@ -65,8 +73,10 @@ pub(crate) fn set_word(out: &mut Outcome, t: ThreadId, word: Option<LockId>)
 fn line_of(lines: &[ThreadLine], t: ThreadId) -> Option<ThreadLine>
     ensures { result ≡ find (λ line. line.id == t) lines.now }
 {
-    match lines.iter().find(|line| line.id == t) {
-        Some(line) => Some(*line),
-        None => None,
+    for line in lines {
+        if line.id == t {
+            return Some(*line);
+        }
     }
+    None
 }
