@@ -1,5 +1,6 @@
 use crate::{nap, shift};
 use std::test::*;
+use ule_micro_rows::nap::{Act, Answer};
 use ule_prio::LockId;
 use ule_words::{allowance, worker};
 
@@ -17,11 +18,25 @@ fn tells_the_holder(rt: HostRuntime) -> Result<(), Fail> {
 }
 
 #[test]
-fn blocks_behind_the_commit(rt: HostRuntime) -> Result<(), Fail> {
-    let mut s = nap::start(rt.alloc())?;
+fn closes_in_order(rt: HostRuntime) -> Result<(), Fail> {
+    let s = nap::start(rt.alloc())?;
     assert_eq!(rt; (worker(&s.second), allowance(&s.second)), (1, 2));
-    let read = nap::doze(&s.locks, &mut s.first, &mut s.second);
-    assert_eq!(rt; read, Some([Some(0), None]));
+    let Some(played) = nap::play(rt.alloc(), s)? else {
+        assert!(rt; false);
+        return Ok(());
+    };
+    assert_eq!(rt; played.read, [Some(0), None]);
+    let told = played.end.entries();
+    assert_eq!(rt; told.len(), 3);
+    for x in told {
+        assert_eq!(rt; (x.worker, x.now), (0, 20000));
+    }
+    assert!(rt; matches!((&told[0].event, &told[0].reply), (Act::Doze, Answer::Left)));
+    assert!(rt; matches!((&told[1].event, &told[1].reply), (Act::Land, Answer::Came)));
+    assert!(rt; matches!((&told[2].event, &told[2].reply), (Act::Doze, Answer::Left)));
+    assert_eq!(rt; (played.end.values(), played.end.time()), (25, 20000));
+    assert!(rt; played.end.place().is_none());
+    assert!(rt; played.end.word().is_none());
     Ok(())
 }
 
