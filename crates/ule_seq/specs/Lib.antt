@@ -4,5 +4,6 @@ pub mod Calls
 pub mod Worlds
 pub mod Readiness
 pub mod Promises
+pub mod Turns
 pub mod Outcomes
 pub mod Playing

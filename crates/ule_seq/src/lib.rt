@@ -2,16 +2,19 @@
 //! a setup in rounds.
 #![tactic(auto)]
 
+pub use player::{GREATEST_ROUNDS, Player, Turn};
 pub use records::{STARTING_TIME, record_of};
-pub use rounds::{GREATEST_ROUNDS, play};
+pub use rounds::play;
 pub use ule_program::Program;
 pub use world::{Ready, World};
 
+pub mod course;
 pub mod finals;
 pub mod hand;
 pub mod lock;
 pub mod opening;
 pub mod pair;
+pub mod player;
 pub mod records;
 pub mod rounds;
 pub mod start;

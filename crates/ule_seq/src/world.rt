@@ -208,7 +208,7 @@ fn holds(held: Option<ThreadRecord>, t: ThreadId) -> bool
 }
 
 /// The thread that an event seeks under the lock of its place.
-fn sought_by(e: &Event) -> Option<ThreadId>
+pub(crate) fn sought_by(e: &Event) -> Option<ThreadId>
     ensures { result ≡ sought_by e.now }
 {
     match *e {

@@ -1,7 +1,7 @@
 -- The next command, once begun, gives what the commands not begun give.
 use Rattle.std.proofs.Common.{rules, ◌≡◌, false, is_some, refl, ◌+◌, ◌∙◌, arith}
 use Rattle.ule_seq.proofs.PlayLaws.{begins_next}
-use Rattle.ule_seq.proofs.rounds.Course.begin_further.Goals as goal
+use Rattle.ule_seq.proofs.course.Course.begin_further.Goals as goal
 
 pub loop-worker-preserved : goal.loop-worker-preserved
 loop-worker-preserved c =

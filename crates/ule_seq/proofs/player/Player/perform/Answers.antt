@@ -1,6 +1,6 @@
 -- The program can hear the reply; the course of the worker went on, told it, and the entry was noted.
 use Rattle.ule_seq.proofs.PlayLaws.{event_heard, event_performed}
-use Rattle.ule_seq.proofs.rounds.Player.perform.Goals as goal
+use Rattle.ule_seq.proofs.player.Player.perform.Goals as goal
 
 pub go_on-requires-clause-hears : goal.go_on-requires-clause-hears
 go_on-requires-clause-hears c =

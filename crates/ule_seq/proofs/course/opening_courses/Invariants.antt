@@ -1,8 +1,8 @@
 -- The courses made so far are those of the first workers, each at its first step.
 use Rattle.std.proofs.Common.{◌≡◌, ℕ, length, slice_get, Some}
 use Rattle.ule_seq.specs.Playing.{IsOpening}
-use Rattle.ule_seq.specs.declared.rounds.Course.{Course}
-use Rattle.ule_seq.proofs.rounds.opening_courses.Given as goal
+use Rattle.ule_seq.specs.declared.course.Course.{Course}
+use Rattle.ule_seq.proofs.course.opening_courses.Given as goal
 
 abbrev pub invariant-loop-worker : goal.invariant-loop-worker
 invariant-loop-worker l = record {

@@ -1,7 +1,7 @@
 -- The program is told, and then commands begin until one gives an item.
 use Rattle.std.proofs.Common.{refl, ◌∙◌}
 use Rattle.ule_seq.proofs.PlayLaws.{told_comes}
-use Rattle.ule_seq.proofs.rounds.Course.go_on.Goals as goal
+use Rattle.ule_seq.proofs.course.Course.go_on.Goals as goal
 
 pub returns : goal.returns
 returns c =

@@ -2,9 +2,9 @@
 use Rattle.std.proofs.Common.{◌≡◌, ℕ, ◌+◌, List, length, slice_get, Some, sym, ◌∙◌, ap, subst, arith}
 use Rattle.std.proofs.lemmas.List.{length_push}
 use Rattle.ule_seq.specs.Playing.{IsOpening}
-use Rattle.ule_seq.specs.declared.rounds.Course.{Course}
+use Rattle.ule_seq.specs.declared.course.Course.{Course}
 use Rattle.ule_seq.proofs.PlayLaws.{opening_ahead, opening_more}
-use Rattle.ule_seq.proofs.rounds.opening_courses.Goals as goal
+use Rattle.ule_seq.proofs.course.opening_courses.Goals as goal
 
 pub loop-worker-preserved : goal.loop-worker-preserved
 loop-worker-preserved c =
