@@ -1,5 +1,6 @@
-ghost use Rattle.std.specs.Prelude.{◌≡◌, ◌<◌, ◌≤◌, length, IfSome, ℕ, true};
+ghost use Rattle.std.specs.Prelude.{◌≡◌, ◌-◌, ◌<◌, ◌≤◌, length, IfSome, ℕ, true};
 ghost use Rattle.std.specs.Option.{ForSome};
+ghost use Rattle.ule_topo.specs.Looks.{look_at};
 ghost use Rattle.ule_topo.specs.Mask.{has_cpu};
 ghost use Rattle.ule_balance.specs.Plan.{IsPairOf, IsSoundPlan, low_for, offer_anew, opening_plan, plan_next, plan_told};
 ghost use Rattle.ule_search.specs.Search.{word_after_search};
@@ -35,6 +36,14 @@ pub fn begin(n: u8) -> Masks
     }
 }
 
+/// The greatest load with which a CPU takes a thread from a high one: it has less.
+pub fn taker_limit(looks: &Looks, high: Cpu) -> u32
+    requires { high < length looks.now }
+    ensures { result ≡ (look_at looks.now high).load - 1 }
+{
+    looks.at(high).load.saturating_sub(1)
+}
+
 // The low CPU for a high one.
 fn low_for(t: &Topology, looks: &Looks, high: Cpu, takers: u16, j: &mut Jitter) -> Option<Cpu>
     requires looked { length looks.now ≡ t.now.cpus }
@@ -43,7 +52,7 @@ fn low_for(t: &Topology, looks: &Looks, high: Cpu, takers: u16, j: &mut Jitter) 
     ensures there { IfSome result (λ c. (c < t.now.cpus) × (has_cpu takers c ≡ true)) }
     ensures word { j.new.word ≡ word_after_search looks.now j.old.word }
 {
-    let limit = looks.at(high).load.saturating_sub(1);
+    let limit = taker_limit(looks, high);
     lowest(t, t.root(), looks, takers, -1, limit, Some(high), j)
 }
 

@@ -1,139 +1,106 @@
 //! What an entry changed in the records of threads and in the numbers of CPUs.
-use crate::rules::{score_of, timeshare_priority_of};
-use crate::view::View;
-use std::io;
-use ule_prio::Class;
-use ule_score::{CpuLine, Settings};
+use crate::view::Scene;
+use std::io::Result;
+use ule_history::{CpuUse, History};
+use ule_prio::{Class, Priority};
+use ule_score::{CpuLine, Settings, score, ts_priority};
 use ule_types::ThreadLine;
 
-/// Prints a line for each thread whose record changed.
-pub fn tell_records(
-    rt: &impl Print,
-    settings: &Settings,
-    before: &View,
-    after: &View,
-) -> io::Result<()> {
-    for standing in after.threads() {
-        if let Some(old) = before.thread(standing.line.id) {
-            if is_changed(&old.line, &standing.line) {
-                tell_record(rt, settings, &old.line, &standing.line)?;
+/// Above each run and sleep time, in 1024ths of an hz tick.
+const LONG: u64 = 1 << 62;
+
+/// Prints a line for each thread and each CPU whose numbers changed.
+pub fn tell_changes(rt: &impl Print, scene: &Scene) -> Result<()> {
+    for new in scene.after.lines.threads() {
+        if let Some(old) = scene.before.thread(new.id) {
+            tell_thread(rt, old, new)?;
+            if new.class == Class::Ts && is_rebased(old, new) {
+                tell_score(rt, &scene.settings, new)?;
             }
         }
+    }
+    let (old, new) = (scene.before.lines.cpus(), scene.after.lines.cpus());
+    for (number, (old, new)) in old.iter().zip(new).enumerate() {
+        tell_cpu(rt, number as u8, old, new)?;
     }
     Ok(())
 }
 
-/// Whether a record changed in what is told of it.
-fn is_changed(old: &ThreadLine, new: &ThreadLine) -> bool {
-    is_rebased(old, new)
-        || old.priority != new.priority
-        || old.ticks != new.ticks
-        || old.slice_count != new.slice_count
-        || old.slept_at != new.slept_at
+/// Prints what changed of a thread's record.
+fn tell_thread(rt: &impl Print, old: &ThreadLine, new: &ThreadLine) -> Result<()> {
+    let changes = [
+        ("run time", old.run, new.run),
+        ("sleep time", old.slept, new.slept),
+        ("CPU use", old.ticks, new.ticks),
+        ("slice count", old.slice_count, new.slice_count),
+        ("asleep since", old.slept_at, new.slept_at),
+        ("base", old.base.0 as u64, new.base.0 as u64),
+        ("priority", old.priority.0 as u64, new.priority.0 as u64),
+    ];
+    tell_numbers(rt, "thread", new.id.0, &changes)
 }
 
-/// Whether a base priority, or what it is computed from where it is computed anew, changed.
+/// Prints which indexes and marks of a CPU changed.
+fn tell_cpu(rt: &impl Print, number: u8, old: &CpuLine, new: &CpuLine) -> Result<()> {
+    let changes = [
+        ("insertion index", old.idx as u64, new.idx as u64),
+        ("removal index", old.ridx as u64, new.ridx as u64),
+        ("mark for a switch", old.resched as u64, new.resched as u64),
+        ("slice ended", old.slice_end as u64, new.slice_end as u64),
+    ];
+    tell_numbers(rt, "CPU", number, &changes)
+}
+
+/// Prints a line with those numbers that changed, if any did.
+fn tell_numbers(rt: &impl Print, what: &str, number: u8, all: &[(&str, u64, u64)]) -> Result<()> {
+    let mut begun = false;
+    for (name, old, new) in all {
+        if *old != *new {
+            if !begun {
+                print!(rt; "  {what} {number}:")?;
+                begun = true;
+            }
+            print!(rt; " {name} {old} -> {new};")?;
+        }
+    }
+    if begun {
+        println!(rt; "")?;
+    }
+    Ok(())
+}
+
+/// Whether a base priority, or what it is computed from, changed.
 fn is_rebased(old: &ThreadLine, new: &ThreadLine) -> bool {
     old.base != new.base || old.run != new.run || old.slept != new.slept || old.nice != new.nice
 }
 
-/// Prints what changed of a thread's record, and what a timeshare thread's priority comes from.
-fn tell_record(
-    rt: &impl Print,
-    settings: &Settings,
-    old: &ThreadLine,
-    new: &ThreadLine,
-) -> io::Result<()> {
-    print!(rt; "  thread {}:", new.id.0)?;
-    tell_number(rt, "run time", old.run, new.run)?;
-    tell_number(rt, "sleep time", old.slept, new.slept)?;
-    tell_number(rt, "CPU use", old.ticks, new.ticks)?;
-    tell_number(rt, "slice count", old.slice_count, new.slice_count)?;
-    tell_number(rt, "asleep since", old.slept_at, new.slept_at)?;
-    tell_number(
-        rt,
-        "base priority",
-        u64::from(old.base.0),
-        u64::from(new.base.0),
-    )?;
-    tell_number(
-        rt,
-        "priority",
-        u64::from(old.priority.0),
-        u64::from(new.priority.0),
-    )?;
-    println!(rt; "")?;
-    if new.class == Class::Ts && is_rebased(old, new) {
-        tell_score(rt, settings, new)?;
-    }
-    Ok(())
-}
-
-/// Prints a number that changed.
-fn tell_number(rt: &impl Print, name: &str, old: u64, new: u64) -> io::Result<()> {
-    if old != new {
-        print!(rt; " {name} {old} -> {new};")?;
-    }
-    Ok(())
-}
-
-/// Prints the score of a timeshare thread, and the priority that it leads to.
-fn tell_score(rt: &impl Print, settings: &Settings, line: &ThreadLine) -> io::Result<()> {
-    let (Some(score), Some(priority)) = (
-        score_of(settings, line),
-        timeshare_priority_of(settings, line),
-    ) else {
+/// Prints the score of a timeshare thread with its parts, and the base priority that it leads to.
+fn tell_score(rt: &impl Print, settings: &Settings, line: &ThreadLine) -> Result<()> {
+    let Some((score, priority)) = rated(settings, line) else {
         return Ok(());
     };
-    println!(rt;
-        "    run {} and slept {} give score {score}; with nice {} and threshold {} that is priority {}",
-        line.run, line.slept, line.nice.0, settings.interact, priority.0
-    )
+    let (run, slept, nice) = (line.run, line.slept, line.nice.0);
+    print!(rt; "    run {run} and slept {slept} give score {score}")?;
+    print!(rt; "; by threshold {}, nice {nice}", settings.interact)?;
+    let (ticks, from, to) = (line.ticks, line.ftick, line.ltick);
+    print!(rt; " and CPU use {ticks} from {from} to {to}")?;
+    println!(rt; " that is base {}", priority.0)
 }
 
-/// Prints a line for each CPU whose numbers changed.
-pub fn tell_cpus(rt: &impl Print, before: &View, after: &View) -> io::Result<()> {
-    for (number, (old, new)) in before.cpus().iter().zip(after.cpus()).enumerate() {
-        if is_renumbered(&old.line, &new.line) {
-            print!(rt; "  CPU {number}:")?;
-            tell_numbers(rt, &old.line, &new.line)?;
-        }
+/// The interactivity score of a thread and its timeshare priority; none where numbers are out of the
+/// rules' ranges, which those of a play never are.
+fn rated(settings: &Settings, line: &ThreadLine) -> Option<(u8, Priority)> {
+    let threshold = settings.interact;
+    let (run, slept) = (line.run, line.slept);
+    let history = History { run, slept };
+    let usage = CpuUse {
+        ticks: line.ticks,
+        ltick: line.ltick,
+        ftick: line.ftick,
+    };
+    if threshold < 1 || threshold > 100 || run >= LONG || slept >= LONG || line.ftick > line.ltick {
+        return None;
     }
-    Ok(())
-}
-
-/// Whether indexes or marks of a CPU changed.
-fn is_renumbered(old: &CpuLine, new: &CpuLine) -> bool {
-    old.idx != new.idx
-        || old.ridx != new.ridx
-        || old.resched != new.resched
-        || old.slice_end != new.slice_end
-}
-
-/// Prints the indexes and marks of a CPU that changed.
-fn tell_numbers(rt: &impl Print, old: &CpuLine, new: &CpuLine) -> io::Result<()> {
-    tell_number(
-        rt,
-        "insertion index",
-        u64::from(old.idx),
-        u64::from(new.idx),
-    )?;
-    tell_number(
-        rt,
-        "removal index",
-        u64::from(old.ridx),
-        u64::from(new.ridx),
-    )?;
-    tell_mark(rt, "asks for a switch", old.resched, new.resched)?;
-    tell_mark(rt, "says that a slice ended", old.slice_end, new.slice_end)?;
-    println!(rt; "")
-}
-
-/// Prints that a mark was set or cleared.
-fn tell_mark(rt: &impl Print, what: &str, old: bool, new: bool) -> io::Result<()> {
-    match (old, new) {
-        (false, true) => print!(rt; " the mark that {what} is set;"),
-        (true, false) => print!(rt; " the mark that {what} is cleared;"),
-        _ => Ok(()),
-    }
+    let priority = ts_priority(history, usage, line.nice, threshold);
+    Some((score(history, threshold), priority))
 }

@@ -1,131 +1,84 @@
-//! What stands in a world between two entries, by the readers of a `World`.
-ghost use Rattle.std.specs.Prelude.{◌<◌, IfSome};
-
+//! What stands between two turns, by the readers of a `Player` and of its `World`.
 use std::alloc::Global;
 use ule_io::Memory;
 use ule_prio::{Cpu, Kind, ThreadId};
-use ule_score::{CpuLine, Place};
-use ule_seq::World;
-use ule_types::{Outcome, ThreadLine};
+use ule_program::Stage;
+use ule_score::{Place, Settings};
+use ule_seq::{Player, World};
+use ule_types::{Entry, Outcome, ThreadLine};
 
-/// The time of the final lines, which a view doesn't tell.
-const NO_TIME: u64 = 0;
-
-/// One thread: its final line as a trace would have it now, and how far its bucket lies ahead of the
-/// removal index, where it waits in a calendar.
-#[derive(Clone, Copy)]
-pub struct Standing {
-    pub line: ThreadLine,
-    pub distance: Option<u8>,
-}
-
-/// One CPU: its numbers, and how many threads run or are queued there.
-#[derive(Clone, Copy)]
-pub struct Numbers {
-    pub line: CpuLine,
-    pub load: u32,
-}
-
-/// All threads by rising number, and all CPUs.
+/// The threads and CPUs of a world, and where a worker's program stands in its command.
 #[derive(Drop)]
 pub struct View {
-    threads: Vec<Standing>,
-    cpus: Vec<Numbers>,
+    /// The final lines that a trace would have now.
+    pub lines: Outcome,
+    /// How far the bucket of each thread lies ahead of the removal index, where it waits in a calendar.
+    distances: [Option<u8>; 256],
+    /// The item that comes next, and what follows it.
+    pub stage: Stage,
+    /// The jitter word that the worker's next search begins with.
+    pub word: u32,
+}
+
+/// An entry that was made, and what stood before and behind it.
+#[derive(Clone, Copy)]
+pub struct Scene<'a> {
+    pub settings: Settings,
+    pub entry: Entry,
+    pub before: &'a View,
+    pub after: &'a View,
+    pub world: &'a World,
 }
 
 impl View {
-    /// What stands in a world.
-    pub fn of(alloc: Global, world: &World) -> Result<View, Memory> {
+    /// What stands in the world of a play, and where the program of a worker stands.
+    pub fn of(alloc: Global, player: &Player, worker: u8) -> Result<View, Memory> {
         let mut lines = Outcome::with_room(alloc, 0)?;
-        world.finals(NO_TIME, &mut lines);
-        let mut threads = Vec::new(alloc);
+        player.world().finals(player.now(), &mut lines);
+        let mut distances = [None; 256];
         for line in lines.threads() {
-            let standing = Standing {
-                line: *line,
-                distance: distance_of(world, line),
-            };
-            let Ok(()) = threads.push(standing) else {
-                return Err(Memory);
-            };
+            if let Some(distance) = distances.get_mut(usize::from(line.id.0)) {
+                *distance = distance_of(player.world(), &line.place);
+            }
         }
-        let mut cpus = Vec::new(alloc);
-        for (number, line) in lines.cpus().iter().enumerate() {
-            let numbers = Numbers {
-                line: *line,
-                load: load_of(world, Cpu(number as u8)),
-            };
-            let Ok(()) = cpus.push(numbers) else {
-                return Err(Memory);
-            };
-        }
-        Ok(View { threads, cpus })
-    }
-
-    /// All threads, by rising number.
-    pub fn threads(&self) -> &[Standing] {
-        &self.threads
-    }
-
-    /// All CPUs, by number.
-    pub fn cpus(&self) -> &[Numbers] {
-        &self.cpus
+        let (stage, word) = match player.program(worker) {
+            Some(program) => (program.own().stage, program.own().jitter),
+            None => (Stage::Ended, 0),
+        };
+        Ok(View {
+            lines,
+            distances,
+            stage,
+            word,
+        })
     }
 
     /// A thread by its number.
-    pub fn thread(&self, t: ThreadId) -> Option<Standing> {
-        for standing in &self.threads {
-            if standing.line.id == t {
-                return Some(*standing);
+    pub fn thread(&self, t: ThreadId) -> Option<&ThreadLine> {
+        for line in self.lines.threads() {
+            if line.id == t {
+                return Some(line);
             }
         }
         None
     }
 
-    /// The current thread of a CPU.
-    pub fn current(&self, cpu: Cpu) -> Option<Standing> {
-        for standing in &self.threads {
-            if let Place::Running(at) = standing.line.place {
-                if at == cpu {
-                    return Some(*standing);
-                }
-            }
-        }
-        None
-    }
-
-    /// The numbers of a CPU.
-    pub fn cpu(&self, cpu: Cpu) -> Option<Numbers> {
-        self.cpus.get(usize::from(cpu.0)).copied()
-    }
-}
-
-/// The number of the CPU that a thread is queued on.
-pub fn queue_of(line: &ThreadLine) -> Option<u8>
-    ensures { IfSome result (λ c. c < 16) }
-{
-    match line.place {
-        Place::Queued { cpu, .. } => Some(cpu.0),
-        _ => None,
-    }
-}
-
-/// The bucket of the calendar in which a thread waits.
-fn calendar_bucket(line: &ThreadLine) -> Option<u8> {
-    match line.place {
-        Place::Queued {
-            kind: Kind::Batch,
-            bucket,
-            ..
-        } => Some(bucket),
-        _ => None,
+    /// How far the bucket of a thread lies ahead of the removal index, where it waits in a calendar.
+    pub fn distance(&self, t: ThreadId) -> Option<u8> {
+        self.distances.get(usize::from(t.0)).copied().flatten()
     }
 }
 
 /// How far a bucket lies ahead of the removal index, where a thread waits in a calendar.
-fn distance_of(world: &World, line: &ThreadLine) -> Option<u8> {
-    let cpu = queue_of(line)?;
-    let bucket = calendar_bucket(line)?;
-    distance_on(world, Cpu(cpu), bucket)
+fn distance_of(world: &World, place: &Place) -> Option<u8> {
+    match *place {
+        Place::Queued {
+            cpu,
+            kind: Kind::Batch,
+            bucket,
+        } => distance_on(world, cpu, bucket),
+        _ => None,
+    }
 }
 
 /// How far a bucket of a CPU's calendar lies ahead of the removal index.
@@ -136,10 +89,10 @@ fn distance_on(world: &World, cpu: Cpu, bucket: u8) -> Option<u8> {
     }
 }
 
-/// How many threads run or are queued on a CPU.
-fn load_of(world: &World, cpu: Cpu) -> u32 {
-    match world.queue(cpu) {
-        Some(tdq) => tdq.summary().load,
-        None => 0,
+/// The CPU that a thread is queued on.
+pub fn queue_of(place: Place) -> Option<Cpu> {
+    match place {
+        Place::Queued { cpu, .. } => Some(cpu),
+        _ => None,
     }
 }

@@ -1,4 +1,4 @@
-ghost use Rattle.std.specs.Prelude.{◌≡◌, ◌<◌, ◌≤◌, length, IfSome};
+ghost use Rattle.std.specs.Prelude.{◌≡◌, ◌+◌, ◌<◌, ◌≤◌, length, IfSome, max, nat_le, pos};
 ghost use Rattle.std.specs.Option.{ForSome};
 ghost use Rattle.ule_pick.specs.Choice.{lowest_above, near_cpu, own_or_found, pick, picked_unbound, worse_cpu};
 ghost use Rattle.ule_search.specs.Search.{word_after_search};
@@ -58,6 +58,21 @@ fn worse_cpu(t: &Topology, card: &Card, looks: &Looks, j: &mut Jitter) -> Option
     }
 }
 
+/// Whether the data of a thread may be in the caches near its last CPU at this time, in hz ticks.
+pub fn is_near(card: &Card, now: u64) -> bool
+    ensures { result ≡ nat_le now (card.now.last_run + 8) }
+{
+    now.saturating_sub(card.last_run) <= AFFINITY
+}
+
+/// Above this low priority a CPU near the last one is taken: it runs nothing, or an idle thread that
+/// is worse than the thread.
+pub fn near_above(card: &Card) -> i16
+    ensures { result ≡ pos (max card.now.priority 223) }
+{
+    i16::from(card.priority.0.max(PRI_MAX_BATCH))
+}
+
 // The lowest of those near the last CPU that run nothing or an idle thread, or else one of all.
 fn near_cpu(t: &Topology, card: &Card, looks: &Looks, now: u64, j: &mut Jitter) -> Option<Cpu>
     requires looked { length looks.now ≡ t.now.cpus }
@@ -66,12 +81,11 @@ fn near_cpu(t: &Topology, card: &Card, looks: &Looks, now: u64, j: &mut Jitter) 
     ensures there { IfSome result (λ c. c < t.now.cpus) }
     ensures word { j.new.word ≡ (near_cpu t.now card.now looks.now now j.old.word).word }
 {
-    if now - card.last_run > AFFINITY {
+    if !is_near(card, now) {
         return worse_cpu(t, card, looks, j);
     }
     let near = t.deepest(card.last);
-    let above = i16::from(card.priority.0.max(PRI_MAX_BATCH));
-    match lowest_above(t, card, looks, near, above, j) {
+    match lowest_above(t, card, looks, near, near_above(card), j) {
         Some(c) => Some(c),
         None => worse_cpu(t, card, looks, j),
     }

@@ -63,4 +63,12 @@ impl Program {
     {
         self.own.next(&last)
     }
+
+    /// All that the next item depends on: the worker, its stage inside the command begun, what the
+    /// looks of the command saw, and the jitter word.
+    pub fn own(&self) -> &Own
+        ensures { result.now ≡ self.now }
+    {
+        &self.own
+    }
 }

@@ -29,8 +29,9 @@ fn key(load: u32, less: u8) -> i64
     i64::from(load) * 256 - i64::from(less)
 }
 
-/// The keys of all CPUs that were looked at, in the first places. Each costs a draw.
-pub(crate) fn draw_keys(looks: &Looks, prefer: Option<Cpu>, j: &mut Jitter) -> [i64; 16]
+/// The keys of all CPUs that were looked at, in the first places: 256 for each thread of a CPU's
+/// load, less a number that is drawn, and less 64 for the preferred CPU. Each costs a draw.
+pub fn draw_keys(looks: &Looks, prefer: Option<Cpu>, j: &mut Jitter) -> [i64; 16]
     ensures keys { take (length looks.now) result ≡ keys_of looks.now prefer j.old.word }
     ensures fit { AreKeys (take (length looks.now) result) }
     ensures word { j.new.word ≡ word_after_search looks.now j.old.word }

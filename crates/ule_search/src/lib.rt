@@ -3,6 +3,8 @@
 #![tactic(auto)]
 
 pub use jitter::{Jitter, stepped_word};
+pub use key::draw_keys;
+pub use rank::sums;
 pub use search::{highest, lowest};
 
 pub mod jitter;

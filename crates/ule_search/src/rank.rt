@@ -28,8 +28,8 @@ fn sum(keys: &[i64], mask: u16) -> i64
     total
 }
 
-/// The sums of groups, in the first places.
-pub(crate) fn sums(groups: &[Group], keys: &[i64]) -> [i64; 15]
+/// The sums of the keys of the CPUs of each group, in the first places.
+pub fn sums(groups: &[Group], keys: &[i64]) -> [i64; 15]
     requires groups { length groups.now ≤ 15 }
     requires few { length keys.now ≤ 16 }
     requires fit { AreKeys keys.now }

@@ -1,5 +1,5 @@
 -- How a player goes on: courses, and the plays that turns reach.
-use Rattle.std.proofs.Common.{◌≡◌, Bool, true, false, ◌==◌, ℕ, zero, suc, ◌+◌, ◌-◌, ◌^◌, ◌<◌, ◌≤◌, List, [], ◌∷◌, ◌++◌, length, drop, get_or, is_some, slice_get, slice_set, Option, Some, None, option_and_then, if◌then◌else◌, refl, sym, ◌∙◌, ap, subst, ⊎_elim, arith}
+use Rattle.std.proofs.Common.{◌≡◌, Bool, true, false, ◌==◌, ℕ, zero, suc, ◌+◌, ◌-◌, ◌^◌, ◌<◌, ◌≤◌, List, [], ◌∷◌, ◌++◌, length, drop, get_or, is_some, slice_get, slice_set, Option, Some, None, option_and_then, IfSome, if◌then◌else◌, refl, sym, ◌∙◌, ap, subst, ⊎_elim, arith}
 use Rattle.std.specs.Option.{option_map}
 use Rattle.std.proofs.lemmas.Bool.{cases_eq, false≢true, true≢false}
 use Rattle.std.proofs.lemmas.List.{drop_all, length-set, length_push}
@@ -33,12 +33,14 @@ use Rattle.ule_laws.proofs.TellLaws.{holder_shown}
 use Rattle.ule_rounds.proofs.HistoryLaws.{history_of_rounds}
 use Rattle.ule_rounds.proofs.Keeping.{IsUnderWay, advance_within, has_next, hears_reply, left_performed, possible, time_below, under_way_opening, under_way_turn}
 use Rattle.ule_rounds.proofs.Plays.{all_left, opening_count, opening_is}
-use Rattle.ule_rounds.proofs.RoundsLaws.{turn_finished}
 use Rattle.ule_members.proofs.Lists.{drop_at, slice_get-set_other, slice_get-set_same}
 use Rattle.ule_seq.specs.Outcomes.{HasFinals, HasLines, IsOutcomeOf}
 use Rattle.ule_seq.specs.Playing.{AreAhead, CanPerform, GoesOn, HaveGoneOn, IsAdvanced, IsAttempted, IsOpening, IsPerformed, IsPlay, IsReached, PlayerValue, comes_next, course_at, goes_on, later_step, opens, script_of, waiting}
 use Rattle.ule_seq.specs.Readiness.{ready_by, ready_in}
-use Rattle.ule_seq.specs.declared.rounds.Course.{Course}
+use Rattle.ule_seq.specs.Turns.{is_finished, lost_to, lost_turn, made_unless, step_told, turn_told}
+use Rattle.ule_seq.specs.declared.course.Course.{Course}
+use Rattle.ule_seq.specs.declared.player.Turn.{Turn}
+use Rattle.ule_seq.specs.declared.player.Turn.TheVariants.{Made, Advanced, Lost, Finished}
 use Rattle.ule_seq.specs.declared.world.Ready.TheVariants.{Yes, InHand}
 
 -- ---- the next item of a course
@@ -317,10 +319,10 @@ event_heard before old world worker i e reply course view can steps from within 
 abbrev spare_course : Setup → Course
 spare_course s = record { next = 0; program = own_of_setup s 0; item = None }
 
--- the play after a turn in which the worker has no further item
-pub turn_ended : (s : Setup) (v : PlayerValue) (p : Play) (worker : ℕ) → IsPlay s v p →
-    option_and_then (λ (c : Course). c.item) (slice_get v.courses worker) ≡ None → turn p worker ≡ p
-turn_ended s v p worker play none = turn_finished p worker (λ course found. at_course course found (slice_get v.courses worker) refl none)
+-- a worker without a further item has no next step
+pub ended_step : (s : Setup) (v : PlayerValue) (p : Play) (worker : ℕ) → IsPlay s v p →
+    option_and_then (λ (c : Course). c.item) (slice_get v.courses worker) ≡ None → option_and_then next_step (slice_get p.courses worker) ≡ None
+ended_step s v p worker play none = at_stands (slice_get p.courses worker) refl
   where
     at_course : (course : program.Course) → slice_get p.courses worker ≡ Some course → (o : Option Course) → slice_get v.courses worker ≡ o →
         option_and_then (λ (c : Course). c.item) o ≡ None → next_step course ≡ None
@@ -329,12 +331,32 @@ turn_ended s v p worker play none = turn_finished p worker (λ course found. at_
         (sym got ∙ slice_get-get_or v.courses worker (spare_course s) (subst (λ n. worker < n) (sym play.courses.count) (slice_get_within p.courses worker course found))))
     at_course course found (Some c) got is = play.courses.each worker course c found got ∙ ap (option_map (λ i. (i, course_at s worker c None))) is
 
+    at_stands : (o : Option program.Course) → slice_get p.courses worker ≡ o → option_and_then next_step o ≡ None
+    at_stands None found = refl
+    at_stands (Some course) found = at_course course found (slice_get v.courses worker) refl none
+
+-- the play after a turn in which the worker has no further item
+pub turn_ended : (s : Setup) (v : PlayerValue) (p : Play) (worker : ℕ) → IsPlay s v p →
+    option_and_then (λ (c : Course). c.item) (slice_get v.courses worker) ≡ None → turn p worker ≡ p
+turn_ended s v p worker play none = ap (λ (o : Option (Item × program.Course)). after_step worker o p) (ended_step s v p worker play none)
+
+-- what a turn tells in which the worker has no further item
+pub told_ended : (s : Setup) (v : PlayerValue) (p : Play) (worker : ℕ) → IsPlay s v p →
+    option_and_then (λ (c : Course). c.item) (slice_get v.courses worker) ≡ None → Finished ≡ turn_told p worker
+told_ended s v p worker play none = ap (step_told p worker) (sym (ended_step s v p worker play none))
+
 -- the play after a turn that gave this item
 pub turn_item : (s : Setup) (v : PlayerValue) (p : Play) (worker : ℕ) (i : Item) (at : IsAtTurn s v p worker i) →
     turn p worker ≡ after_item worker i (given_course s worker at.course) p
 turn_item s v p worker i at =
     ap (λ (o : Option program.Course). after_step worker (option_and_then next_step o) p) at.at ∙
     ap (λ (o : Option (Item × program.Course)). after_step worker o p) at.next
+
+-- what a turn tells that gave this item
+pub told_item : (s : Setup) (v : PlayerValue) (p : Play) (worker : ℕ) (i : Item) (at : IsAtTurn s v p worker i) →
+    turn_told p worker ≡ step_told p worker (Some (i, given_course s worker at.course))
+told_item s v p worker i at =
+    ap (λ (o : Option program.Course). step_told p worker (option_and_then next_step o)) at.at ∙ ap (step_told p worker) at.next
 
 -- a player whose world stepped, in which the worker's course went on and the entry was noted, performed the event
 pub event_performed : (s : Setup) (before old : PlayerValue) (world : WorldValue) (noted : OutcomeValue) (worker i : ℕ) (e : Event) (reply : Reply) (course made : Course) →
@@ -345,8 +367,12 @@ pub event_performed : (s : Setup) (before old : PlayerValue) (world : WorldValue
       room = before.outcome.room - 1;
     } →
     IsPerformed s old worker e (record { world = world; courses = slice_set before.courses i made; now = before.now; outcome = noted })
+    (Made (record { worker = worker; event = e; now = before.now; reply = reply }))
 event_performed s before old world noted worker i e reply course made view steps from within at goes note =
-    subst (λ (v : PlayerValue). IsPerformed s v worker e (record { world = world; courses = slice_set before.courses i made; now = before.now; outcome = noted })) view
+    subst
+    (λ (v : PlayerValue).
+    IsPerformed s v worker e (record { world = world; courses = slice_set before.courses i made; now = before.now; outcome = noted })
+    (Made (record { worker = worker; event = e; now = before.now; reply = reply }))) view
     (record {
       reply = reply;
       steps = steps;
@@ -359,12 +385,27 @@ event_performed s before old world noted worker i e reply course made view steps
       };
       now = refl;
       outcome = note;
+      tells = refl;
     })
 
+-- the reply to an event that was performed is that of the play
+reply_made : (s : Setup) (v new : PlayerValue) (p : Play) (worker : ℕ) (e : Event) (told : Turn) → IsAtTurn s v p worker (item.Event e) →
+    is_ready p.world worker e ≡ true → (done : IsPerformed s v worker e new told) → (step p.world worker e p.now).1 ≡ done.reply
+reply_made s v new p worker e told at ready done =
+    ap (λ (n : ℕ). (step p.world worker e n).1) at.play.now ∙ sym (done.steps p.world at.play.world (turn_possible s v p worker e at ready)).1
+
+-- the entry of an event that was performed is that of the play
+entry_made : (s : Setup) (v new : PlayerValue) (p : Play) (worker : ℕ) (e : Event) (told : Turn) → IsAtTurn s v p worker (item.Event e) →
+    is_ready p.world worker e ≡ true → (done : IsPerformed s v worker e new told) →
+    entry_of p worker e ≡ record { worker = worker; event = e; now = v.now; reply = done.reply }
+entry_made s v new p worker e told at ready done =
+    ap (λ (r : Reply). record { worker = worker; event = e; now = p.now; reply = r }) (reply_made s v new p worker e told at ready done) ∙
+    ap (λ (n : ℕ). record { worker = worker; event = e; now = n; reply = done.reply }) at.play.now
+
 -- the play after a turn in which the worker's event was performed
-pub turn_performed : (s : Setup) (v new : PlayerValue) (p : Play) (worker : ℕ) (e : Event) → IsAtTurn s v p worker (item.Event e) →
-    is_ready p.world worker e ≡ true → IsPerformed s v worker e new → IsPlay s new (turn p worker)
-turn_performed s v new p worker e at ready done =
+pub turn_performed : (s : Setup) (v new : PlayerValue) (p : Play) (worker : ℕ) (e : Event) (told : Turn) → IsAtTurn s v p worker (item.Event e) →
+    is_ready p.world worker e ≡ true → IsPerformed s v worker e new told → IsPlay s new (turn p worker)
+turn_performed s v new p worker e told at ready done =
     subst (IsPlay s new) (sym turned) (record {
       reached = subst (IsReached s) turned (goes_on p worker at.play.reached);
       world = subst (λ (n : ℕ). Shows new.world (step p.world worker e n).0) (sym at.play.now) stepped_to.0;
@@ -391,7 +432,7 @@ turn_performed s v new p worker e at ready done =
     stepped_to = done.steps p.world at.play.world (turn_possible s v p worker e at ready)
 
     reply : (step p.world worker e p.now).1 ≡ done.reply
-    reply = ap (λ (n : ℕ). (step p.world worker e n).1) at.play.now ∙ sym stepped_to.1
+    reply = reply_made s v new p worker e told at ready done
 
     next : program.Course
     next = given_course s worker at.course
@@ -407,8 +448,7 @@ turn_performed s v new p worker e at ready done =
     entries : p.entries ++ entry_of p worker e ∷ [] ≡ new.outcome.entries
     entries =
         ap (λ (es : List Entry). es ++ entry_of p worker e ∷ []) at.play.entries ∙
-        ap (λ (r : Reply). v.outcome.entries ++ record { worker = worker; event = e; now = p.now; reply = r } ∷ []) reply ∙
-        ap (λ (n : ℕ). v.outcome.entries ++ record { worker = worker; event = e; now = n; reply = done.reply } ∷ []) at.play.now ∙
+        ap (λ (x : Entry). v.outcome.entries ++ x ∷ []) (entry_made s v new p worker e told at ready done) ∙
         sym (ap (λ (o : OutcomeValue). o.entries) done.outcome)
 
 -- the play after a turn that was lost is the play before it
@@ -422,9 +462,9 @@ turn_lost s v p worker e at unready = subst (IsPlay s v) (sym same) at.play
         ap (λ (b : Bool). if b then performed worker e (given_course s worker at.course) p else p) unready
 
 -- the play after a turn whose item was an event
-pub turn_attempted : (s : Setup) (v new : PlayerValue) (p : Play) (worker : ℕ) (e : Event) → IsAtTurn s v p worker (item.Event e) →
-    IsAttempted s v worker e new → IsPlay s new (turn p worker)
-turn_attempted s v new p worker e at tried = split (is_ready p.world worker e) refl
+pub turn_attempted : (s : Setup) (v new : PlayerValue) (p : Play) (worker : ℕ) (e : Event) (told : Turn) → IsAtTurn s v p worker (item.Event e) →
+    IsAttempted s v worker e new told → IsPlay s new (turn p worker)
+turn_attempted s v new p worker e told at tried = split (is_ready p.world worker e) refl
   where
     holder : Option ℕ
     holder = option_and_then (holder_of p.world.members) (sought_by e)
@@ -433,16 +473,52 @@ turn_attempted s v new p worker e at tried = split (is_ready p.world worker e) r
     shown = ready_shown v.world p.world worker e at.play.world
 
     split : (b : Bool) → is_ready p.world worker e ≡ b → IsPlay s new (turn p worker)
-    split true ready = turn_performed s v new p worker e at ready (tried.performed (shown ∙ own_is_yes worker holder ready))
+    split true ready = turn_performed s v new p worker e told at ready (tried.performed (shown ∙ own_is_yes worker holder ready))
     split false unready =
         let same : new ≡ v = tried.lost (λ found. false≢true (sym unready ∙ yes_is_own worker holder (sym shown ∙ found))) in
         subst (λ (u : PlayerValue). IsPlay s u (turn p worker)) (sym same) (turn_lost s v p worker e at unready)
 
+-- what is told of an event by the worker that has the sought thread in hand, if one has
+told_by_holder : (worker t : ℕ) (made : Entry) (told : Turn) (o : Option ℕ) → (ready_by worker o ≡ Yes → told ≡ Made made) →
+    ((holder : ℕ) → ready_by worker o ≡ InHand holder → told ≡ Lost t holder) → told ≡ made_unless made (lost_to worker t o)
+told_by_holder worker t made told None ready lost = ready refl
+told_by_holder worker t made told (Some holder) ready lost = split (holder == worker) ready lost
+  where
+    split : (b : Bool) → ((if b then Yes else InHand holder) ≡ Yes → told ≡ Made made) →
+        ((h : ℕ) → (if b then Yes else InHand holder) ≡ InHand h → told ≡ Lost t h) → told ≡ made_unless made (if b then None else Some (Lost t holder))
+    split true ready lost = ready refl
+    split false ready lost = lost holder refl
+
+-- what is told of an event by the thread that it seeks, if it seeks one
+told_by_sought : (worker : ℕ) (made : Entry) (told : Turn) (holder_for : ℕ → Option ℕ) (sought : Option ℕ) →
+    (ready_by worker (option_and_then holder_for sought) ≡ Yes → told ≡ Made made) →
+    ((holder : ℕ) → ready_by worker (option_and_then holder_for sought) ≡ InHand holder → IfSome sought (λ t. told ≡ Lost t holder)) →
+    told ≡ made_unless made (lost_turn holder_for worker sought)
+told_by_sought worker made told holder_for None ready lost = ready refl
+told_by_sought worker made told holder_for (Some t) ready lost = told_by_holder worker t made told (holder_for t) ready lost
+
+-- what a turn tells whose item was an event
+pub told_attempted : (s : Setup) (v new : PlayerValue) (p : Play) (worker : ℕ) (e : Event) (told : Turn) → IsAtTurn s v p worker (item.Event e) →
+    IsAttempted s v worker e new told → told ≡ turn_told p worker
+told_attempted s v new p worker e told at tried =
+    told_by_sought worker (entry_of p worker e) told (holder_of p.world.members) (sought_by e)
+    (λ ready.
+    let done = tried.performed (shown ∙ ready) in
+    done.tells ∙ ap Made (sym (entry_made s v new p worker e told at (yes_is_own worker holder ready) done)))
+    (λ h in_hand. tried.tells h (shown ∙ in_hand)) ∙
+    sym (told_item s v p worker (item.Event e) at)
+  where
+    holder : Option ℕ
+    holder = option_and_then (holder_of p.world.members) (sought_by e)
+
+    shown : ready_in v.world worker e ≡ ready_by worker holder
+    shown = ready_shown v.world p.world worker e at.play.world
+
 -- a player whose worker's course went on let time go on
 pub time_advanced : (s : Setup) (before old : PlayerValue) (worker i k : ℕ) (course made : Course) → before ≡ old → i ≡ worker → worker < length old.courses →
-    course ≡ get_or before.courses i course → GoesOn s worker course None made → IsAdvanced s old worker k (record before { now = before.now + k; courses = slice_set before.courses i made })
+    course ≡ get_or before.courses i course → GoesOn s worker course None made → IsAdvanced s old worker k (record before { now = before.now + k; courses = slice_set before.courses i made }) (Advanced k)
 time_advanced s before old worker i k course made view from within at goes =
-    subst (λ (v : PlayerValue). IsAdvanced s v worker k (record before { now = before.now + k; courses = slice_set before.courses i made })) view
+    subst (λ (v : PlayerValue). IsAdvanced s v worker k (record before { now = before.now + k; courses = slice_set before.courses i made }) (Advanced k)) view
     (record {
       courses = record {
         course = course;
@@ -452,12 +528,13 @@ time_advanced s before old worker i k course made view from within at goes =
         courses = ap (λ (n : ℕ). slice_set before.courses n made) from;
       };
       rest = refl;
+      tells = refl;
     })
 
 -- the play after a turn that let time go on
-pub turn_advanced : (s : Setup) (v new : PlayerValue) (p : Play) (worker k : ℕ) → IsAtTurn s v p worker (item.Advance k) →
-    IsAdvanced s v worker k new → IsPlay s new (turn p worker)
-turn_advanced s v new p worker k at done =
+pub turn_advanced : (s : Setup) (v new : PlayerValue) (p : Play) (worker k : ℕ) (told : Turn) → IsAtTurn s v p worker (item.Advance k) →
+    IsAdvanced s v worker k new told → IsPlay s new (turn p worker)
+turn_advanced s v new p worker k told at done =
     subst (λ (u : PlayerValue). IsPlay s u (turn p worker)) (sym done.rest) (subst (IsPlay s (record v { now = v.now + k; courses = new.courses })) (sym turned) (record {
       reached = subst (IsReached s) turned (goes_on p worker at.play.reached);
       world = at.play.world;
@@ -470,6 +547,35 @@ turn_advanced s v new p worker k at done =
   where
     turned : turn p worker ≡ record p { now = p.now + k; courses = slice_set p.courses worker (given_course s worker at.course) }
     turned = turn_item s v p worker (item.Advance k) at
+
+-- what a turn tells that let time go on
+pub told_advanced : (s : Setup) (v new : PlayerValue) (p : Play) (worker k : ℕ) (told : Turn) → IsAtTurn s v p worker (item.Advance k) →
+    IsAdvanced s v worker k new told → told ≡ turn_told p worker
+told_advanced s v new p worker k told at done = done.tells ∙ sym (told_item s v p worker (item.Advance k) at)
+
+-- ---- a turn of a worker that is at its end
+
+-- a turn with an event isn't one of a worker at its end
+event_goes : (made : Entry) (holder_for : ℕ → Option ℕ) (worker : ℕ) (sought : Option ℕ) → is_finished (made_unless made (lost_turn holder_for worker sought)) ≡ false
+event_goes made holder_for worker None = refl
+event_goes made holder_for worker (Some t) = by_holder (holder_for t)
+  where
+    by_test : (holder : ℕ) (b : Bool) → is_finished (made_unless made (if b then None else Some (Lost t holder))) ≡ false
+    by_test holder true = refl
+    by_test holder false = refl
+
+    by_holder : (o : Option ℕ) → is_finished (made_unless made (lost_to worker t o)) ≡ false
+    by_holder None = refl
+    by_holder (Some holder) = by_test holder (holder == worker)
+
+-- a turn that tells that its worker is at its end changes nothing
+pub finished_still : (p : Play) (worker : ℕ) → is_finished (turn_told p worker) ≡ true → turn p worker ≡ p
+finished_still p worker told = by_step (option_and_then next_step (slice_get p.courses worker)) told
+  where
+    by_step : (o : Option (Item × program.Course)) → is_finished (step_told p worker o) ≡ true → after_step worker o p ≡ p
+    by_step None is = refl
+    by_step (Some (item.Event e, after)) is = absurd (false≢true (sym (event_goes (entry_of p worker e) (holder_of p.world.members) worker (sought_by e)) ∙ is))
+    by_step (Some (item.Advance k, after)) is = absurd (false≢true is)
 
 -- ---- the opening and the end
 

@@ -4,6 +4,7 @@ pub mod Calls
 pub mod Worlds
 pub mod Readiness
 pub mod Promises
+pub mod Turns
 pub mod Outcomes
 pub mod Notes
 pub mod NoteLaws

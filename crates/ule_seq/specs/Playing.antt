@@ -1,5 +1,5 @@
 -- A play as the code has it, and of which play of the rounds it is the value.
-use Rattle.std.specs.Prelude.{◌≡◌, ◌≢◌, ℕ, ◌+◌, ◌-◌, List, [], ◌∷◌, ◌++◌, drop, length, slice_get, slice_index_or, slice_set, Option, Some, None}
+use Rattle.std.specs.Prelude.{◌≡◌, ◌≢◌, ℕ, ◌+◌, ◌-◌, List, [], ◌∷◌, ◌++◌, drop, length, slice_get, slice_index_or, slice_set, Option, Some, None, IfSome}
 use Rattle.std.specs.Option.{option_map}
 use Rattle.ule_types.specs.Outcome.{OutcomeValue}
 use Rattle.ule_types.specs.declared.command.Command.{Command}
@@ -18,9 +18,12 @@ use Rattle.ule_model.specs.Step.{step}
 use Rattle.ule_model.specs.World.{World}
 use Rattle.ule_model.specs.WorldValue.{Shows, Steps, WorldValue}
 use Rattle.ule_seq.specs.Outcomes.{IsBare}
+use Rattle.ule_model.specs.Events.{sought_by}
 use Rattle.ule_seq.specs.Readiness.{ready_in}
-use Rattle.ule_seq.specs.declared.rounds.Course.{Course}
-use Rattle.ule_seq.specs.declared.world.Ready.TheVariants.{Yes}
+use Rattle.ule_seq.specs.declared.course.Course.{Course}
+use Rattle.ule_seq.specs.declared.player.Turn.{Turn}
+use Rattle.ule_seq.specs.declared.player.Turn.TheVariants.{Made, Advanced, Lost}
+use Rattle.ule_seq.specs.declared.world.Ready.TheVariants.{Yes, InHand}
 
 -- what a player holds
 pub record PlayerValue : Type 0 where
@@ -91,6 +94,10 @@ pub record IsPlay (s : Setup) (v : PlayerValue) (p : Play) : Type 0 where
   pub room : length v.outcome.entries + v.outcome.room ≡ greatest_rounds
   pub bare : IsBare v.outcome
 
+-- a player is the value of a play of the setup
+abbrev pub IsPlaying : Setup → PlayerValue → Type 0
+IsPlaying s v = (p : Play) × IsPlay s v p
+
 -- ---- turns
 
 -- a worker's event is possible in a world that the scheduler shows, and its program can hear the reply
@@ -100,8 +107,8 @@ pub record CanPerform (v : PlayerValue) (worker : ℕ) (e : Event) : Type 0 wher
   pub possible : IsPossible world worker e v.now
   pub hears : (c : Course) → slice_get v.courses worker ≡ Some c → CanHear (Some ((step world worker e v.now).1, v.now)) c.program
 
--- the new player is the old one after an event of a worker
-pub record IsPerformed (s : Setup) (old : PlayerValue) (worker : ℕ) (e : Event) (new : PlayerValue) : Type 0 where
+-- the new player is the old one after an event of a worker, whose entry is told
+pub record IsPerformed (s : Setup) (old : PlayerValue) (worker : ℕ) (e : Event) (new : PlayerValue) (told : Turn) : Type 0 where
   pub reply : Reply
   pub steps : Steps old.world worker e old.now new.world reply
   pub courses : HaveGoneOn s old.courses worker (Some (reply, old.now)) new.courses
@@ -110,13 +117,16 @@ pub record IsPerformed (s : Setup) (old : PlayerValue) (worker : ℕ) (e : Event
     entries = old.outcome.entries ++ record { worker = worker; event = e; now = old.now; reply = reply } ∷ [];
     room = old.outcome.room - 1;
   }
+  pub tells : told ≡ Made (record { worker = worker; event = e; now = old.now; reply = reply })
 
--- an event of a worker was performed, or the turn was lost
-pub record IsAttempted (s : Setup) (old : PlayerValue) (worker : ℕ) (e : Event) (new : PlayerValue) : Type 0 where
-  pub performed : ready_in old.world worker e ≡ Yes → IsPerformed s old worker e new
+-- an event of a worker was performed, or the turn was lost, and it is told to whom
+pub record IsAttempted (s : Setup) (old : PlayerValue) (worker : ℕ) (e : Event) (new : PlayerValue) (told : Turn) : Type 0 where
+  pub performed : ready_in old.world worker e ≡ Yes → IsPerformed s old worker e new told
   pub lost : ready_in old.world worker e ≢ Yes → new ≡ old
+  pub tells : (holder : ℕ) → ready_in old.world worker e ≡ InHand holder → IfSome (sought_by e) (λ t. told ≡ Lost t holder)
 
--- the new player is the old one after a worker let time go on
-pub record IsAdvanced (s : Setup) (old : PlayerValue) (worker k : ℕ) (new : PlayerValue) : Type 0 where
+-- the new player is the old one after a worker let time go on, which is told
+pub record IsAdvanced (s : Setup) (old : PlayerValue) (worker k : ℕ) (new : PlayerValue) (told : Turn) : Type 0 where
   pub courses : HaveGoneOn s old.courses worker None new.courses
   pub rest : new ≡ record old { now = old.now + k; courses = new.courses }
+  pub tells : told ≡ Advanced k

@@ -7,6 +7,7 @@ pub use fault::TraceFault;
 pub use place::write_place;
 pub use reading::read_trace;
 pub use reply::write_reply;
+pub use single::{write_closing, write_cpu, write_entry, write_thread};
 pub use trace::write_trace;
 
 mod event;
@@ -22,5 +23,6 @@ mod place_form;
 mod reading;
 mod reply;
 mod reply_form;
+mod single;
 mod trace;
 mod word;

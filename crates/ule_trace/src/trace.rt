@@ -10,8 +10,8 @@ use crate::reply::spell_reply;
 use ule_io::{Sink, WriteFault, write_all};
 use ule_types::{Entry, Outcome, Setup};
 
-// Appends the line of the entry with this number.
-fn spell_entry(held: &mut Held, k: u64, e: &Entry)
+/// Appends the line of the entry with this number.
+pub fn spell_entry(held: &mut Held, k: u64, e: &Entry)
     requires { length held.old + LINE ≤ CAPACITY }
     ensures { held.new ≡ held.old ++ line_text (entry_words k e.entry.now) }
 {
@@ -24,8 +24,8 @@ fn spell_entry(held: &mut Held, k: u64, e: &Entry)
     held.byte(b'\n');
 }
 
-// Appends the last two lines.
-fn spell_closing(held: &mut Held, now: u64, count: u64)
+/// Appends the last two lines.
+pub fn spell_closing(held: &mut Held, now: u64, count: u64)
     requires { length held.old + LINE ≤ CAPACITY }
     ensures { held.new ≡ held.old ++ lines_text (closing_lines now count) }
 {

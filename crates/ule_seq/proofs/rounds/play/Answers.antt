@@ -5,5 +5,5 @@ use Rattle.ule_seq.proofs.rounds.play.Goals as goal
 
 pub returns : goal.returns
 returns c =
-    outcome_of_play c.args.s.now c.run.new.self c.outcome.result
-    (c.run.ensures (opening c.args.s.now) c.in_ok-player.ensures) c.outcome.ensures
+    outcome_of_play c.args.s.now c.run.new.player c.outcome.result
+    (c.run.ensures (opening c.args.s.now) c.in_ok-player.ensures.opens) c.outcome.ensures

@@ -1,7 +1,0 @@
--- The rounds so far.
-use Rattle.ule_model.specs.Rounds.{Play, rounds}
-use Rattle.ule_seq.specs.Playing.{IsPlay}
-use Rattle.ule_seq.proofs.rounds.Player.run.Given as goal
-
-abbrev pub invariant-loop-round : goal.invariant-loop-round
-invariant-loop-round l = (p : Play) → IsPlay l.s l.initial.self p → IsPlay l.s l.self (rounds l._round p)

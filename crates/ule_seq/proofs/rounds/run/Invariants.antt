@@ -1,0 +1,7 @@
+-- The rounds so far.
+use Rattle.ule_model.specs.Rounds.{Play, rounds}
+use Rattle.ule_seq.specs.Playing.{IsPlay}
+use Rattle.ule_seq.proofs.rounds.run.Given as goal
+
+abbrev pub invariant-loop-round : goal.invariant-loop-round
+invariant-loop-round l = (p : Play) → IsPlay l.s l.initial.player p → IsPlay l.s l.player (rounds l._round p)
