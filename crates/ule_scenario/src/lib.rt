@@ -19,6 +19,7 @@ pub mod name;
 mod number;
 pub mod reader;
 pub mod reason;
+mod same;
 mod rows;
 pub mod tail;
 pub mod text;
