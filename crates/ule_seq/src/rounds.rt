@@ -60,19 +60,28 @@ impl Course {
             program: Program::start(s, worker),
             item: None,
         };
-        course.go_on(s, worker, None);
+        course.go_on(s, worker);
         course
     }
 
-    /// Goes on to the next item of the worker's program. `last` is the reply and the time of the
-    /// event that was given, if one was.
-    #[inline]
-    fn go_on(&mut self, s: &Setup, worker: u8, last: Option<(Reply, u64)>)
+    /// Goes on to the next item of the worker's program, where no event was given.
+    fn go_on(&mut self, s: &Setup, worker: u8)
         requires worker { worker < 16 }
-        requires hears { CanHear last self.old.program }
-        ensures { GoesOn s.now worker self.old last self.new }
+        ensures { GoesOn s.now worker self.old None self.new }
     {
-        self.item = self.program.next(last);
+        self.item = self.program.next(None);
+        self.begin_further(s, worker);
+    }
+
+    /// Goes on to the next item of the worker's program, which is told the reply and the time of
+    /// the event that was given.
+    #[inline]
+    fn hear(&mut self, s: &Setup, worker: u8, reply: &Reply, now: u64)
+        requires worker { worker < 16 }
+        requires hears { CanHear (Some (reply.now, now)) self.old.program }
+        ensures { GoesOn s.now worker self.old (Some (reply.now, now)) self.new }
+    {
+        self.item = self.program.hear(reply, now);
         self.begin_further(s, worker);
     }
 
@@ -166,7 +175,7 @@ impl Player {
         ensures { IsAdvanced s.now self.old worker ticks self.new }
     {
         self.now += u64::from(ticks);
-        self.courses[usize::from(worker)].go_on(s, worker, None);
+        self.courses[usize::from(worker)].go_on(s, worker);
     }
 
     /// An event of a worker, whose program is told the reply.
@@ -178,14 +187,14 @@ impl Player {
         ensures { IsPerformed s.now self.old worker event.now self.new }
     {
         let now = self.now;
-        let reply = &self.world.step(worker, event, now);
-        self.courses[usize::from(worker)].go_on(s, worker, Some((*reply, now)));
-        self.outcome.note(Entry {
+        let entry = Entry {
             worker,
             event: *event,
             now,
-            reply: *reply,
-        });
+            reply: self.world.step(worker, event, now),
+        };
+        self.courses[usize::from(worker)].hear(s, worker, &entry.reply, now);
+        self.outcome.note(entry);
     }
 
     /// A round: each worker has one turn, in rising number. Says whether any had a further item.
