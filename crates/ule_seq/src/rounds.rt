@@ -86,7 +86,7 @@ impl Course {
     }
 
     /// Begins the commands that come next, until one gives an item or none is left.
-    #[inline]
+    #[inline(always)]
     fn begin_further(&mut self, s: &Setup, worker: u8)
         requires { worker < 16 }
         ensures { comes_next s.now worker self.old ≡ waiting s.now worker self.new }
