@@ -1,4 +1,4 @@
-use Rattle.std.proofs.Common.{rules, ◌≡◌, ℕ, ◌<◌, ◌≤◌, length, arith, slice_index}
+use Rattle.std.proofs.Common.{arith}
 use Rattle.ule_scenario.proofs.SameBytes.{same_bytes}
 use Rattle.ule_scenario.proofs.same.is_text.Goals as goal
 
