@@ -113,6 +113,18 @@ impl Own {
         self.next_item()
     }
 
+    /// The next item, told the reply and the time of the event before.
+    #[inline(always)]
+    pub(crate) fn hear_reply(&mut self, reply: &Reply, now: u64) -> Option<Item>
+        requires sound { IsSoundOwn self.old }
+        requires hears { CanHear (Some (reply.now, now)) self.old }
+        ensures item { result ≡ (next_of (Some (reply.now, now)) self.old).0 }
+        ensures after { self.new ≡ (next_of (Some (reply.now, now)) self.old).1 }
+    {
+        self.hear(reply, now);
+        self.next_item()
+    }
+
     /// Goes on to where the reply to the last event leads.
     #[inline(always)]
     fn hear(&mut self, reply: &Reply, now: u64)

@@ -64,6 +64,16 @@ impl Program {
         self.own.next(&last)
     }
 
+    /// The next item behind an event that was given, told its reply and its time, in hz ticks.
+    #[inline(always)]
+    pub fn hear(&mut self, reply: &Reply, now: u64) -> Option<Item>
+        requires { CanHear (Some (reply.now, now)) self.old }
+        ensures item { result ≡ (next_of (Some (reply.now, now)) self.old).0 }
+        ensures after { self.new ≡ (next_of (Some (reply.now, now)) self.old).1 }
+    {
+        self.own.hear_reply(reply, now)
+    }
+
     /// All that the next item depends on: the worker, its stage inside the command begun, what the
     /// looks of the command saw, and the jitter word.
     pub fn own(&self) -> &Own

@@ -1,3 +1,4 @@
+pub mod SameBytes
 pub mod Lines
 pub mod WholeLines
 pub mod Faults

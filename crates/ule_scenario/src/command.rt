@@ -12,6 +12,7 @@ use ule_types::Command;
 
 /// The command of a line, if it has one.
 #[tactic(auto, using(crate::proofs::Faults::first_passes, crate::proofs::Faults::second_passes))]
+#[inline(always)]
 pub(crate) fn command_in(words: &Words, first: Name) -> Option<Command>
     ensures { (line : List Token) → words.now ≡ seen line → first_fault (number_faults line first) ≡ None → result ≡ command_in line first }
 {

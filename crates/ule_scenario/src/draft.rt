@@ -290,6 +290,7 @@ impl Draft {
     }
 
     /// Gives a command to the worker whose script stands last.
+    #[inline(always)]
     pub fn command(&mut self, c: Command) -> Result<(), Memory>
         ensures { OnOk result (self.new ≡ record self.old { place = max self.old.place 7; scripts = with_command self.old.scripts (last_worker self.old) (Some c) }) }
     {

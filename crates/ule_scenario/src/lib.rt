@@ -20,6 +20,7 @@ mod number;
 pub mod reader;
 pub mod reason;
 mod rows;
+mod same;
 pub mod tail;
 pub mod text;
 pub mod token;

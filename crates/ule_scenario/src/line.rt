@@ -35,6 +35,7 @@ impl Pieces {
 
     /// A space, or the end of the line.
     #[tactic(auto, using(crate::proofs::Lines::with_none, crate::proofs::Lines::with_some, crate::proofs::Lines::blank_is))]
+    #[inline(always)]
     pub fn end_word(&mut self)
         ensures { (c : Cut) → self.old ≡ pieces_kept c → self.new ≡ pieces_kept (word_ended c) }
     {

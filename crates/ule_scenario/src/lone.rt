@@ -6,6 +6,7 @@ ghost use Rattle.ule_scenario.specs.TextKept.{reading_unless};
 
 use crate::draft::Draft;
 use crate::reason::{Reason, Refusal};
+use crate::same::is_text;
 use ule_io::Memory;
 use ule_types::Command;
 
@@ -14,22 +15,22 @@ use ule_types::Command;
 pub(crate) fn lone_command(line: &[u8]) -> Option<Command>
     ensures { result ≡ lone_command line.now }
 {
-    if line == b"yield".as_slice() {
+    if is_text(line, b"yield") {
         return Some(Command::Yield);
     }
-    if line == b"tick".as_slice() {
+    if is_text(line, b"tick") {
         return Some(Command::Tick);
     }
-    if line == b"resched".as_slice() {
+    if is_text(line, b"resched") {
         return Some(Command::Resched);
     }
-    if line == b"exit".as_slice() {
+    if is_text(line, b"exit") {
         return Some(Command::Exit);
     }
-    if line == b"idle".as_slice() {
+    if is_text(line, b"idle") {
         return Some(Command::Idle);
     }
-    if line == b"balance".as_slice() {
+    if is_text(line, b"balance") {
         return Some(Command::Balance);
     }
     None

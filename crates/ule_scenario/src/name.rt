@@ -1,6 +1,8 @@
 ghost use Rattle.std.specs.Prelude.{◌≡◌};
 ghost use Rattle.ule_scenario.specs.Names.{any_name, command_name, inner_name};
 
+use crate::same::is_text;
+
 /// A word of the grammar, or another one.
 #[derive(Clone, Copy, PartialEq, Eq)]
 pub enum Name {
@@ -46,34 +48,34 @@ pub enum Name {
 fn inner_name(word: &[u8]) -> Name
     ensures { result ≡ inner_name word.now }
 {
-    if word == b"ts".as_slice() {
+    if is_text(word, b"ts") {
         return Name::Ts;
     }
-    if word == b"ithd".as_slice() {
+    if is_text(word, b"ithd") {
         return Name::Ithd;
     }
-    if word == b"rt".as_slice() {
+    if is_text(word, b"rt") {
         return Name::Rt;
     }
-    if word == b"fifo".as_slice() {
+    if is_text(word, b"fifo") {
         return Name::Fifo;
     }
-    if word == b"bound".as_slice() {
+    if is_text(word, b"bound") {
         return Name::Bound;
     }
-    if word == b"-".as_slice() {
+    if is_text(word, b"-") {
         return Name::Dash;
     }
-    if word == b"interact".as_slice() {
+    if is_text(word, b"interact") {
         return Name::Interact;
     }
-    if word == b"slice".as_slice() {
+    if is_text(word, b"slice") {
         return Name::Slice;
     }
-    if word == b"preempt".as_slice() {
+    if is_text(word, b"preempt") {
         return Name::Preempt;
     }
-    if word == b"steal".as_slice() {
+    if is_text(word, b"steal") {
         return Name::Steal;
     }
     Name::Other
@@ -83,46 +85,46 @@ fn inner_name(word: &[u8]) -> Name
 fn command_name(word: &[u8]) -> Name
     ensures { result ≡ command_name word.now }
 {
-    if word == b"tick".as_slice() {
+    if is_text(word, b"tick") {
         return Name::Tick;
     }
-    if word == b"time".as_slice() {
+    if is_text(word, b"time") {
         return Name::Time;
     }
-    if word == b"yield".as_slice() {
+    if is_text(word, b"yield") {
         return Name::Yield;
     }
-    if word == b"resched".as_slice() {
+    if is_text(word, b"resched") {
         return Name::Resched;
     }
-    if word == b"sleep".as_slice() {
+    if is_text(word, b"sleep") {
         return Name::Sleep;
     }
-    if word == b"wake".as_slice() {
+    if is_text(word, b"wake") {
         return Name::Wake;
     }
-    if word == b"lend".as_slice() {
+    if is_text(word, b"lend") {
         return Name::Lend;
     }
-    if word == b"unlend".as_slice() {
+    if is_text(word, b"unlend") {
         return Name::Unlend;
     }
-    if word == b"renice".as_slice() {
+    if is_text(word, b"renice") {
         return Name::Renice;
     }
-    if word == b"fork".as_slice() {
+    if is_text(word, b"fork") {
         return Name::Fork;
     }
-    if word == b"exit".as_slice() {
+    if is_text(word, b"exit") {
         return Name::Exit;
     }
-    if word == b"idle".as_slice() {
+    if is_text(word, b"idle") {
         return Name::Idle;
     }
-    if word == b"balance".as_slice() {
+    if is_text(word, b"balance") {
         return Name::Balance;
     }
-    if word == b"look".as_slice() {
+    if is_text(word, b"look") {
         return Name::Look;
     }
     inner_name(word)
@@ -132,37 +134,37 @@ fn command_name(word: &[u8]) -> Name
 pub(crate) fn any_name(word: &[u8]) -> Name
     ensures { result ≡ any_name word.now }
 {
-    if word == b"ule-scenario".as_slice() {
+    if is_text(word, b"ule-scenario") {
         return Name::Header;
     }
-    if word == b"set".as_slice() {
+    if is_text(word, b"set") {
         return Name::Set;
     }
-    if word == b"jitter".as_slice() {
+    if is_text(word, b"jitter") {
         return Name::Jitter;
     }
-    if word == b"cpus".as_slice() {
+    if is_text(word, b"cpus") {
         return Name::Cpus;
     }
-    if word == b"group".as_slice() {
+    if is_text(word, b"group") {
         return Name::Group;
     }
-    if word == b"thread".as_slice() {
+    if is_text(word, b"thread") {
         return Name::Thread;
     }
-    if word == b"unborn".as_slice() {
+    if is_text(word, b"unborn") {
         return Name::Unborn;
     }
-    if word == b"script".as_slice() {
+    if is_text(word, b"script") {
         return Name::Script;
     }
-    if word == b"weave".as_slice() {
+    if is_text(word, b"weave") {
         return Name::Weave;
     }
-    if word == b"turns".as_slice() {
+    if is_text(word, b"turns") {
         return Name::Turns;
     }
-    if word == b"end".as_slice() {
+    if is_text(word, b"end") {
         return Name::End;
     }
     command_name(word)

@@ -1,4 +1,4 @@
-ghost use Rattle.std.specs.Prelude.{◌≡◌, ◌<◌, ◌≤◌, IfOk};
+ghost use Rattle.std.specs.Prelude.{◌≡◌, ◌<◌, ◌≤◌, IfOk, None, Some};
 ghost use Rattle.ule_model.specs.Rounds.{opening_courses};
 ghost use Rattle.ule_seq.specs.Playing.{AreAhead};
 
@@ -31,24 +31,33 @@ impl Course {
             program: Program::start(s, worker),
             item: None,
         };
-        course.go_on(s, worker, None);
+        course.go_on(s, worker);
         course
     }
 
-    /// Goes on to the next item of the worker's program. `last` is the reply and the time of the
-    /// event that was given, if one was.
-    #[inline]
-    pub(crate) fn go_on(&mut self, s: &Setup, worker: u8, last: Option<(Reply, u64)>)
+    /// Goes on to the next item of the worker's program, where no event was given.
+    pub(crate) fn go_on(&mut self, s: &Setup, worker: u8)
         requires worker { worker < 16 }
-        requires hears { CanHear last self.old.program }
-        ensures { GoesOn s.now worker self.old last self.new }
+        ensures { GoesOn s.now worker self.old None self.new }
     {
-        self.item = self.program.next(last);
+        self.item = self.program.next(None);
+        self.begin_further(s, worker);
+    }
+
+    /// Goes on to the next item of the worker's program, which is told the reply and the time of
+    /// the event that was given.
+    #[inline]
+    pub(crate) fn hear(&mut self, s: &Setup, worker: u8, reply: &Reply, now: u64)
+        requires worker { worker < 16 }
+        requires hears { CanHear (Some (reply.now, now)) self.old.program }
+        ensures { GoesOn s.now worker self.old (Some (reply.now, now)) self.new }
+    {
+        self.item = self.program.hear(reply, now);
         self.begin_further(s, worker);
     }
 
     /// Begins the commands that come next, until one gives an item or none is left.
-    #[inline]
+    #[inline(always)]
     fn begin_further(&mut self, s: &Setup, worker: u8)
         requires { worker < 16 }
         ensures { comes_next s.now worker self.old ≡ waiting s.now worker self.new }

@@ -172,7 +172,7 @@ impl Player {
         ensures { IsAdvanced s.now self.old worker ticks self.new result }
     {
         self.now += u64::from(ticks);
-        self.courses[usize::from(worker)].go_on(s, worker, None);
+        self.courses[usize::from(worker)].go_on(s, worker);
         Turn::Advanced(ticks)
     }
 
@@ -185,16 +185,15 @@ impl Player {
         ensures { IsPerformed s.now self.old worker event.now self.new result }
     {
         let now = self.now;
-        let reply = &self.world.step(worker, event, now);
-        self.courses[usize::from(worker)].go_on(s, worker, Some((*reply, now)));
-        let entry = &Entry {
+        let entry = Entry {
             worker,
             event: *event,
             now,
-            reply: *reply,
+            reply: self.world.step(worker, event, now),
         };
-        self.outcome.note(*entry);
-        Turn::Made(*entry)
+        self.courses[usize::from(worker)].hear(s, worker, &entry.reply, now);
+        self.outcome.note(entry);
+        Turn::Made(entry)
     }
 
     /// The outcome of this play: its entries, and the final lines of its world as it stands.

@@ -65,6 +65,7 @@ impl Queues {
     }
 
     /// Takes a thread out of its queue, after `tdq_runq_rem`.
+    #[inline(always)]
     pub fn remove(&mut self, kind: Kind, t: ThreadId)
         requires { times_in kind self.old t ≡ 1 }
         ensures rest { self.new ≡ queues_without kind t self.old }

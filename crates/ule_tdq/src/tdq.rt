@@ -763,6 +763,7 @@ impl Tdq {
     }
 
     /// Runs the thread whose turn comes first, after `choosethread`.
+    #[inline(always)]
     fn choose_next(&mut self, now: u64) -> Option<ThreadId>
         requires begun { 20000 ≤ now }
         requires bounded { now < 2 ^ 36 }

@@ -67,8 +67,20 @@ impl Held {
         self.bytes.push(b);
     }
 
-    /// Appends a text.
+    /// Appends a text, byte by byte: where the text is known, that is a few moves.
+    #[inline(always)]
     pub fn text(&mut self, t: &str)
+        requires { length self.old + length t.now ≤ CAPACITY }
+        ensures { self.new ≡ self.old ++ t.now }
+    {
+        let bytes = t.as_bytes();
+        for b in bytes {
+            self.byte(*b);
+        }
+    }
+
+    /// Appends a text whose length isn't known.
+    fn long_text(&mut self, t: &str)
         requires { length self.old + length t.now ≤ CAPACITY }
         ensures { self.new ≡ self.old ++ t.now }
     {
@@ -171,7 +183,7 @@ impl Held {
         ensures growth { length self.new ≤ length self.old + 20 }
     {
         let mut digits = Buffer::new();
-        self.text(digits.format(n));
+        self.long_text(digits.format(n));
     }
 
     /// Appends a number.
@@ -195,7 +207,7 @@ impl Held {
         ensures growth { length self.new ≤ length self.old + 20 }
     {
         let mut digits = Buffer::new();
-        self.text(digits.format(z));
+        self.long_text(digits.format(z));
     }
 
     /// Appends a word.
@@ -206,7 +218,7 @@ impl Held {
         ensures growth { length self.new ≤ length self.old + 24 }
     {
         match w {
-            Word::Text(t) => self.text(t),
+            Word::Text(t) => self.long_text(t),
             Word::Number(n) => self.number(n),
             Word::Signed(z) => self.signed(z),
             Word::Flag(true) => self.byte(b'1'),
