@@ -41,7 +41,7 @@ pub record IsBehind (h : List (Entry Event Reply)) (p : Place) (now : ℕ) : Typ
 abbrev pub IsNoted : List (Entry Event Reply) → Member → Type 0
 IsNoted h m = (now : ℕ) → IsBehind h m.place now → IsBy now m.thread
 
-by_later : (now later : ℕ) (r : ThreadRecord) → now ≤ later → IsBy now r → IsBy later r
+pub by_later : (now later : ℕ) (r : ThreadRecord) → now ≤ later → IsBy now r → IsBy later r
 by_later now later r past is = record { ltick = omega (arith, is.ltick); slept_at = omega (arith, is.slept_at); last_run = omega (arith, is.last_run) }
 
 -- at the start
@@ -81,7 +81,7 @@ behind_shared h w worker e held now p locks here rules = record { begun = rules.
     shares x (inr own) (inr this) = inl (same_Some x.worker worker (sym own ∙ this))
 
 -- what follows for each thread that is left, or reached before and after, follows for each of the list
-touched_both : (w : World) (worker : ℕ) (e : Event) (now : ℕ) (P Q : Member → Type 0) → ((m : Member) → P m → Q m)
+pub touched_both : (w : World) (worker : ℕ) (e : Event) (now : ℕ) (P Q : Member → Type 0) → ((m : Member) → P m → Q m)
     → ((m n : Member) → is_reached w worker e m.place ≡ true → is_reached w worker e n.place ≡ true → ComesTo w now m.thread n.thread → P m → Q n)
     → (ms ns : List Member) → AreTouched w worker e now ms ns → AllByRecursion P ms → AllByRecursion Q ns
 touched_both w worker e now P Q stay pass [] [] touched all = tt

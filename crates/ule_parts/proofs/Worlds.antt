@@ -124,7 +124,7 @@ module _ (s : Setup) where
     }
 
   -- the world after a step
-  is_world_after : (x : World) (w : ℕ) (e : Event) (now : ℕ) → IsWorldOf s x → IsPossible x w e now → IsWorldOf s (step x w e now).0
+  pub is_world_after : (x : World) (w : ℕ) (e : Event) (now : ℕ) → IsWorldOf s x → IsPossible x w e now → IsWorldOf s (step x w e now).0
   is_world_after x w e now is can = let rest : LeavesRest x e (step x w e now).0 = step_leaves_rest x w e now in record {
     settings = rest.settings ∙ is.settings;
     lines = rest.count ∙ is.lines;
@@ -198,7 +198,7 @@ module _ (s : Setup) where
   of_each : (P : ThreadRecord → Type 0) → ((r : ThreadRecord) → IsFreshRecord s.cpus r → P r) → AllByRecursion (λ m. P m.thread) (world_at_start s).members
   of_each P keeps = all_along (λ (m : Member). IsFreshRecord s.cpus m.thread) (λ m. P m.thread) (world_at_start s).members (λ m fresh. keeps m.thread fresh) start.records
 
-  start_is_world : IsWorldOf s (world_at_start s)
+  pub start_is_world : IsWorldOf s (world_at_start s)
   start_is_world = record {
     settings = start.settings_are;
     lines = start.count;

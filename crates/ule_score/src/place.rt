@@ -1,7 +1,7 @@
 use ule_prio::{Cpu, Kind};
 
 /// Where a thread stands: in exactly one of these.
-#[derive(Clone, Copy)]
+#[derive(Clone, Copy, PartialEq, Eq)]
 pub enum Place {
     /// It is the current thread of this CPU.
     Running(Cpu),

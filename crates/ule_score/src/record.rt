@@ -48,7 +48,7 @@ pub struct Settings {
 }
 
 /// The numbers of one CPU, after `struct tdq`.
-#[derive(Clone, Copy)]
+#[derive(Clone, Copy, PartialEq, Eq)]
 pub struct CpuLine {
     /// The insertion index of the calendar, 0..=63, after `tdq_idx`.
     pub idx: u8,
@@ -67,7 +67,7 @@ pub struct CpuLine {
 }
 
 /// Why a CPU switches threads.
-#[derive(Clone, Copy)]
+#[derive(Clone, Copy, PartialEq, Eq)]
 pub enum Why {
     /// The current thread gives way of its own accord.
     Yield,

@@ -2,7 +2,7 @@ use ule_prio::{Cpu, Kind, Nice, Priority, ThreadId};
 use ule_score::{Place, Why};
 
 /// Why a thread is moved from one CPU to another.
-#[derive(Clone, Copy)]
+#[derive(Clone, Copy, PartialEq, Eq)]
 pub enum MoveWhy {
     /// The other CPU has nothing to run, after `tdq_idled`.
     Steal,
@@ -11,7 +11,7 @@ pub enum MoveWhy {
 }
 
 /// One critical section of the scheduler.
-#[derive(Clone, Copy)]
+#[derive(Clone, Copy, PartialEq, Eq)]
 pub enum Event {
     /// A stathz tick on this CPU, after `sched_clock`.
     Tick(Cpu),
@@ -50,7 +50,7 @@ pub enum Event {
 }
 
 /// What an event answered.
-#[derive(Clone, Copy)]
+#[derive(Clone, Copy, PartialEq, Eq)]
 pub enum Reply {
     /// The current thread; whether a balance is due; whether a slice ended.
     Ticked(Option<ThreadId>, bool, bool),

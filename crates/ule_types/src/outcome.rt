@@ -10,7 +10,7 @@ use ule_prio::{Class, Cpu, LockId, Nice, Priority, ThreadId};
 use ule_score::{CpuLine, Place};
 
 /// What a trace tells of one thread at the end of a history.
-#[derive(Clone, Copy)]
+#[derive(Clone, Copy, PartialEq, Eq)]
 pub struct ThreadLine {
     pub id: ThreadId,
     pub place: Place,

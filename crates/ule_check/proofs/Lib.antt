@@ -1,0 +1,11 @@
+pub mod JudgedRows
+pub mod SameLaws
+pub mod Dues
+pub mod Faults
+pub mod Ahead
+pub mod Complete
+pub mod WholeLaws
+pub mod NotedTimes
+pub mod Kept
+pub mod OnTheWay
+pub mod Sound

@@ -1,0 +1,5 @@
+pub mod Same
+pub mod Judge
+pub mod Ending
+pub mod Judged
+pub mod Laws
