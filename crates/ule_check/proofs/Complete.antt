@@ -19,7 +19,7 @@ use Rattle.ule_rounds.proofs.Plays.{each_after_set}
 use Rattle.ule_check.specs.Ending.{cpu_fault, ending_faults, thread_fault}
 use Rattle.ule_check.specs.Judge.{Due, Judge, behind, due_at, due_of, faults_of, first_fault, keeps_time}
 use Rattle.ule_check.specs.Judged.{illegal_or, judged_entry, judged_from}
-use Rattle.ule_check.specs.declared.verdict.Verdict.TheVariants.{Legal}
+use Rattle.ule_check.specs.declared.verdicts.Verdict.TheVariants.{Legal}
 use Rattle.ule_check.proofs.Ahead.{Begins, Ends, HasFinalLines, IsAhead, IsLate, of_timed, other_first, own_first}
 use Rattle.ule_check.proofs.Dues.{HasFirst, performs_first}
 use Rattle.ule_check.proofs.Faults.{all_under, both_among, cpus_none, end_none, event_none, first_none, held_none, missing_none, reply_none, threads_none, time_at_own, time_at_other, time_by, time_none, times_by}
@@ -45,6 +45,7 @@ ended s o j ahead lines =
         let at = ahead.ends worker course got in
         subst (λ m. due_of (j.amount m) course ≡ None) e (performs_first course at.end (j.amount worker) at.total [] at.performs at.finished)
 
+-- four tests that hold do so together
 pub and_all : (a b c d : Bool) → a ≡ true → b ≡ true → c ≡ true → d ≡ true → (a && b && c && d) ≡ true
 and_all a b c d p q r t = and-both (a && b && c) d (and-both (a && b) c (and-both a b p q) r) t
 
@@ -58,6 +59,7 @@ heads x y xs ys same = ap first same
     first [] = x
     first (z ∷ zs) = z
 
+-- and so are their rests
 tails : (x y : Entry) (xs ys : List Entry) → x ∷ xs ≡ y ∷ ys → xs ≡ ys
 tails x y xs ys same = ap rest same
   where
@@ -65,6 +67,7 @@ tails x y xs ys same = ap rest same
     rest [] = []
     rest (z ∷ zs) = zs
 
+-- a list with an entry is not the empty one
 not_nil : (x : Entry) (xs : List Entry) → x ∷ xs ≡ [] → ⊥
 not_nil x xs same = false≢true (ap is_nil same)
   where
@@ -76,12 +79,14 @@ module _ (s : Setup) (j : Judge) (x y : Timed) (xs ys : List Timed) (count : len
   abbrev w : ℕ
   w = x.entry.worker
 
+  -- the course of the next entry's worker
   abbrev course : Course
   course = get_or j.courses w (spare s)
 
   got : slice_get j.courses w ≡ Some course
   got = slice_get-get_or j.courses w (spare s) (subst (λ n. w < n) (sym count) ahead.workers.0)
 
+  -- the two lists begin with one entry
   same : y.entry ≡ x.entry
   same = heads y.entry x.entry (of_timed ys) (of_timed xs) ahead.entries
 
@@ -89,6 +94,7 @@ module _ (s : Setup) (j : Judge) (x y : Timed) (xs ys : List Timed) (count : len
   begins : Begins course (j.amount w) (x ∷ entries_of w xs)
   begins = subst (Begins course (j.amount w)) (own_first w x xs refl) (ahead.begins w course got)
 
+  -- so it is due by the list's front
   first : HasFirst course (j.amount w) x (entries_of w xs) begins.end begins.total
   first = performs_first course begins.end (j.amount w) begins.total (x ∷ entries_of w xs) begins.performs
 
@@ -102,6 +108,7 @@ module _ (s : Setup) (j : Judge) (x y : Timed) (xs ys : List Timed) (count : len
   ends : Ends course (j.amount w) (y ∷ entries_of w ys)
   ends = subst (Ends course (j.amount w)) (own_first w y ys (ap (λ (e : Entry). e.worker) same)) (ahead.ends w course got)
 
+  -- and due by the whole list
   second : HasFirst course (j.amount w) y (entries_of w ys) ends.end ends.total
   second = performs_first course ends.end (j.amount w) ends.total (y ∷ entries_of w ys) ends.performs
 
@@ -112,6 +119,7 @@ module _ (s : Setup) (j : Judge) (x y : Timed) (xs ys : List Timed) (count : len
   dues : second_due ≡ due
   dues = same_Some second_due due (sym second.due ∙ first.due)
 
+  -- where the worker stands behind the entry
   abbrev reached : Course
   reached = record first.after { last = Some (x.entry.reply, x.entry.now) }
 
@@ -121,21 +129,26 @@ module _ (s : Setup) (j : Judge) (x y : Timed) (xs ys : List Timed) (count : len
   reached_same : second_reached ≡ reached
   reached_same = (λ i. record (dues i).course { last = Some ((same i).reply, (same i).now) })
 
+  -- the judge behind the entry
   abbrev next : Judge
   next = behind j due x.entry
 
+  -- the world can make the entry, and those behind it
   entry_can : IsEntryOf j.world x.entry × IsReplayed (after_entry j.world x.entry) (of_timed xs)
   unfolding IsReplayed
   entry_can = ahead.replies
 
+  -- the entry is late enough, and so are those behind it
   head_late : IsLate j.own j.latest (record { entry = x.entry; locks = locks_of j.world x.entry.event }) ×
       AllByRecursion (IsLate j.own j.latest) (with_locks (after_entry j.world x.entry) (of_timed xs))
   unfolding with_locks
   head_late = ahead.late
 
+  -- the entry with its locks
   abbrev here : Locked
   here = record { entry = x.entry; locks = locks_of j.world x.entry.event }
 
+  -- those behind it that share a lock or the worker with it are no earlier
   ordered : AllByRecursion (λ z. share here z ≡ true → x.entry.now ≤ z.entry.now) (with_locks (after_entry j.world x.entry) (of_timed xs)) ×
       IsInTime (with_locks (after_entry j.world x.entry) (of_timed xs))
   unfolding with_locks IsInTime
@@ -153,9 +166,11 @@ module _ (s : Setup) (j : Judge) (x y : Timed) (xs ys : List Timed) (count : len
       turned : (z.entry.worker == w) ≡ true → (w == z.entry.worker) ≡ true
       turned own = eq-eqb w z.entry.worker (sym (eqb-true z.entry.worker w own))
 
+  -- what the other lists have added stays
   amount_other : (v : ℕ) → (v ≡ w → ⊥) → next.amount v ≡ j.amount v
   amount_other v other = time_at_other w x.amount v j.amount (ne_eqb v w other)
 
+  -- the rest is still to come behind the entry
   ahead_next : IsAhead s next xs ys
   ahead_next = record {
     entries = tails y.entry x.entry (of_timed ys) (of_timed xs) ahead.entries;
@@ -180,6 +195,7 @@ module _ (s : Setup) (j : Judge) (x y : Timed) (xs ys : List Timed) (count : len
           (subst (λ n. Ends second_reached n (entries_of w ys)) (ap (λ (d : Due). d.amount) dues)
           (record { end = ends.end; total = ends.total; performs = second.rest; finished = ends.finished }))
 
+  -- the entry has no fault
   no_fault : first_fault (faults_of (amount_in_all s.scripts) j due x.entry) ≡ None
   no_fault =
       first_none _ _ _ _ (event_none x.entry.event)
@@ -201,11 +217,13 @@ module _ (s : Setup) (j : Judge) (x y : Timed) (xs ys : List Timed) (count : len
     pub ahead_is : IsAhead s (behind j due_one x.entry) xs ys
     pub count_is : length (behind j due_one x.entry).courses ≡ s.cpus
 
+  -- so it is judged
   pub is_judged : IsJudged
   is_judged = record { due_one = due; due_is = due_is_first; none = no_fault; ahead_is = ahead_next; count_is = length-set j.courses w reached ∙ count }
 
 -- ---- the history
 
+-- what is still to come of a whole legal history is judged legal
 pub complete_from : (s : Setup) (o : OutcomeValue) (k : ℕ) (j : Judge) (timed whole : List Timed) → length j.courses ≡ s.cpus → IsAhead s j timed whole →
     HasFinalLines s o (replayed j.world (of_timed timed)) → judged_from (amount_in_all s.scripts) o k j (of_timed timed) ≡ Legal
 unfolding judged_from replayed

@@ -19,9 +19,9 @@ use Rattle.ule_types.specs.declared.setup.Form.TheVariants.{Ts}
 use Rattle.ule_types.specs.declared.setup.Setup.{Setup}
 use Rattle.ule_check.specs.Judge.{next_event}
 use Rattle.ule_check.specs.Judged.{judged, judged_from}
-use Rattle.ule_check.specs.declared.verdict.Fault.TheVariants as fault
-use Rattle.ule_check.specs.declared.verdict.FinalName.TheVariants as name
-use Rattle.ule_check.specs.declared.verdict.Verdict.TheVariants.{Legal, Illegal}
+use Rattle.ule_check.specs.declared.verdicts.Fault.TheVariants as fault
+use Rattle.ule_check.specs.declared.verdicts.FinalName.TheVariants as name
+use Rattle.ule_check.specs.declared.verdicts.Verdict.TheVariants.{Legal, Illegal}
 
 -- one thread and one yield
 abbrev one_yield : Setup

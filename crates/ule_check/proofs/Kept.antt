@@ -1,5 +1,5 @@
 -- What a judge keeps, whatever the order of times: so the next event of a worker, where it is ready and on time, is possible.
-use Rattle.std.proofs.Common.{◌≡◌, ℕ, ◌^◌, ◌<◌, ◌≤◌, true, List, [], flat_map, length, slice_get, slice_set, Some, IfSome, IsSome, IsTrue, option_and_then, refl, sym, ◌∙◌, ap, subst, arith}
+use Rattle.std.proofs.Common.{◌≡◌, ℕ, ◌+◌, ◌^◌, ◌<◌, ◌≤◌, true, List, [], flat_map, length, slice_get, slice_set, Some, IfSome, IsSome, IsTrue, option_and_then, refl, sym, ◌∙◌, ap, subst, arith}
 use Rattle.std.specs.List.{AllByRecursion}
 use Rattle.std.proofs.lemmas.Bool.{ne_eqb}
 use Rattle.std.proofs.lemmas.List.{length-set}
@@ -37,7 +37,7 @@ use Rattle.ule_parts.proofs.Worlds.{is_world_after, start_is_world}
 use Rattle.ule_rounds.proofs.Forks.{HasForksAhead, forks_set}
 use Rattle.ule_rounds.proofs.HistoryLaws.{history_of_rounds, rounds_kept}
 use Rattle.ule_rounds.proofs.Keeping.{IsUnderWay, found_among, ids_in, time_below, under_way_opening}
-use Rattle.ule_rounds.proofs.Plays.{each_after_set, opening_count, opening_is, tree_of}
+use Rattle.ule_rounds.proofs.Plays.{all_left, each_after_set, opening_count, opening_is, sum_set, tree_of}
 use Rattle.ule_check.specs.Judge.{with_time, with_times}
 use Rattle.ule_check.proofs.Faults.{time_at_other, time_at_own}
 use Rattle.ule_check.proofs.NotedTimes.{IsNotedBy, IsOnTime, noted_after, noted_in_time}
@@ -81,26 +81,33 @@ seat_of s w courses own latest worker course kept got =
 
 -- ---- an advance of time
 
--- it keeps what a judge keeps
-pub kept_advanced : (s : Setup) (w : World) (courses : List Course) (own latest : ℕ → ℕ) (worker k : ℕ) (course after : Course) → IsKept s w courses own latest →
-    slice_get courses worker ≡ Some course → next_step course ≡ Some (item.Advance k, after) → IsKept s w (slice_set courses worker after) own latest
-kept_advanced s w courses own latest worker k course after kept got found = record {
-  world = kept.world;
-  count = length-set courses worker after ∙ kept.count;
-  orderly = each_after_set (λ v c. HasOrder (ids_in s) v (tree_of s) (own v) c) courses worker course after got went.orderly (λ v c other at. kept.orderly v c at);
-  hears = each_after_set (λ v (c : Course). CanHear c.last c.own) courses worker course after got (subst (λ (c : Course). CanHear c.last c.own) (sym next.gone) tt)
-      (λ v c other at. kept.hears v c at);
-  hands = agree_set courses worker course after w.members w.members got kept.hands (λ h t other. refl)
-      (λ t. kept.hands worker t ∙ ap (λ o. is_number t (option_and_then held_at o)) got ∙ ap (is_number t) (sym went.held));
-  forks = forks_set courses worker course after [] got went.forks w.members w.members (λ t other unborn. unborn) kept.forks;
-  noted = kept.noted;
-}
-  where
-    next : IsNextItem (ids_in s) worker (tree_of s) (own worker) course (item.Advance k) after
-    next = next_is (ids_in s) worker (tree_of s) (seat_of s w courses own latest worker course kept got) (own worker) course (item.Advance k) after (kept.orderly worker course got) found
+module _ (s : Setup) (w : World) (courses : List Course) (own latest : ℕ → ℕ) (worker k : ℕ) (course after : Course) (kept : IsKept s w courses own latest)
+    (got : slice_get courses worker ≡ Some course) (found : next_step course ≡ Some (item.Advance k, after)) where
+  -- where the advance is found
+  advance_next : IsNextItem (ids_in s) worker (tree_of s) (own worker) course (item.Advance k) after
+  advance_next = next_is (ids_in s) worker (tree_of s) (seat_of s w courses own latest worker course kept got) (own worker) course (item.Advance k) after (kept.orderly worker course got) found
 
-    went : GoesOnAs (ids_in s) worker (tree_of s) (own worker) k [] (held_at course) course after
-    went = course_advanced (ids_in s) worker (tree_of s) (seat_of s w courses own latest worker course kept got) (own worker) k course after next
+  -- so the course goes on
+  went_ahead : GoesOnAs (ids_in s) worker (tree_of s) (own worker) k [] (held_at course) course after
+  went_ahead = course_advanced (ids_in s) worker (tree_of s) (seat_of s w courses own latest worker course kept got) (own worker) k course after advance_next
+
+  -- it keeps what a judge keeps
+  pub kept_advanced : IsKept s w (slice_set courses worker after) own latest
+  kept_advanced = record {
+    world = kept.world;
+    count = length-set courses worker after ∙ kept.count;
+    orderly = each_after_set (λ v c. HasOrder (ids_in s) v (tree_of s) (own v) c) courses worker course after got went_ahead.orderly (λ v c other at. kept.orderly v c at);
+    hears = each_after_set (λ v (c : Course). CanHear c.last c.own) courses worker course after got (subst (λ (c : Course). CanHear c.last c.own) (sym advance_next.gone) tt)
+        (λ v c other at. kept.hears v c at);
+    hands = agree_set courses worker course after w.members w.members got kept.hands (λ h t other. refl)
+        (λ t. kept.hands worker t ∙ ap (λ o. is_number t (option_and_then held_at o)) got ∙ ap (is_number t) (sym went_ahead.held));
+    forks = forks_set courses worker course after [] got went_ahead.forks w.members w.members (λ t other unborn. unborn) kept.forks;
+    noted = kept.noted;
+  }
+
+  -- and leaves fewer items
+  pub left_advanced : all_left s.cpus (slice_set courses worker after) + 1 ≤ all_left s.cpus courses
+  left_advanced = omega (arith, sum_set (left_of s.cpus) courses worker course after got, went_ahead.left)
 
 -- ---- an event
 
@@ -114,12 +121,15 @@ pub record IsPlaced (w : World) (worker : ℕ) (e : Event) : Type 0 where
 
 module _ (s : Setup) (w : World) (courses : List Course) (own latest : ℕ → ℕ) (worker : ℕ) (e : Event) (course after : Course) (kept : IsKept s w courses own latest)
     (got : slice_get courses worker ≡ Some course) (found : next_step course ≡ Some (item.Event e, after)) where
+  -- the worker has its seat
   seat : IsSeat worker (tree_of s)
   seat = seat_of s w courses own latest worker course kept got
 
+  -- where the event is found
   next : IsNextItem (ids_in s) worker (tree_of s) (own worker) course (item.Event e) after
   next = next_is (ids_in s) worker (tree_of s) seat (own worker) course (item.Event e) after (kept.orderly worker course got) found
 
+  -- what is known of it there
   event : IsAtEvent (ids_in s) s.cpus (held_at course) (forks_ahead course) next.script e
   event =
       event_at (ids_in s) worker (tree_of s) (own worker) (left_of s.cpus course) (time_of course) (held_at course) (forks_ahead course) next.script next.own next.own.stage e next.holds next.item
@@ -129,9 +139,11 @@ module _ (s : Setup) (w : World) (courses : List Course) (own latest : ℕ → �
   hatches t among =
       kept.forks.unborn worker course t got (ap (λ us. is_among us t) (sym event.forks) ∙ among_front (hatched_by e) (flat_map forked_by next.script) t among)
 
+  -- the thread that it seeks is there
   declared : IfSome (sought_by e) (λ t. IsSome (thread_of t w.members))
   declared = IfSome_then (sought_by e) event.names.1 (λ t among. found_among t w.members (subst (λ us. is_among us t ≡ true) (sym kept.world.numbers) among))
 
+  -- and so is the unborn one that it hatches
   finds : FindsUnborn w.members (handling e)
   finds = finds_unborn w.members (handling e) hatches
 
@@ -191,6 +203,10 @@ module _ (s : Setup) (w : World) (courses : List Course) (own latest : ℕ → �
 
     few : length w.lines ≤ 16
     few = omega (arith, kept.world.lines, (setup_scripts s).cpus)
+
+    -- fewer items are left then
+    pub left_performed : all_left s.cpus (slice_set courses worker come) + 1 ≤ all_left s.cpus courses
+    left_performed = omega (arith, sum_set (left_of s.cpus) courses worker course come got, went.left)
 
     -- the judge who went on keeps what a judge keeps
     pub kept_performed : IsKept s (step w worker e now).0 (slice_set courses worker come) (with_time worker now own) (with_times (locks_of w e) now latest)

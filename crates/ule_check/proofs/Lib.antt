@@ -9,3 +9,11 @@ pub mod NotedTimes
 pub mod Kept
 pub mod OnTheWay
 pub mod Sound
+pub mod Reached
+pub mod SeatLaws
+pub mod JudgeLaws
+pub mod LoopLaws
+pub mod LineLaws
+pub mod MissingLaws
+pub mod EndingLaws
+pub mod StartLaws

@@ -73,6 +73,7 @@ module _ (own latest : ℕ → ℕ) (w : World) (worker : ℕ) (e : Event) (now 
       at_test true among = on.under l among
       at_test false other = omega arith
 
+  -- nor are those of the workers
   own_on : (h : ℕ) → own h ≤ new_own h
   own_on h = at_test (h == worker) refl
     where

@@ -1,5 +1,5 @@
 -- On the way to a worker's next event: the judge's facts hold at the course where the event is found.
-use Rattle.std.proofs.Common.{◌≡◌, ℕ, zero, suc, true, List, [], ◌∷◌, slice_get, slice_set, Some, refl, ◌∙◌, ap, subst}
+use Rattle.std.proofs.Common.{◌≡◌, ℕ, zero, suc, ◌≤◌, true, List, [], ◌∷◌, slice_get, slice_set, Some, refl, ◌∙◌, ap, subst, arith}
 use Rattle.std.proofs.lemmas.Option.{slice_get_within}
 use Rattle.ule_types.specs.declared.setup.Setup.{Setup}
 use Rattle.ule_model.specs.Conditions.{IsPossible}
@@ -8,9 +8,10 @@ use Rattle.ule_model.specs.Legal.{Performs, Timed, advances}
 use Rattle.ule_program.specs.Courses.{Course}
 use Rattle.ule_model.specs.Step.{step}
 use Rattle.ule_members.proofs.Lists.{slice_get-set_same}
+use Rattle.ule_rounds.proofs.Plays.{all_left}
 use Rattle.ule_check.specs.Judge.{Due, Judge, due_of, with_time, with_times}
 use Rattle.ule_check.proofs.Dues.{IsDue, KeptByAdvances, due_holds}
-use Rattle.ule_check.proofs.Kept.{IsKept, IsPlaced, kept_advanced, kept_performed, placed, possible}
+use Rattle.ule_check.proofs.Kept.{IsKept, IsPlaced, kept_advanced, kept_performed, left_advanced, placed, possible}
 use Rattle.ule_check.proofs.NotedTimes.{IsOnTime}
 
 -- an element put twice at one place
@@ -27,20 +28,24 @@ module _ (s : Setup) (j : Judge) (w : ℕ) (kept : IsKept s j.world j.courses j.
     pub is_kept : IsKept s j.world courses j.own j.latest
     pub there : slice_get courses w ≡ Some to
     pub set_same : (c : Course) → slice_set courses w c ≡ slice_set j.courses w c
+    pub left : all_left s.cpus courses ≤ all_left s.cpus j.courses
     pub performs : (xs : List Timed) (end : Course) (total : ℕ) → Performs to passed xs end total → Performs course (j.amount w) xs end total
 
+  -- an advance leads on
   goes_on : KeptByAdvances IsOnTheWay
   goes_on to after k passed next way = record {
     courses = slice_set way.courses w after;
     is_kept = kept_advanced s j.world way.courses j.own j.latest w k to after way.is_kept way.there next;
     there = slice_get-set_same way.courses w after (slice_get_within way.courses w to way.there);
     set_same = λ c. set_twice way.courses w after c ∙ way.set_same c;
+    left = omega (arith, way.left, left_advanced s j.world way.courses j.own j.latest w k to after way.is_kept way.there next);
     performs = λ xs end total performs. way.performs xs end total (advances to after end passed k total xs next performs);
   }
 
+  -- so the event is found on the way
   pub found : IsDue IsOnTheWay d
   found = due_holds IsOnTheWay goes_on course (j.amount w) d
-      (record { courses = j.courses; is_kept = kept; there = got; set_same = λ c. refl; performs = λ xs end total performs. performs }) due
+      (record { courses = j.courses; is_kept = kept; there = got; set_same = λ c. refl; left = omega arith; performs = λ xs end total performs. performs }) due
 
   -- what is known of the event before its time is judged
   pub due_placed : IsPlaced j.world w d.event

@@ -16,21 +16,27 @@ use Rattle.ule_types.specs.declared.outcome.ThreadLine.{ThreadLine}
 use Rattle.ule_types.specs.contracts.outcome.ThreadLineEq.TheImpl.Laws.{laws-law as line_laws}
 use Rattle.ule_check.specs.Same.{is_same_cpu_line, is_same_event, is_same_thread_line, is_same_reply}
 
+-- two tests that hold do so together
 pub and-both : (a b : Bool) → a ≡ true → b ≡ true → (a && b) ≡ true
 and-both a b first second = ap (λ x. x && b) first ∙ second
 
+-- places that are tested to be the same are
 same_place : (x y : Place) → places.eq x y ≡ true → x ≡ y
 same_place x y is = search rules
 
+-- so are classes
 same_class : (x y : Class) → classes.eq x y ≡ true → x ≡ y
 same_class x y is = search rules
 
+-- so are optional numbers
 same_option : (x y : Option ℕ) → option_eq ◌==◌ x y ≡ true → x ≡ y
 same_option x y is = search rules
 
+-- so are events
 pub same_event : (x y : Event) → is_same_event x y ≡ true → x ≡ y
 same_event x y is = search rules
 
+-- an event is tested to be itself
 pub event_itself : (x : Event) → is_same_event x x ≡ true
 event_itself x = search rules
 
@@ -39,9 +45,11 @@ pub same_reply : (x y : Reply) → is_same_reply x y ≡ true → x ≡ y
 same_reply (reply.Ticked a b c) y is = search rules
 same_reply x y is = search rules
 
+-- a reply is tested to be itself
 pub reply_itself : (x : Reply) → is_same_reply x x ≡ true
 reply_itself x = search rules
 
+-- lines of threads that are tested to be the same are, field by field
 pub same_line : (x y : ThreadLine) → is_same_thread_line x y ≡ true → x ≡ y
 same_line x y is =
     let p0 = and_parts (x.id == y.id) _ is in
@@ -86,11 +94,14 @@ same_line x y is =
       word = (same_option (x.word) (y.word) (p18.1)) i;
     })
 
+-- a line of a thread is tested to be itself
 pub line_itself : (x : ThreadLine) → is_same_thread_line x x ≡ true
 line_itself x = line_laws.refl x
 
+-- lines of CPUs that are tested to be the same are
 pub same_cpu_line : (x y : CpuLine) → is_same_cpu_line x y ≡ true → x ≡ y
 same_cpu_line x y is = search rules
 
+-- a line of a CPU is tested to be itself
 pub cpu_line_itself : (x : CpuLine) → is_same_cpu_line x x ≡ true
 cpu_line_itself x = search rules

@@ -20,18 +20,18 @@ use Rattle.ule_model.specs.Step.{step}
 use Rattle.ule_members.proofs.Lists.{slice_get-set_other, slice_get-set_same}
 use Rattle.ule_members.proofs.Within.{all_along}
 use Rattle.ule_courses.proofs.Hands.{handled_thread}
-use Rattle.ule_rounds.proofs.Plays.{opening_count, opening_is}
+use Rattle.ule_rounds.proofs.Plays.{all_left, opening_count, opening_is}
 use Rattle.ule_check.specs.Ending.{cpu_fault, end_fault, ending_faults, missing_from, thread_fault}
 use Rattle.ule_check.specs.Judge.{Due, Judge, behind, due_of, event_fault, faults_of, first_fault, hand_fault, judge_at_start, keeps_time, reply_fault, time_fault, with_time}
 use Rattle.ule_check.specs.Judged.{judged_entry, judged_from}
 use Rattle.ule_check.specs.Laws.{LegalIsWhole}
-use Rattle.ule_check.specs.declared.verdict.Fault.TheVariants as fault
-use Rattle.ule_check.specs.declared.verdict.Verdict.TheVariants.{Legal}
+use Rattle.ule_check.specs.declared.verdicts.Fault.TheVariants as fault
+use Rattle.ule_check.specs.declared.verdicts.Verdict.TheVariants.{Legal}
 use Rattle.ule_check.proofs.Ahead.{Ends, HasFinalLines, IsLate, of_timed, other_first, own_first}
 use Rattle.ule_check.proofs.Complete.{spare}
 use Rattle.ule_check.proofs.Dues.{HasEnded, IsDue, KeptByAdvances, ended_holds}
 use Rattle.ule_check.proofs.Faults.{cpus_same, each_under, end_same, event_same, held_ready, illegal_none, none_missing, none_of, not_legal, reply_same, shared_lock, threads_same, time_at_other, time_at_own, time_kept}
-use Rattle.ule_check.proofs.Kept.{IsKept, end_below, kept_at_start, kept_performed, possible}
+use Rattle.ule_check.proofs.Kept.{IsKept, end_below, kept_at_start, kept_performed, left_performed, possible}
 use Rattle.ule_check.proofs.NotedTimes.{IsOnTime}
 use Rattle.ule_check.proofs.OnTheWay.{IsOnTheWay, found}
 
@@ -63,6 +63,7 @@ ends_none course amount none =
     kept : KeptByAdvances (MakesAll course amount)
     kept to after k passed next holds = λ es end total performs. holds es end total (advances to after end passed k total es next performs)
 
+-- where the end has no fault, nothing more comes
 rest_none : (s : Setup) (o : OutcomeValue) (j : Judge) → first_fault (ending_faults (amount_in_all s.scripts) o j) ≡ None → IsRest s o j []
 unfolding IsReplayed IsInTime with_locks replayed
 rest_none s o j none =
@@ -99,6 +100,7 @@ pub record IsFaultless (s : Setup) (j : Judge) (d : Due) (e : Entry) : Type 0 wh
   pub by_the_end : e.now ≤ starting_time + amount_in_all s.scripts
   pub reply : (step j.world e.worker e.event e.now).1 ≡ e.reply
 
+-- an entry without a fault is so
 pub faultless : (s : Setup) (j : Judge) (d : Due) (e : Entry) → first_fault (faults_of (amount_in_all s.scripts) j d e) ≡ None → IsFaultless s j d e
 faultless s j d e none =
     let total = amount_in_all s.scripts in
@@ -128,9 +130,11 @@ module _ (s : Setup) (j : Judge) (e : Entry) (kept : IsKept s j.world j.courses 
   abbrev way : IsDue (IsOnTheWay s j w kept course got d due) d
   way = found s j w kept course got d due
 
+  -- where the entry's event is found
   step_is : next_step way.course ≡ Some (item.Event e.event, d.course)
   step_is = subst (λ x. next_step way.course ≡ Some (item.Event x, d.course)) fine.event way.next
 
+  -- the entry is on time
   on_time : IsOnTime j.own j.latest j.world w e.event e.now
   on_time = record {
     begun = omega (arith, fine.after_own);
@@ -139,6 +143,7 @@ module _ (s : Setup) (j : Judge) (e : Entry) (kept : IsKept s j.world j.courses 
     own_is = fine.own_is;
   }
 
+  -- so it is possible
   can : IsPossible j.world w e.event e.now
   can = possible s j.world way.holds.courses j.own j.latest w e.event way.course d.course way.holds.is_kept way.holds.there step_is e.now fine.ready on_time
 
@@ -149,9 +154,20 @@ module _ (s : Setup) (j : Judge) (e : Entry) (kept : IsKept s j.world j.courses 
       (way.holds.set_same (record d.course { last = Some ((step j.world w e.event e.now).1, e.now) }) ∙ ap (λ r. slice_set j.courses w (record d.course { last = Some (r, e.now) })) fine.reply)
       (kept_performed s j.world way.holds.courses j.own j.latest w e.event way.course d.course way.holds.is_kept way.holds.there step_is e.now fine.ready on_time)
 
+  -- with fewer items left
+  pub left_behind : all_left s.cpus (behind j d e).courses + 1 ≤ all_left s.cpus j.courses
+  left_behind =
+      let fewer =
+      left_performed s j.world way.holds.courses j.own j.latest w e.event way.course d.course way.holds.is_kept way.holds.there step_is e.now fine.ready on_time in
+      let same : all_left s.cpus (slice_set way.holds.courses w (record d.course { last = Some ((step j.world w e.event e.now).1, e.now) })) ≡ all_left s.cpus (behind j d e).courses =
+      ap (all_left s.cpus)
+      (way.holds.set_same (record d.course { last = Some ((step j.world w e.event e.now).1, e.now) }) ∙ ap (λ r. slice_set j.courses w (record d.course { last = Some (r, e.now) })) fine.reply) in
+      omega (arith, fewer, same, way.holds.left)
+
   abbrev x : Timed
   x = record { entry = e; amount = d.amount }
 
+  -- where its worker stands behind it
   abbrev come : Course
   come = record d.course { last = Some (e.reply, e.now) }
 
@@ -232,6 +248,7 @@ module _ (s : Setup) (j : Judge) (e : Entry) (kept : IsKept s j.world j.courses 
 
 -- ---- the history
 
+-- where the verdict from a judge on is legal, the rest of a history follows
 pub sound_from : (s : Setup) (o : OutcomeValue) (es : List Entry) (k : ℕ) (j : Judge) → IsKept s j.world j.courses j.own j.latest →
     judged_from (amount_in_all s.scripts) o k j es ≡ Legal → IsRest s o j es
 unfolding judged_from
@@ -262,16 +279,20 @@ end_of s o rest worker below =
     let got : slice_get (opening_courses s) worker ≡ Some course = slice_get-get_or (opening_courses s) worker (spare s) (subst (λ n. worker < n) (sym (opening_count s)) below) in
     subst (λ c. Ends c 0 (entries_of worker rest.timed)) (sym (opening_is s worker course got)) (rest.ends worker course got)
 
+-- so its entries are the first of its program
 begun : (s : Setup) (o : OutcomeValue) (rest : IsRest s o (judge_at_start s) o.entries) (worker : ℕ) → worker < s.cpus → BeginsProgram s s.scripts rest.timed worker
 begun s o rest worker below = let at = end_of s o rest worker below in record { end = at.end; total = at.total; performs = at.performs }
 
+-- and all of them
 finished : (s : Setup) (o : OutcomeValue) (rest : IsRest s o (judge_at_start s) o.entries) (worker : ℕ) → worker < s.cpus → Completes s s.scripts rest.timed worker
 finished s o rest worker below =
     let at = end_of s o rest worker below in record { begins = record { end = at.end; total = at.total; performs = at.performs }; finished = at.finished }
 
+-- the final lines are those of the end
 lines_are : (s : Setup) (o : OutcomeValue) → HasFinalLines s o (replayed (world_at_start s) o.entries) → record o { room = 0 } ≡ outcome_of s s.scripts o.entries
 lines_are s o lines = sym (λ i. record { entries = o.entries; threads = lines.threads i; cpus = lines.cpus i; now = lines.end i; room = 0 })
 
+-- what is judged legal is a whole legal history
 pub legal_is_whole : LegalIsWhole
 legal_is_whole s o legal =
     let rest : IsRest s o (judge_at_start s) o.entries = sound_from s o o.entries 1 (judge_at_start s) (kept_at_start s) legal in

@@ -18,7 +18,7 @@ use Rattle.ule_rounds.proofs.Plays.{opening_count, opening_is}
 use Rattle.ule_check.specs.Judge.{judge_at_start}
 use Rattle.ule_check.specs.Judged.{judged_from}
 use Rattle.ule_check.specs.Laws.{RunsAreLegal, TellsWhole, WholeIsLegal}
-use Rattle.ule_check.specs.declared.verdict.Verdict.TheVariants.{Legal}
+use Rattle.ule_check.specs.declared.verdicts.Verdict.TheVariants.{Legal}
 use Rattle.ule_check.proofs.Ahead.{Begins, Ends, HasFinalLines, IsAhead, IsLate, of_timed}
 use Rattle.ule_check.proofs.Complete.{complete_from}
 
@@ -27,6 +27,7 @@ pub timed_all : (P : Entry → Type 0) (xs : List Timed) → AllByRecursion P (o
 timed_all P [] all = tt
 timed_all P (x ∷ xs) all = (all.0, timed_all P xs all.1)
 
+-- and the converse
 pub all_timed : (P : Entry → Type 0) (xs : List Timed) → AllByRecursion (λ x. P x.entry) xs → AllByRecursion P (of_timed xs)
 all_timed P [] all = tt
 all_timed P (x ∷ xs) all = (all.0, all_timed P xs all.1)
@@ -64,6 +65,7 @@ ahead_at_start s o tells = record {
     below : (worker : ℕ) (course : Course) → slice_get (opening_courses s) worker ≡ Some course → worker < s.cpus
     below worker course got = subst (λ n. worker < n) (opening_count s) (slice_get_within (opening_courses s) worker course got)
 
+-- what tells a whole legal history is judged legal
 pub whole_is_legal : WholeIsLegal
 whole_is_legal s o tells =
     subst (λ es. judged_from (amount_in_all s.scripts) o 1 (judge_at_start s) es ≡ Legal) tells.legal.entries
@@ -75,6 +77,7 @@ whole_is_legal s o tells =
       end = sym (ap (λ (x : OutcomeValue). x.now) tells.lines);
     })))
 
+-- what is told of the rounds is judged legal
 pub runs_are_legal : RunsAreLegal
 runs_are_legal s =
     let history : IsHistoryOf s (play_of s) = history_of_rounds s in

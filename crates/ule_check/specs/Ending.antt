@@ -8,15 +8,22 @@ use Rattle.ule_model.specs.Finals.{thread_lines}
 use Rattle.ule_model.specs.Start.{starting_time}
 use Rattle.ule_check.specs.Judge.{Judge, due_of}
 use Rattle.ule_check.specs.Same.{is_same_cpu_line, is_same_thread_line}
-use Rattle.ule_check.specs.declared.verdict.Fault.{Fault}
-use Rattle.ule_check.specs.declared.verdict.Fault.TheVariants as fault
-use Rattle.ule_check.specs.declared.verdict.FinalName.TheVariants as name
+use Rattle.ule_check.specs.declared.verdicts.Fault.{Fault}
+use Rattle.ule_check.specs.declared.verdicts.Fault.TheVariants as fault
+use Rattle.ule_check.specs.declared.verdicts.FinalName.TheVariants as name
 
 -- the least worker, of those from this one on, that has a further event
 abbrev pub missing_from : (ℕ → ℕ) → ℕ → List Course → Option Fault
 missing_from amount worker [] = None
 missing_from amount worker (course ∷ courses) =
     if is_some (due_of (amount worker) course) then Some (fault.Missing worker) else missing_from amount (worker + 1) courses
+
+-- another line than the one that is expected first
+abbrev pub first_thread_fault : ThreadLine → ThreadLine → Option Fault
+first_thread_fault x y = if is_same_thread_line x y then None else Some (fault.Final (name.Thread (min x.id y.id)))
+
+abbrev pub first_cpu_fault : ℕ → CpuLine → CpuLine → Option Fault
+first_cpu_fault c x y = if is_same_cpu_line x y then None else Some (fault.Final (name.Cpu c))
 
 -- the first thread line that differs, is missing, or should not be there, where the lines on both sides rise: the expected ones stand first
 abbrev pub thread_fault : List ThreadLine → List ThreadLine → Option Fault

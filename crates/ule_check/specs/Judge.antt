@@ -19,8 +19,8 @@ use Rattle.ule_model.specs.Start.{starting_time, world_at_start}
 use Rattle.ule_model.specs.Step.{step}
 use Rattle.ule_model.specs.World.{World}
 use Rattle.ule_check.specs.Same.{is_same_event, is_same_reply}
-use Rattle.ule_check.specs.declared.verdict.Fault.{Fault}
-use Rattle.ule_check.specs.declared.verdict.Fault.TheVariants as fault
+use Rattle.ule_check.specs.declared.verdicts.Fault.{Fault}
+use Rattle.ule_check.specs.declared.verdicts.Fault.TheVariants as fault
 
 -- ---- what the judge knows
 

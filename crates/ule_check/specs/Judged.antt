@@ -6,10 +6,10 @@ use Rattle.ule_types.specs.declared.setup.Setup.{Setup}
 use Rattle.ule_model.specs.Legal.{amount_in_all}
 use Rattle.ule_check.specs.Ending.{ending_faults}
 use Rattle.ule_check.specs.Judge.{Due, Judge, behind, due_at, faults_of, first_fault, judge_at_start}
-use Rattle.ule_check.specs.declared.verdict.Fault.{Fault}
-use Rattle.ule_check.specs.declared.verdict.Fault.TheVariants as fault
-use Rattle.ule_check.specs.declared.verdict.Verdict.{Verdict}
-use Rattle.ule_check.specs.declared.verdict.Verdict.TheVariants.{Legal, Illegal}
+use Rattle.ule_check.specs.declared.verdicts.Fault.{Fault}
+use Rattle.ule_check.specs.declared.verdicts.Fault.TheVariants as fault
+use Rattle.ule_check.specs.declared.verdicts.Verdict.{Verdict}
+use Rattle.ule_check.specs.declared.verdicts.Verdict.TheVariants.{Legal, Illegal}
 
 -- the verdict where this fault stands at entry k, or else another verdict
 abbrev pub illegal_or : ℕ → Option Fault → Verdict → Verdict

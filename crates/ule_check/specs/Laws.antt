@@ -6,7 +6,7 @@ use Rattle.ule_model.specs.Ends.{outcome_of}
 use Rattle.ule_model.specs.Legal.{IsLegal, IsWhole}
 use Rattle.ule_model.specs.Rounds.{play_of}
 use Rattle.ule_check.specs.Judged.{judged}
-use Rattle.ule_check.specs.declared.verdict.Verdict.TheVariants.{Legal}
+use Rattle.ule_check.specs.declared.verdicts.Verdict.TheVariants.{Legal}
 
 -- a trace tells a whole legal history of a setup's scripts, and its end
 pub record TellsWhole (s : Setup) (o : OutcomeValue) : Type 0 where

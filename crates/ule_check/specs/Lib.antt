@@ -3,3 +3,5 @@ pub mod Judge
 pub mod Ending
 pub mod Judged
 pub mod Laws
+pub mod Seats
+pub mod JudgeValue

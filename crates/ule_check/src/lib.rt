@@ -1,8 +1,14 @@
 //! The judgment of traces: whether a trace tells a whole legal history of a setup, and its end.
 #![tactic(auto)]
 
+pub use judgment::verdict;
 pub use laws::{legal_is_whole, runs_are_legal, whole_is_legal};
-pub use verdict::{Fault, FinalName, Verdict};
+pub use verdicts::{Fault, FinalName, Verdict};
 
+pub mod fault;
+pub mod judge;
+pub mod judgment;
 pub mod laws;
-pub mod verdict;
+pub mod seat;
+pub mod time;
+pub mod verdicts;

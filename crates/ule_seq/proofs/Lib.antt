@@ -9,3 +9,4 @@ pub mod StepPromises
 pub mod RefusalLaws
 pub mod FinalLaws
 pub mod PlayLaws
+pub mod EventLockLaws

@@ -117,7 +117,7 @@ opening_ahead s cs count each = record {
 }
 
 -- what holds of each element by its place, and of one more behind them, holds of each then
-each_push : {X : Type 0} (P : ℕ → X → Type 0) (n : ℕ) (xs : List X) (x : X) → ((i : ℕ) (y : X) → slice_get xs i ≡ Some y → P (n + i) y) → P (n + length xs) x →
+pub each_push : {X : Type 0} (P : ℕ → X → Type 0) (n : ℕ) (xs : List X) (x : X) → ((i : ℕ) (y : X) → slice_get xs i ≡ Some y → P (n + i) y) → P (n + length xs) x →
     (i : ℕ) (y : X) → slice_get (xs ++ x ∷ []) i ≡ Some y → P (n + i) y
 each_push P n [] x each last zero y got = subst (P (n + 0)) (same_Some x y got) last
 each_push P n [] x each last (suc i) y got = absurd (none-some y got)

@@ -2,11 +2,13 @@
 //! a setup in rounds.
 #![tactic(auto)]
 
+pub use event_locks::EventLocks;
 pub use records::{STARTING_TIME, record_of};
 pub use rounds::{GREATEST_ROUNDS, play};
 pub use ule_program::Program;
 pub use world::{Ready, World};
 
+pub mod event_locks;
 pub mod finals;
 pub mod hand;
 pub mod lock;

@@ -122,8 +122,9 @@ impl World {
 
     /// The lock under which an event is performed, where there is one: the fixed lock of the event,
     /// or that of the place of the thread that it seeks.
-    fn lock_for(&self, e: &Event) -> Option<usize>
-        ensures { result ≡ lock_for self.now.values (locking e.now) }
+    pub(crate) fn lock_for(&self, e: &Event) -> Option<usize>
+        ensures lock { result ≡ lock_for self.now.values (locking e.now) }
+        ensures within { IfSome result (λ l. l < 25) }
     {
         match *e {
             Event::Tick(c)
@@ -148,7 +149,8 @@ impl World {
 
     /// The first lock that has a thread under it.
     fn lock_with(&self, t: ThreadId) -> Option<usize>
-        ensures { result ≡ lock_with t self.now.values }
+        ensures lock { result ≡ lock_with t self.now.values }
+        ensures within { IfSome result (λ l. l < 25) }
     {
         for (lock, guarded) in self.values.iter().enumerate() {
             if guarded.has(t) {
@@ -173,8 +175,9 @@ impl World {
 }
 
 /// The CPUs whose locks an event takes, where it takes two.
-fn two_locks(e: &Event) -> Option<(u8, u8)>
-    ensures { result ≡ two_locks (locking e.now) }
+pub(crate) fn two_locks(e: &Event) -> Option<(u8, u8)>
+    ensures locks { result ≡ two_locks (locking e.now) }
+    ensures within { IfSome result (λ both. (both.0 < 16) × (both.1 < 16)) }
 {
     match *e {
         Event::Move(a, b, _) => Some((a.0, b.0)),

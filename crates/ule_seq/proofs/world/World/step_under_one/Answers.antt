@@ -11,18 +11,18 @@ use Rattle.ule_seq.proofs.world.World.step_under_one.Goals as goal
 
 pub returns-in_default-clause-value : goal.returns-in_default-clause-value
 returns-in_default-clause-value c =
-    ap (λ (x : WorldValue × Reply). x.0) (none_is_step c.args.self.now c.args.worker c.args.e.now c.args.now (one_alone (locking c.args.e.now) c.requires.one) (sym c.in_default.ensures))
+    ap (λ (x : WorldValue × Reply). x.0) (none_is_step c.args.self.now c.args.worker c.args.e.now c.args.now (one_alone (locking c.args.e.now) c.requires.one) (sym c.in_default.ensures.lock))
 
 pub returns-in_default-clause-reply : goal.returns-in_default-clause-reply
 returns-in_default-clause-reply c =
-    ap (λ (x : WorldValue × Reply). x.1) (none_is_step c.args.self.now c.args.worker c.args.e.now c.args.now (one_alone (locking c.args.e.now) c.requires.one) (sym c.in_default.ensures))
+    ap (λ (x : WorldValue × Reply). x.1) (none_is_step c.args.self.now c.args.worker c.args.e.now c.args.now (one_alone (locking c.args.e.now) c.requires.one) (sym c.in_default.ensures.lock))
 
 pub step_at-requires-clause-step : goal.step_at-requires-clause-step
 step_at-requires-clause-step c =
     reads_can c.self.inside c.args.self.now c.args.worker c.args.e.now c.args.now c.in-Some.lock c.index_mut-guarded.result.now c.from.result c.index_mut-hand.result.now (record {
       view = c.self.view_is;
       can = c.requires.can;
-      lock = sym c.in-Some.ensures;
+      lock = sym c.in-Some.ensures.lock;
       value = c.index_mut-guarded.ensures.value;
       from = c.from.ensures;
       hand = c.index_mut-hand.ensures.value;
@@ -35,7 +35,7 @@ is_step c =
     written_is_step c.self.inside c.args.self.now c.args.worker c.args.e.now c.args.now c.in-Some.lock c.index_mut-guarded.result.now c.from.result c.index_mut-hand.result.now c.step_at.new.guarded c.step_at.new.hand c.step_at.result (record {
       view = c.self.view_is;
       can = c.requires.can;
-      lock = sym c.in-Some.ensures;
+      lock = sym c.in-Some.ensures.lock;
       value = c.index_mut-guarded.ensures.value;
       from = c.from.ensures;
       hand = c.index_mut-hand.ensures.value;
