@@ -86,7 +86,8 @@ answers_fault i s0 s1 k0 k1 status is has read once = record {
 }
 
 -- the answer where memory ran out
-answers_no_memory : (i : Intake) (s0 s1 : SourceState) (k0 k1 : SinkState) (status : ℕ) → status ≡ 5 → k1 ≡ k0 → s1.faults ≡ s0.faults → TookAtMost s0 s1 (i.limit + 1) → EndedOnceAtMost s0 s1 →
+answers_no_memory : (i : Intake) (s0 s1 : SourceState) (k0 k1 : SinkState) (status : ℕ) → status ≡ 5 → k1 ≡ k0 → s1.faults ≡ s0.faults →
+    TookAtMost s0 s1 (i.limit + 1) → EndedOnceAtMost s0 s1 →
     Reads i s0 s1 k0 k1 status
 answers_no_memory i s0 s1 k0 k1 status is same read took once = record {
   answered = λ e. absurd (not_due status (omega arith) (omega arith) e);

@@ -4,6 +4,8 @@ pub mod InputLaws
 pub mod MakingLaws
 pub mod RunLaws
 pub mod CountLaws
+pub mod CheckLaws
+pub mod VerdictLines
 pub mod Tracing
 pub mod YieldRow
 pub mod LostTurnRow

@@ -14,7 +14,8 @@ use Rattle.ule_types.specs.Outcome.{OutcomeValue}
 use Rattle.ule_types.specs.declared.setup.Setup.{Setup}
 
 -- the line was written
-made_done : (n : ℕ) (text_of : Setup → List ℕ) (s : SourceState) (k0 k1 : SinkState) (status : ℕ) (setup : Setup) → status ≡ 0 → IsMade n setup → Wrote k0 k1 (text_of setup) 0 status →
+made_done : (n : ℕ) (text_of : Setup → List ℕ) (s : SourceState) (k0 k1 : SinkState) (status : ℕ) (setup : Setup) → status ≡ 0 → IsMade n setup →
+    Wrote k0 k1 (text_of setup) 0 status →
     Makes n text_of s s k0 k1 status
 made_done n text_of s k0 k1 status setup is made w = record {
   known = inl is;
@@ -26,7 +27,8 @@ made_done n text_of s k0 k1 status setup is made w = record {
 }
 
 -- a fault of writing came
-made_fault : (n : ℕ) (text_of : Setup → List ℕ) (s : SourceState) (k0 k1 : SinkState) (status : ℕ) (setup : Setup) → status ≡ 4 → IsMade n setup → Wrote k0 k1 (text_of setup) 0 status →
+made_fault : (n : ℕ) (text_of : Setup → List ℕ) (s : SourceState) (k0 k1 : SinkState) (status : ℕ) (setup : Setup) → status ≡ 4 → IsMade n setup →
+    Wrote k0 k1 (text_of setup) 0 status →
     Makes n text_of s s k0 k1 status
 made_fault n text_of s k0 k1 status setup is made w = record {
   known = inr (inl is);

@@ -4,5 +4,7 @@ pub mod Input
 pub mod Making
 pub mod Run
 pub mod Summary
+pub mod VerdictLine
+pub mod Check
 pub mod Answers
 pub mod Example

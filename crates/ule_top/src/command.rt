@@ -1,6 +1,7 @@
 ghost use Rattle.std.specs.Prelude.{map, string_bytes};
 ghost use Rattle.ule_top.specs.Answers.{Answers};
 
+use crate::check::check;
 use crate::output::USAGE;
 use crate::rounds::run;
 use crate::summary::summarize;
@@ -26,6 +27,7 @@ pub fn top<S: Source, K: Sink>(alloc: Global, words: &[String], src: &mut S, out
     match task_of(words) {
         None => USAGE,
         Some(Task::Run) => run(alloc, src, out),
+        Some(Task::Check) => check(alloc, src, out),
         Some(Task::Gen(n)) => summarize(alloc, n, out),
     }
 }

@@ -36,7 +36,7 @@ pub enum Unread {
 }
 
 /// Why a reader of a scenario gave no setup.
-fn why_refused(fault: ScenarioFault) -> Unread
+pub fn why_refused(fault: ScenarioFault) -> Unread
     ensures { (told : Result Reading Refusal) → IsFaultFor fault told → IsToldAs (Err result) told }
 {
     match fault {

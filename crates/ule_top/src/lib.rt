@@ -5,6 +5,7 @@
 pub use command::top;
 pub use example::{lost_turn_is_traced, one_yield_is_traced};
 
+mod check;
 mod command;
 mod example;
 mod input;
@@ -12,3 +13,4 @@ mod output;
 mod rounds;
 mod summary;
 mod task;
+mod verdict_line;

@@ -22,6 +22,9 @@ pub const WRITE_FAULT: u8 = 4;
 /// There was no memory.
 pub const NO_MEMORY: u8 = 5;
 
+/// The text behind the scenario is not the trace of a whole legal history.
+pub const ILLEGAL: u8 = 6;
+
 /// Flushes a text that was written whole, and gives `good` if that is done too.
 pub fn finish<K: Sink>(written: Result<(), WriteFault>, good: u8, out: &mut K) -> u8
     requires { good ≢ WRITE_FAULT }

@@ -1,9 +1,14 @@
 use Rattle.std.proofs.Common.{sym}
+use Rattle.ule_top.proofs.CheckLaws.{check_is_known}
 use Rattle.ule_top.proofs.MakingLaws.{makes, making_is_known}
 use Rattle.ule_top.proofs.TaskLaws.{answers_task}
 use Rattle.ule_top.specs.Summary.{summary_text}
-use Rattle.ule_top.specs.declared.task.Task.TheVariants.{Gen}
+use Rattle.ule_top.specs.declared.task.Task.TheVariants.{Check, Gen}
 use Rattle.ule_top.proofs.command.top.Goals as goal
+
+pub returns-in-Some-Check : goal.returns-in-Some-Check
+returns-in-Some-Check g c =
+    answers_task _ Check _ _ _ _ _ (sym (rw c.in-Some-Check.field-0-is at c.in-Some-Check.ensures.value)) (check_is_known _ _ _ _ _ c.check.ensures) c.check.ensures
 
 pub returns-in-Some-Gen : goal.returns-in-Some-Gen
 returns-in-Some-Gen g c =

@@ -1,0 +1,11 @@
+use Rattle.std.proofs.Common.{refl}
+use Rattle.ule_top.specs.VerdictLine.{found_text}
+use Rattle.ule_trace.specs.ReplyText.{reply_text}
+use Rattle.ule_top.proofs.VerdictLines.{wrote_part, wrote_then}
+use Rattle.ule_top.proofs.verdict_line.write_pair.Goals as goal
+
+pub returns-in-Ok : goal.returns-in-Ok
+returns-in-Ok g c = wrote_then _ _ _ (reply_text c.args.expected.now) (found_text c.args.found.now) _ _ refl c.in-Ok.ensures c.write_found.ensures
+
+pub returns-in-Err : goal.returns-in-Err
+returns-in-Err g c = wrote_part _ _ (reply_text c.args.expected.now) (found_text c.args.found.now) _ c.in-Err.fault refl c.in-Err.ensures
