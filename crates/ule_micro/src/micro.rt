@@ -85,6 +85,31 @@ impl<P: Parts> Micro<P> {
         let _ = &self.ticket;
     }
 
+    /// The number of workers.
+    pub fn workers(&self) -> u8
+        ensures { result ≡ length self.now.state.seats }
+    {
+        self.seats.len() as u8
+    }
+
+    /// The parts that it was started with.
+    pub fn parts(&self) -> &P
+        ensures { result.now ≡ self.now.parts }
+    {
+        &self.parts
+    }
+
+    /// That the state agrees, and that the play so far is legal, as every state of a step model does.
+    /// It does nothing when it runs.
+    pub fn keeps_agreement(&self)
+        ensures workers { length self.now.state.seats ≡ length (P.means self.now.parts).owns }
+        ensures agrees { LockAgreement (P.means self.now.parts) (P.orders self.now.parts) self.now.state }
+        ensures legal { HasLegalPlay (P.means self.now.parts) (P.orders self.now.parts) self.now.state }
+    {
+        // The read tells the proof what the state keeps.
+        let _ = &self.ticket;
+    }
+
     /// The worker that holds a lock; none exactly where the lock word is free.
     pub fn holder(&self, l: LockId) -> Option<u8>
         ensures { result ≡ lock_holder self.now.state l }

@@ -37,6 +37,14 @@ impl Program {
         }
     }
 
+    /// The worker, 0..=15.
+    #[inline]
+    pub fn worker(&self) -> u8
+        ensures { result ≡ self.now.worker }
+    {
+        self.own.worker.0
+    }
+
     /// Begins a command.
     #[inline]
     pub fn begin(&mut self, c: &Command)

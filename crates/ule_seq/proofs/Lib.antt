@@ -9,3 +9,6 @@ pub mod StepPromises
 pub mod RefusalLaws
 pub mod FinalLaws
 pub mod PlayLaws
+pub mod OpeningWords
+pub mod PartLaws
+pub mod PlaceLaws

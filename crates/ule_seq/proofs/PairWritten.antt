@@ -34,7 +34,7 @@ pub done_is : (new : WorldValue) (reply : Reply) (made : WorldValue × Reply) �
 done_is new reply made value_is reply_is = ap (λ (x : WorldValue). (x, reply)) value_is ∙ ap (λ (x : Reply). (made.0, x)) reply_is
 
 -- an event that takes the locks of two CPUs is a move
-move_from : (e : Event) (a b : ℕ) → two_locks (locking e) ≡ Some (a, b) → (why : MoveWhy) × (e ≡ Move a b why)
+pub move_from : (e : Event) (a b : ℕ) → two_locks (locking e) ≡ Some (a, b) → (why : MoveWhy) × (e ≡ Move a b why)
 move_from (Move c d why) a b two = (why, ap (λ (p : ℕ × ℕ). Move p.0 p.1 why) (same_Some (c, d) (a, b) two))
 move_from (Tick c) a b two = absurd (none-some (a, b) two)
 move_from (Switch c why) a b two = absurd (none-some (a, b) two)

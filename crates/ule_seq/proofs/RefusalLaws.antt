@@ -1,5 +1,5 @@
 -- A refusal leaves the scheduler as it was.
-use Rattle.std.proofs.Common.{◌≡◌, ℕ, Bool, true, false, if◌then◌else◌, List, [], ◌∷◌, slice_get, slice_index_or, slice_set, Option, Some, None, option_and_then, refl, sym, ◌∙◌, ap}
+use Rattle.std.proofs.Common.{◌≡◌, ℕ, Bool, true, false, if◌then◌else◌, List, [], slice_get, slice_set, Option, Some, None, option_and_then, refl, sym, ◌∙◌, ap}
 use Rattle.std.specs.Prelude.{nat_lt}
 use Rattle.std.specs.Option.{option_map}
 use Rattle.std.proofs.lemmas.Bool.{true≢false}
@@ -16,11 +16,10 @@ use Rattle.ule_score.specs.declared.record.Why.{Why}
 use Rattle.ule_threads.specs.declared.standing.Standing.{Standing}
 use Rattle.ule_types.specs.declared.event.Event.{Event}
 use Rattle.ule_types.specs.declared.event.Event.TheVariants.{Tick, Switch, Drop, Bed, Wake, Look, Land, Move, Lend, Unlend, Renice, Hatch, Fork, Return, Exit, Bury, Inherit}
-use Rattle.ule_types.specs.declared.event.MoveWhy.{MoveWhy}
 use Rattle.ule_types.specs.declared.event.Reply.{Reply}
 use Rattle.ule_types.specs.declared.event.Reply.TheVariants.{Bedded, Hatched, Returned, Buried, Unmarked}
 use Rattle.ule_model.specs.Action.{Action, PairAction, Part, answers}
-use Rattle.ule_model.specs.Actions.{Seen, action_of, change_action, change_action_at, drop_action, exit_action, fork_action, give_way_action, given_action, go_action, is_refused, land_action, move_action, note_action, pair_action_of, refused_action, requeue_action, switch_action, tick_action, unborn_action, unborn_answer, wake_action, wake_action_at}
+use Rattle.ule_model.specs.Actions.{Seen, action_of, change_action, change_action_at, drop_action, exit_action, fork_action, give_way_action, given_action, go_action, is_refused, land_action, note_action, pair_action_of, refused_action, requeue_action, tick_action, unborn_action, unborn_answer, wake_action, wake_action_at}
 use Rattle.ule_model.specs.ActionStep.{PairStepped, Stepped, named_held, seen_in, seen_off}
 use Rattle.ule_model.specs.ActionValue.{parts_in_slots, parts_on_cpu}
 use Rattle.ule_model.specs.CpuValue.{CpuValue}

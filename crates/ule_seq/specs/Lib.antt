@@ -6,3 +6,6 @@ pub mod Readiness
 pub mod Promises
 pub mod Outcomes
 pub mod Playing
+pub mod Parts
+pub mod PartLaws
+pub mod StepStates

@@ -2,6 +2,8 @@
 //! a setup in rounds.
 #![tactic(auto)]
 
+pub use own::SchedOwn;
+pub use parts::SchedParts;
 pub use records::{STARTING_TIME, record_of};
 pub use rounds::{GREATEST_ROUNDS, play};
 pub use ule_program::Program;
@@ -11,8 +13,11 @@ pub mod finals;
 pub mod hand;
 pub mod lock;
 pub mod opening;
+pub mod own;
 pub mod pair;
+pub mod parts;
 pub mod records;
 pub mod rounds;
 pub mod start;
+mod words;
 pub mod world;

@@ -198,7 +198,7 @@ fn two_locks(e: &Event) -> Option<(u8, u8)>
 }
 
 /// Whether this is the thread in a hand.
-fn holds(held: Option<ThreadRecord>, t: ThreadId) -> bool
+pub(crate) fn holds(held: Option<ThreadRecord>, t: ThreadId) -> bool
     ensures { result ≡ is_held held t }
 {
     match held {
@@ -208,7 +208,7 @@ fn holds(held: Option<ThreadRecord>, t: ThreadId) -> bool
 }
 
 /// The thread that an event seeks under the lock of its place.
-fn sought_by(e: &Event) -> Option<ThreadId>
+pub(crate) fn sought_by(e: &Event) -> Option<ThreadId>
     ensures { result ≡ sought_by e.now }
 {
     match *e {

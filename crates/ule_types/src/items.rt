@@ -68,3 +68,16 @@ impl<T: Drop> Items<T> {
         self.items.as_slice()
     }
 }
+
+impl<T: Copy + Drop> Items<T> {
+    /// An equal list, which takes its memory from `alloc`.
+    pub fn copy(&self, alloc: Global) -> Result<Self, Memory>
+        ensures { IfOk result (λ s. s ≡ self.now) }
+    {
+        let mut copy = Items::empty(alloc)?;
+        for x in self.items.as_slice() {
+            copy.push(*x)?;
+        }
+        Ok(copy)
+    }
+}

@@ -77,4 +77,18 @@ impl Scripts {
     {
         self.scripts[usize::from(worker)].as_slice()
     }
+
+    /// Equal scripts, which take their memory from `alloc`.
+    pub fn copy(&self, alloc: Global) -> Result<Self, Memory>
+        ensures { IfOk result (λ s. s ≡ self.now) }
+    {
+        let mut scripts = Vec::new(alloc);
+        for script in self.scripts.as_slice() {
+            let copy = script.copy(alloc)?;
+            if scripts.push(copy).is_err() {
+                return Err(Memory);
+            }
+        }
+        Ok(Scripts { scripts })
+    }
 }

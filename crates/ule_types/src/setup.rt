@@ -1,7 +1,10 @@
+ghost use Rattle.std.specs.Prelude.{◌≡◌, IfOk};
 ghost use Rattle.ule_types.specs.Rules.{KeepsRules};
 
 use crate::items::Items;
 use crate::scripts::Scripts;
+use std::alloc::Global;
+use ule_io::Memory;
 use ule_prio::{Cpu, Nice, Priority, ThreadId};
 use ule_score::Settings;
 use ule_topo::GroupLine;
@@ -54,4 +57,27 @@ pub struct Setup {
     pub scripts: Scripts,
     pub turns: Turns,
     ghost rules: { KeepsRules settings jitter cpus groups threads unborn scripts turns },
+}
+
+impl Setup {
+    /// An equal setup, which takes its memory from `alloc`. Without that memory there is none.
+    pub fn copy(&self, alloc: Global) -> Result<Setup, Memory>
+        ensures { IfOk result (λ s. s ≡ self.now) }
+    {
+        let groups = self.groups.copy(alloc)?;
+        let threads = self.threads.copy(alloc)?;
+        let unborn = self.unborn.copy(alloc)?;
+        let scripts = self.scripts.copy(alloc)?;
+        let turns = self.turns.copy(alloc)?;
+        Ok(Setup {
+            settings: self.settings,
+            jitter: self.jitter,
+            cpus: self.cpus,
+            groups,
+            threads,
+            unborn,
+            scripts,
+            turns,
+        })
+    }
 }
