@@ -1,0 +1,4 @@
+pub mod Listing
+pub mod DeclaredThreads
+pub mod Opened
+pub mod Turned
