@@ -12,3 +12,4 @@ pub mod PlayLaws
 pub mod OpeningWords
 pub mod PartLaws
 pub mod PlaceLaws
+pub mod StepLaws

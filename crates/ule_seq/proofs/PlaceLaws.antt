@@ -98,7 +98,7 @@ place_shown v w t shows = sym (line_tells v t) ∙ (ap told_place (line_shown v 
 
 -- ---- a declared thread is somewhere
 
-map_map : (ps : List (Seat Worker Event Reply)) → map (λ c. c.own.hand) (map course_of_seat ps) ≡ map (λ p. p.own.hand) ps
+pub map_map : (ps : List (Seat Worker Event Reply)) → map (λ c. c.own.hand) (map course_of_seat ps) ≡ map (λ p. p.own.hand) ps
 map_map [] = refl
 map_map (p ∷ ps) = ap (λ hs. p.own.hand ∷ hs) (map_map ps)
 

@@ -4,6 +4,7 @@
 
 pub use own::SchedOwn;
 pub use parts::SchedParts;
+pub use places::{is_legal_so_far, place, place_in};
 pub use records::{STARTING_TIME, record_of};
 pub use rounds::{GREATEST_ROUNDS, play};
 pub use ule_program::Program;
@@ -16,6 +17,7 @@ pub mod opening;
 pub mod own;
 pub mod pair;
 pub mod parts;
+pub mod places;
 pub mod records;
 pub mod rounds;
 pub mod start;

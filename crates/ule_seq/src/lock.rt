@@ -1,4 +1,4 @@
-ghost use Rattle.std.specs.Prelude.{◌≡◌, ℕ, ◌%◌, ◌<◌, ◌≤◌, ◌^◌, not, ◌==◌, Option, None, Some, IfSome, IsNone, IsSome, IsTrue};
+ghost use Rattle.std.specs.Prelude.{◌≡◌, ℕ, ◌%◌, ◌<◌, ◌≤◌, ◌^◌, not, ◌==◌, Option, None, Some, IfSome, IsNone, IsSome, IsTrue, is_some};
 ghost use Rattle.std.specs.Option.{option_map};
 ghost use Rattle.ule_model.specs.CpuChange.{value_changed};
 ghost use Rattle.ule_model.specs.CpuValue.{IsNoEarlier, thread_in, value_taken};
@@ -15,6 +15,7 @@ ghost use Rattle.ule_score.specs.Settings.{are_settings};
 ghost use Rattle.ule_score.specs.declared.record.ThreadRecord.{ThreadRecord};
 ghost use Rattle.ule_threads.specs.declared.standing.Standing.{Standing};
 ghost use Rattle.ule_seq.specs.Outcomes.{queue_line};
+ghost use Rattle.ule_seq.specs.StepStates.{place_under};
 ghost use Rattle.ule_sleep.specs.Chain.{standing_in};
 ghost use Rattle.ule_sleep.specs.Limbo.{HasUnborn};
 ghost use Rattle.ule_types.specs.declared.event.Reply.TheVariants.{Seen};
@@ -484,6 +485,16 @@ fn standing_line(found: Option<Standing>, t: ThreadId) -> Option<ThreadLine>
     }
 }
 
+/// Where a thread stands that stands on no CPU.
+fn standing_place(found: Option<Standing>) -> Option<Place>
+    ensures { result ≡ option_map (λ s. s.place) found }
+{
+    match found {
+        Some(s) => Some(s.place),
+        None => None,
+    }
+}
+
 impl Guarded {
     /// What the queue lock of a CPU guards.
     pub fn queue(tdq: Tdq) -> Guarded
@@ -530,6 +541,19 @@ impl Guarded {
             Contents::Chain(chain) => chain.standing(t).is_some(),
             Contents::Limbo(limbo) => limbo.standing(t).is_some(),
             Contents::Nothing => false,
+        }
+    }
+
+    /// Where a thread that is under this lock runs, waits, sleeps or rests.
+    pub fn place_of(&self, t: ThreadId) -> Option<Place>
+        ensures place { result ≡ place_under self.now t }
+        ensures found { is_some result ≡ has_under self.now t }
+    {
+        match &self.contents {
+            Contents::Queue(tdq) => tdq.place_of(t),
+            Contents::Chain(chain) => standing_place(chain.standing(t)),
+            Contents::Limbo(limbo) => standing_place(limbo.standing(t)),
+            Contents::Nothing => None,
         }
     }
 

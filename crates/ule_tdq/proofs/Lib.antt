@@ -6,3 +6,4 @@ pub mod MovableLaws
 pub mod PickLaws
 pub mod StandsLaws
 pub mod LookRows
+pub mod PlacedLaws

@@ -1,4 +1,4 @@
-ghost use Rattle.std.specs.Prelude.{◌≡◌, ◌≢◌, ℕ, ◌≤◌, ◌<◌, ◌^◌, false, None, Some, IfOk, IfSome, IsSome, IsTrue};
+ghost use Rattle.std.specs.Prelude.{◌≡◌, ◌≢◌, ℕ, ◌≤◌, ◌<◌, ◌^◌, false, None, Some, IfOk, IfSome, IsSome, IsTrue, is_some};
 ghost use Rattle.ule_score.specs.Settings.{are_settings};
 ghost use Rattle.std.specs.Option.{option_map};
 ghost use Rattle.ule_score.specs.Bounds.{KeepsBounds};
@@ -418,8 +418,10 @@ impl Tdq {
     #[tactic(auto, using(crate::proofs::StandsLaws::place_tells))]
     pub fn place_of(&self, t: ThreadId) -> Option<Place>
         ensures value { result ≡ option_map (λ at. at.0) (value_place self.now t) }
+        ensures found { is_some result ≡ is_some (thread_in self.now t) }
         ensures stands { Tells self.now result (place_on self.now.cpu t) }
     {
+        let _ = &self.load; // so that what the CPU keeps is known
         self.placed(t).map(|at| at.0)
     }
 
