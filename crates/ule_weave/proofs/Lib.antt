@@ -2,3 +2,4 @@ pub mod Listing
 pub mod DeclaredThreads
 pub mod Opened
 pub mod Turned
+pub mod Woven

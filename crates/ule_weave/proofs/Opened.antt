@@ -3,7 +3,6 @@ use Rattle.std.proofs.Common.{◌≡◌, ℕ, zero, suc, ◌+◌, ◌≤◌, ◌
 use Rattle.std.specs.Prelude.{slice_index_or}
 use Rattle.std.specs.List.{range_with_len}
 use Rattle.std.specs.Option.{option_map}
-use Rattle.std.proofs.lemmas.List.{length-replicate}
 use Rattle.std.proofs.lemmas.List.FromFn.{length-map-range_with_len}
 use Rattle.std.proofs.lemmas.Option.{none-some, same_Some}
 use Rattle.ule_types.specs.declared.setup.Setup.{Setup}
@@ -22,15 +21,20 @@ use Rattle.ule_micro.proofs.Turning.{worker_turn_kept}
 use Rattle.ule_parts.specs.Scheduler.{orders_of, sched_means}
 use Rattle.ule_parts.proofs.Lawful.{is_lawful}
 use Rattle.ule_parts.proofs.Legality.{plays_are_legal}
-use Rattle.ule_parts.proofs.Orders.{are_orders, are_scripts}
+use Rattle.ule_parts.proofs.Orders.{are_orders, are_scripts, many_owns}
 use Rattle.ule_weave.specs.Start.{seats_from, started}
 use Rattle.ule_weave.specs.WeaveText.{IsSound, IsSoundThroughout, SchedState, opened, turned}
 
 -- a free lock among so many
-free_at : (n l : ℕ) → slice_index_or (replicate n (None {ℕ})) l None ≡ None
-free_at zero l = refl
-free_at (suc n) zero = refl
-free_at (suc n) (suc l) = free_at n l
+free_at : (n l : ℕ) (free : Option ℕ) → slice_index_or (replicate n free) l free ≡ free
+free_at zero l free = refl
+free_at (suc n) zero free = refl
+free_at (suc n) (suc l) free = free_at n l free
+
+-- so many locks
+free_many : (n : ℕ) (free : Option ℕ) → length (replicate n free) ≡ n
+free_many zero free = refl
+free_many (suc n) free = ap suc (free_many n free)
 
 -- what a function gives of a number, among those from this one on
 made_at : {X : Type 0} (f : ℕ → X) (k n i : ℕ) → i < n → slice_get (map f (range_with_len k n)) i ≡ Some (f (k + i))
@@ -57,14 +61,14 @@ module _ {H O G E R C : Type 0} (m : Means H O G E R C) (orders : ℕ → List C
   -- the state at the start is one
   pub is_start : IsStart m orders (started m orders)
   is_start = record {
-    locks = λ l. free_at LOCKS l;
-    words = λ t low. index_get (map (λ u. Lock (m.word u)) (range_with_len 0 THREADS)) t (Lock LIMBO) (Lock (m.word t)) (made_at (λ u. Lock (m.word u)) 0 THREADS t low);
+    locks = λ l. free_at LOCKS l None;
+    words = λ t low. index_get (map (λ u. Lock (m.word u)) (range_with_len 0 THREADS)) t (Lock LIMBO) (Lock (m.word t)) (made_at (λ u. Lock (m.word u)) 0 THREADS t low ∙ ap (λ u. Some (Lock (m.word u))) (let e : 0 + t ≡ t = omega arith in e));
     ticket = refl;
     now = refl;
     values = refl;
     history = refl;
     workers = many_seats 0 m.owns;
-    seats = λ w o at. seat_at 0 w m.owns o at;
+    seats = λ w o at. seat_at 0 w m.owns o at ∙ ap (λ u. Some (seated m (next_command m o 0 (orders u)) 0 0)) (let e : 0 + w ≡ w = omega arith in e);
   }
 
 -- the state at the start is what a start tells
@@ -88,16 +92,24 @@ start_is_started {H} {O} {G} {E} {R} {C} m orders x st locks words = λ i. recor
     all_named : x.words ≡ map (λ u. Lock (m.word u)) (range_with_len 0 THREADS)
     all_named = same_list x.words (map (λ u. Lock (m.word u)) (range_with_len 0 THREADS)) (words ∙ sym (length-map-range_with_len (λ u. Lock (m.word u)) 0 THREADS))
         (λ t low. let h : t < THREADS = omega arith in let w = something x.words t low in
-        w.1 ∙ (ap Some (sym (index_get x.words t (Lock LIMBO) w.0 w.1) ∙ st.words t h) ∙ sym (made_at (λ u. Lock (m.word u)) 0 THREADS t h)))
+        let zero_on : 0 + t ≡ t = omega arith in
+        w.1 ∙ (ap Some (sym (index_get x.words t (Lock LIMBO) w.0 w.1) ∙ (st.words t h ∙ ap (λ u. Lock (m.word u)) (sym zero_on))) ∙ sym (made_at (λ u. Lock (m.word u)) 0 THREADS t h)))
 
     all_seats : x.seats ≡ seats_from m orders 0 m.owns
     all_seats = same_list x.seats (seats_from m orders 0 m.owns) (st.workers ∙ sym (many_seats m orders 0 m.owns))
-        (λ w low. let h : w < length m.owns = (let a = st.workers in omega arith) in let o = something m.owns w h in st.seats w o.0 o.1 ∙ sym (seat_at m orders 0 w m.owns o.0 o.1))
+        (λ w low. let h : w < length m.owns = (let a = st.workers in omega arith) in let o = something m.owns w h in
+        let zero_on : 0 + w ≡ w = omega arith in
+        st.seats w o.0 o.1 ∙ (ap (λ u. Some (seated m (next_command m o.0 0 (orders u)) 0 0)) (sym zero_on) ∙ sym (seat_at m orders 0 w m.owns o.0 o.1)))
 
 -- a setup's state at the start is what a start tells
 pub start_is_opened : (s : Setup) (x : SchedState) → IsStart (sched_means s) (orders_of s) x → length x.locks ≡ LOCKS → length x.words ≡ THREADS → x ≡ opened s
 unfolding opened
 start_is_opened s x st locks words = start_is_started (sched_means s) (orders_of s) x st locks words
+
+-- so many workers at the start
+pub opened_workers : (s : Setup) → length (opened s).seats ≡ s.cpus
+unfolding opened
+opened_workers s = many_seats (sched_means s) (orders_of s) 0 (sched_means s).owns ∙ many_owns s 0 s.cpus
 
 -- ---- every state is sound
 
@@ -106,7 +118,7 @@ opened_kept : (s : Setup) → IsKeptState (sched_means s) (orders_of s) (opened 
 unfolding opened
 opened_kept s =
     start_kept (sched_means s) (orders_of s) (is_lawful s) (are_orders s (orders_of s) (are_scripts s)) (opened s) (is_start (sched_means s) (orders_of s))
-    (length-replicate LOCKS None) (length-map-range_with_len (λ u. Lock ((sched_means s).word u)) 0 THREADS)
+    (free_many LOCKS None) (length-map-range_with_len (λ u. Lock ((sched_means s).word u)) 0 THREADS)
 
 -- a state that keeps what the step model keeps is sound
 kept_sound : (s : Setup) (x : SchedState) → IsKeptState (sched_means s) (orders_of s) x → IsSound s x

@@ -53,33 +53,33 @@ module _ {H O G E R C : Type 0} (m : Means H O G E R C) (orders : ℕ → List C
   commit_tells s w p a held now (Some after) k e = let is : s.ticket + 1 ≡ k = cc in (omega arith, omega arith)
 
   open_tells : (s : State O G E R) (w : ℕ) (p : Seat O E R) (a : E) (needs : Needs) → TellsItsEntry (open_event m s w p a needs)
-  open_tells s w p a (one l) = take_tells s w p l (phase.Event a (progress.Locked (One l))) (lock_holder s l)
-  open_tells s w p a (both l n) = take_tells s w p l (phase.Event a (progress.Half l n)) (lock_holder s l)
-  open_tells s w p a (lock_of t) = read_tells s w p a t (word_of s t)
+  open_tells s w p a (one l) k e = take_tells s w p l (phase.Event a (progress.Locked (One l))) (lock_holder s l) k e
+  open_tells s w p a (both l n) k e = take_tells s w p l (phase.Event a (progress.Half l n)) (lock_holder s l) k e
+  open_tells s w p a (lock_of t) k e = read_tells s w p a t (word_of s t) k e
 
   approach_tells : (s : State O G E R) (w : ℕ) (p : Seat O E R) (a : E) (way : Progress) → TellsItsEntry (approach m s w p a way)
-  approach_tells s w p a progress.Open = open_tells s w p a (m.needs a)
-  approach_tells s w p a (progress.Named t l) = take_tells s w p l (phase.Event a (progress.Taken t l)) (lock_holder s l)
+  approach_tells s w p a progress.Open k e = open_tells s w p a (m.needs a) k e
+  approach_tells s w p a (progress.Named t l) k e = take_tells s w p l (phase.Event a (progress.Taken t l)) (lock_holder s l) k e
   approach_tells s w p a (progress.Taken t l) k e = absurd (cc)
   approach_tells s w p a (progress.Stale l) k e = absurd (cc)
-  approach_tells s w p a (progress.Half l n) = take_tells s w p n (phase.Event a (progress.Locked (Two l n))) (lock_holder s n)
+  approach_tells s w p a (progress.Half l n) k e = take_tells s w p n (phase.Event a (progress.Locked (Two l n))) (lock_holder s n) k e
   approach_tells s w p a (progress.Locked held) k e = absurd (cc)
-  approach_tells s w p a (progress.Timed held now) = commit_tells s w p a held now (effect_under m w a now (m.hand p.own) held s.values)
+  approach_tells s w p a (progress.Timed held now) k e = commit_tells s w p a held now (effect_under m w a now (m.hand p.own) held s.values) k e
 
   leave_tells : (s : State O G E R) (w : ℕ) (p : Seat O E R) (reply : R) (now : ℕ) (held : HeldLocks) (o : Option WordChange) → TellsItsEntry (leave m orders s w p reply now held o)
-  leave_tells s w p reply now held (Some change) = store_tells s w p change
+  leave_tells s w p reply now held (Some change) k e = store_tells s w p change k e
   leave_tells s w p reply now (One l) None k e = absurd (cc)
   leave_tells s w p reply now (Two l n) None k e = absurd (cc)
 
   step_tells : (s : State O G E R) (w : ℕ) (p : Seat O E R) (at : Phase E R) → TellsItsEntry (step_of m orders s w p at)
   step_tells s w p phase.Finished k e = absurd (cc)
   step_tells s w p (phase.Advance n) k e = absurd (cc)
-  step_tells s w p (phase.Event a way) = approach_tells s w p a way
-  step_tells s w p (phase.Leaving reply now held) = leave_tells s w p reply now held p.pending
+  step_tells s w p (phase.Event a way) k e = approach_tells s w p a way k e
+  step_tells s w p (phase.Leaving reply now held) k e = leave_tells s w p reply now held p.pending k e
 
   by_tells : (s : State O G E R) (w : ℕ) (o : Option (Seat O E R)) → TellsItsEntry (turn_by m orders s w o)
   by_tells s w None k e = absurd (cc)
-  by_tells s w (Some p) = step_tells s w p p.phase
+  by_tells s w (Some p) k e = step_tells s w p p.phase k e
 
   -- so does each turn
   pub turn_tells : (s : State O G E R) (w : ℕ) → TellsItsEntry (turn_of_worker m orders s w)

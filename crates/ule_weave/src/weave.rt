@@ -3,11 +3,10 @@ ghost use Rattle.std.specs.List.{filter_map, range_with_len};
 ghost use Rattle.ule_io.specs.Sink.{WroteWhole};
 ghost use Rattle.ule_micro.specs.States.{lock_holder, word_of};
 ghost use Rattle.ule_parts.specs.Workers.{declared_ids_of};
-ghost use Rattle.ule_seq.specs.StepStates.{place_at, scheduler_in};
 ghost use Rattle.ule_trace.specs.Line.{line_text, lines_text};
 ghost use Rattle.ule_types.specs.Commands.{is_among};
 ghost use Rattle.ule_weave.specs.TurnText.{threads_words, TellsEntry};
-ghost use Rattle.ule_weave.specs.WeaveText.{declared_in_order, places_in, done_words, turn_lines, weave_text};
+ghost use Rattle.ule_weave.specs.WeaveText.{IsSoundThroughout, declared_in_order, done_words, opened, places_in, turn_lines, weave_text};
 
 use crate::declared::declared_threads;
 use crate::line::spell_turn;
@@ -18,6 +17,7 @@ use ule_io::{Memory, Sink, WriteFault, write_all};
 use ule_micro::{Micro, Turn};
 use ule_prio::ThreadId;
 use ule_seq::SchedParts;
+use ule_seq::places::place;
 use ule_trace::held::{CAPACITY, Held};
 use ule_types::Setup;
 
@@ -59,7 +59,8 @@ impl Weave {
     /// nothing is flushed. Where a write fails or takes no byte, a front of the text was taken.
     pub fn write<K: Sink>(self, s: &Setup, out: &mut K) -> Result<(), WriteFault>
         requires { self ≡ s.now }
-        ensures { WroteWhole (K.state out.old) (K.state out.new) (weave_text s.now) result }
+        ensures written { WroteWhole (K.state out.old) (K.state out.new) (weave_text s.now) result }
+        ensures sound { IsSoundThroughout s.now (opened s.now) s.now.turns }
     {
         let Weave { mut micro, threads } = self;
         let mut held = Held::new();
@@ -109,16 +110,6 @@ fn spell_threads(held: &mut Held, m: &Micro<SchedParts>, threads: &[ThreadId])
         any = true;
     }
     spell_end(held, any);
-}
-
-fn place(m: &Micro<SchedParts>, t: ThreadId) -> ule_score::Place
-    requires { is_among (declared_ids_of m.now.parts) t ≡ true }
-    ensures stands { place_at (scheduler_in m.now) t ≡ Some result }
-    ensures world { result ≡ result }
-{
-    let _ = m;
-    let _ = t;
-    ule_score::Place::Unborn
 }
 
 /// Appends the last line: how many turns there were, and how many entries they made.

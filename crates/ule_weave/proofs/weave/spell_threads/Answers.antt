@@ -1,6 +1,8 @@
-use Rattle.std.proofs.Common.{◌≡◌, ap, ◌∙◌, ◌++◌, [], ◌∷◌, codes, length, length-append, arith}
+use Rattle.std.proofs.Common.{◌≡◌, true, sym, subst, ap, ◌∙◌, ◌++◌, [], ◌∷◌, codes, length, length-append, arith}
 use Rattle.ule_micro.specs.States.{word_of}
+use Rattle.ule_parts.specs.Workers.{declared_ids_of}
 use Rattle.ule_trace.specs.Line.{spaced}
+use Rattle.ule_types.specs.Commands.{is_among}
 use Rattle.ule_weave.specs.TurnText.{thread_word}
 use Rattle.ule_weave.specs.WeaveText.{places_in}
 use Rattle.ule_weave.proofs.Listing.{listed_none, thread_more, threads_end}
@@ -10,7 +12,7 @@ pub loop-t-init : goal.loop-t-init
 loop-t-init c = record { listed = listed_none c.args.held.now (codes "threads") c.text.new.self c.text.ensures; room = omega (arith, simp length-append at (ap length c.text.ensures)) }
 
 pub place-requires : goal.place-requires
-place-requires c = rw c.t-item.is (c.requires.declared c.loop-t.t-index c.t-item.result c.loop-t-test.true)
+place-requires c = record { declared = subst (λ t. is_among (declared_ids_of c.args.m.now.parts) t ≡ true) (sym c.t-item.is) (c.requires.declared c.loop-t.t-index c.t-item.result c.loop-t-test.true) }
 
 pub loop-t-preserved : goal.loop-t-preserved
 loop-t-preserved c = record {
