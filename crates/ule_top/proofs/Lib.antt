@@ -1,4 +1,9 @@
-pub mod Answering
+pub mod TaskLaws
+pub mod WritingLaws
+pub mod InputLaws
+pub mod MakingLaws
+pub mod RunLaws
+pub mod CountLaws
 pub mod Tracing
 pub mod YieldRow
 pub mod LostTurnRow

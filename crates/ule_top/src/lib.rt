@@ -7,3 +7,8 @@ pub use example::{lost_turn_is_traced, one_yield_is_traced};
 
 mod command;
 mod example;
+mod input;
+mod output;
+mod rounds;
+mod summary;
+mod task;
