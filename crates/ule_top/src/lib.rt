@@ -12,3 +12,4 @@ mod output;
 mod rounds;
 mod summary;
 mod task;
+mod weave;

@@ -13,6 +13,8 @@ const MOST: u64 = 1000;
 pub enum Task {
     /// To play a scenario in rounds and to write its trace.
     Run,
+    /// To make the turns of a scenario one after another, and to write what each did and left.
+    Weave,
     /// To play the setup that this number makes, 1..=1000, and to write one line of counts.
     Gen(u32),
 }
@@ -48,6 +50,9 @@ fn lone_task(name: &str) -> Option<Task>
 {
     if name == "run" {
         return Some(Task::Run);
+    }
+    if name == "weave" {
+        return Some(Task::Weave);
     }
     None
 }
