@@ -1,21 +1,18 @@
 -- The state at the start as a function, and that it and each state after it is sound.
-use Rattle.std.proofs.Common.{◌≡◌, ℕ, zero, suc, ◌+◌, ◌≤◌, ◌<◌, List, [], ◌∷◌, ◌++◌, map, length, replicate, Option, Some, None, slice_get, refl, sym, ap, ◌∙◌, subst, arith}
+use Rattle.std.proofs.Common.{◌≡◌, ℕ, zero, suc, ◌+◌, ◌<◌, List, [], ◌∷◌, map, length, replicate, Option, Some, None, slice_get, refl, sym, ap, ◌∙◌, arith}
 use Rattle.std.specs.Prelude.{slice_index_or}
 use Rattle.std.specs.List.{range_with_len}
-use Rattle.std.specs.Option.{option_map}
 use Rattle.std.proofs.lemmas.List.FromFn.{length-map-range_with_len}
 use Rattle.std.proofs.lemmas.Option.{none-some, same_Some}
 use Rattle.ule_types.specs.declared.setup.Setup.{Setup}
 use Rattle.ule_micro.specs.declared.locks.TheConstants.{LIMBO, LOCKS, THREADS}
-use Rattle.ule_micro.specs.declared.seat.Seat.{Seat}
-use Rattle.ule_micro.specs.declared.word.Word.{Word}
 use Rattle.ule_micro.specs.declared.word.Word.TheVariants.{Lock}
 use Rattle.ule_micro.specs.Kept.{IsKeptState}
 use Rattle.ule_micro.specs.Means.{Means}
-use Rattle.ule_micro.specs.States.{State, courses, word_of}
+use Rattle.ule_micro.specs.States.{State, courses}
 use Rattle.ule_micro.specs.Theorem.{IsStart}
 use Rattle.ule_micro.specs.Turns.{next_command, seated}
-use Rattle.ule_micro.proofs.Lists.{index_get, something, there}
+use Rattle.ule_micro.proofs.Lists.{index_get, something}
 use Rattle.ule_micro.proofs.Starting.{same_list, start_kept}
 use Rattle.ule_micro.proofs.Turning.{worker_turn_kept}
 use Rattle.ule_parts.specs.Scheduler.{orders_of, sched_means}

@@ -1,5 +1,5 @@
 -- What a turn tells and leaves: an entry that it is said to have made is there, and its lines stand before those to come.
-use Rattle.std.proofs.Common.{◌≡◌, ℕ, ◌+◌, ◌≤◌, ◌<◌, List, [], ◌∷◌, ◌++◌, Option, Some, None, refl, sym, ap, ◌∙◌, arith}
+use Rattle.std.proofs.Common.{◌≡◌, ℕ, ◌+◌, ◌≤◌, ◌<◌, List, ◌∷◌, ◌++◌, Option, Some, None, ap, ◌∙◌, arith}
 use Rattle.std.specs.Prelude.{slice_get}
 use Rattle.std.proofs.lemmas.List.Concat.{flat_map-append}
 use Rattle.ule_micro.specs.declared.entry.HeldLocks.{HeldLocks}
@@ -21,10 +21,7 @@ use Rattle.ule_micro.specs.Means.{Means, Needs, one, both, lock_of}
 use Rattle.ule_micro.specs.Standings.{Acted}
 use Rattle.ule_micro.specs.States.{State, lock_holder, word_of}
 use Rattle.ule_micro.specs.Turns.{approach, commit, first_read, leave, open_event, store, step_of, take, turn_by, turn_of_worker}
-use Rattle.ule_parts.specs.Scheduler.{orders_of, sched_means}
 use Rattle.ule_trace.specs.Line.{line_text, lines_text}
-use Rattle.ule_types.specs.declared.event.Event.{Event}
-use Rattle.ule_types.specs.declared.event.Reply.{Reply}
 use Rattle.ule_types.specs.declared.setup.Setup.{Setup}
 use Rattle.ule_weave.specs.WeaveText.{SchedState, lines_after, turn_lines, turned}
 

@@ -1,6 +1,6 @@
 -- How the weave text goes out, turn by turn.
-use Rattle.std.proofs.Common.{◌≡◌, ℕ, zero, suc, ◌+◌, ◌≤◌, ◌<◌, Bool, true, List, [], ◌∷◌, ◌++◌, codes, drop, get_or, length, Result, Ok, refl, sym, ap, ◌∙◌, subst, arith, append_assoc, append-nil}
-use Rattle.std.specs.Prelude.{IsTrue, nat_lt, ◌&&◌}
+use Rattle.std.proofs.Common.{◌≡◌, ℕ, zero, suc, ◌+◌, ◌≤◌, ◌<◌, true, List, [], ◌∷◌, ◌++◌, codes, drop, get_or, length, Result, Ok, refl, sym, ap, ◌∙◌, subst, arith, append_assoc, append-nil}
+use Rattle.std.specs.Prelude.{nat_lt}
 use Rattle.std.specs.List.{list_all}
 use Rattle.std.proofs.lemmas.Bool.{and_parts}
 use Rattle.std.proofs.lemmas.List.{drop_all, drop_more}
@@ -14,7 +14,7 @@ use Rattle.ule_trace.specs.Held.{Moves}
 use Rattle.ule_trace.specs.Line.{line_text, lines_text}
 use Rattle.ule_types.specs.declared.setup.Setup.{Setup}
 use Rattle.ule_weave.proofs.Turned.{lines_turned}
-use Rattle.ule_weave.specs.WeaveText.{SchedState, done_words, lines_after, opened, turn_lines, turned, weave_text}
+use Rattle.ule_weave.specs.WeaveText.{SchedState, done_words, lines_after, opened, turn_lines, weave_text}
 
 -- three lines in turn
 pub three_lines : (held a b c : List ℕ) (one two three : List (List ℕ)) → a ≡ held ++ line_text one → b ≡ a ++ line_text two → c ≡ b ++ line_text three → c ≡ held ++ lines_text (one ∷ two ∷ three ∷ [])
@@ -43,9 +43,9 @@ woven_on s p k x next turns did k0 k1 k2 held left new text same h moves more do
     let w = get_or turns k 0 in
     let made = made_room h moves in
     let rest : lines_text (lines_after s k x (drop k turns)) ≡ lines_text (turn_lines s (k + 1) w did next) ++ lines_text (lines_after s (k + 1) next (drop (k + 1) turns)) =
-        ap (λ ws. lines_text (lines_after s k x ws)) (drop_more turns k 0 more) ∙
-        lines_turned s k x next w (drop (k + 1) turns) did
-        (subst (λ q. (turn_of_worker (sched_means q) (orders_of q) x w).0 ≡ did) same does) (subst (λ q. (turn_of_worker (sched_means q) (orders_of q) x w).1 ≡ next) same leaves) in
+    ap (λ ws. lines_text (lines_after s k x ws)) (drop_more turns k 0 more) ∙
+    lines_turned s k x next w (drop (k + 1) turns) did
+    (subst (λ q. (turn_of_worker (sched_means q) (orders_of q) x w).0 ≡ did) same does) (subst (λ q. (turn_of_worker (sched_means q) (orders_of q) x w).1 ≡ next) same leaves) in
     subst (λ m. Holds k0 k2 m (lines_text (lines_after s (k + 1) next (drop (k + 1) turns))) text) (sym (e ∙ ap (λ q. left ++ lines_text (turn_lines q (k + 1) w did next)) same))
     (spelled (lines_text (turn_lines s (k + 1) w did next)) (lines_text (lines_after s (k + 1) next (drop (k + 1) turns))) made rest)
 

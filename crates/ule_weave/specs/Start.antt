@@ -1,5 +1,5 @@
 -- The state of the step model at the start of a setup's scheduler.
-use Rattle.std.specs.Prelude.{ℕ, suc, List, [], ◌∷◌, map, replicate, Option, None}
+use Rattle.std.specs.Prelude.{ℕ, suc, List, [], ◌∷◌, map, replicate, None}
 use Rattle.std.specs.List.{range_with_len}
 use Rattle.ule_micro.specs.declared.locks.TheConstants.{LOCKS, THREADS}
 use Rattle.ule_micro.specs.declared.seat.Seat.{Seat}

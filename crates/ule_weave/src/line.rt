@@ -68,7 +68,11 @@ fn spell_lost(held: &mut Held, lock: LockId, holder: u8)
 }
 
 /// Appends a step, each word behind a space.
-fn spell_step<P: Parts<Event = Event, Reply = Reply>>(held: &mut Held, m: &Micro<P>, step: &StepDone)
+fn spell_step<P: Parts<Event = Event, Reply = Reply>>(
+    held: &mut Held,
+    m: &Micro<P>,
+    step: &StepDone,
+)
     requires room { length held.old + 400 ≤ CAPACITY }
     requires entry { TellsEntryOf m.now.state step.now }
     ensures text { held.new ≡ held.old ++ spaced (step_words (entry_at m.now.state) step.now) }

@@ -1,9 +1,9 @@
-use Rattle.std.proofs.Common.{◌≡◌, ◌+◌, ◌++◌, codes, ap, ◌∙◌, arith}
+use Rattle.std.proofs.Common.{◌++◌, ap, ◌∙◌, arith}
 use Rattle.std.specs.Prelude.{◌||◌, is_some, option_to_list}
 use Rattle.ule_micro.specs.States.{lock_holder}
 use Rattle.ule_trace.specs.Line.{spaced}
 use Rattle.ule_weave.specs.TurnText.{held_word}
-use Rattle.ule_weave.proofs.Listing.{listed_none, lock_more, locks_end}
+use Rattle.ule_weave.proofs.Listing.{lock_more, locks_end}
 use Rattle.ule_weave.proofs.stand.spell_locks.Goals as goal
 
 pub loop-l-preserved : goal.loop-l-preserved

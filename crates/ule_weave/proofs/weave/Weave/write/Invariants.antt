@@ -1,7 +1,7 @@
 use Rattle.std.proofs.Common.{◌≡◌, drop, length}
 use Rattle.ule_trace.proofs.Progress.{Holds}
 use Rattle.ule_trace.specs.Line.{lines_text}
-use Rattle.ule_weave.specs.WeaveText.{declared_in_order, lines_after, weave_text}
+use Rattle.ule_weave.specs.WeaveText.{lines_after, weave_text}
 use Rattle.ule_weave.proofs.weave.Weave.write.Given as goal
 
 abbrev pub invariant-loop-k : goal.invariant-loop-k
