@@ -3,3 +3,4 @@ pub mod DeclaredThreads
 pub mod Opened
 pub mod Turned
 pub mod Woven
+pub mod LineRows
