@@ -3,6 +3,7 @@ pub mod WritingLaws
 pub mod InputLaws
 pub mod MakingLaws
 pub mod RunLaws
+pub mod WeaveLaws
 pub mod CountLaws
 pub mod CheckLaws
 pub mod VerdictLines

@@ -8,12 +8,14 @@ use Rattle.ule_top.specs.Making.{Makes}
 use Rattle.ule_top.specs.Run.{Runs}
 use Rattle.ule_top.specs.Summary.{summary_text}
 use Rattle.ule_top.specs.Tasks.{task_of}
+use Rattle.ule_top.specs.Weave.{Weaves}
 use Rattle.ule_top.specs.declared.task.Task.{Task}
-use Rattle.ule_top.specs.declared.task.Task.TheVariants.{Run, Check, Gen}
+use Rattle.ule_top.specs.declared.task.Task.TheVariants.{Run, Weave, Check, Gen}
 
 -- what a task comes to
 abbrev pub Performs : Task → SourceState → SourceState → SinkState → SinkState → ℕ → Type 0
 Performs Run s0 s1 k0 k1 status = Runs s0 s1 k0 k1 status
+Performs Weave s0 s1 k0 k1 status = Weaves s0 s1 k0 k1 status
 Performs Check s0 s1 k0 k1 status = Checks s0 s1 k0 k1 status
 Performs (Gen n) s0 s1 k0 k1 status = Makes n (summary_text n) s0 s1 k0 k1 status
 

@@ -3,6 +3,7 @@ pub mod Writing
 pub mod Input
 pub mod Making
 pub mod Run
+pub mod Weave
 pub mod Summary
 pub mod VerdictLine
 pub mod Check

@@ -3,7 +3,7 @@ use Rattle.std.specs.Prelude.{ℕ, ◌≤◌, ◌&&◌, nat_le, if◌then◌else
 use Rattle.ule_text.specs.Numerals.{number_of}
 use Rattle.ule_text.specs.Words.{Word}
 use Rattle.ule_top.specs.declared.task.Task.{Task}
-use Rattle.ule_top.specs.declared.task.Task.TheVariants.{Run, Check, Gen}
+use Rattle.ule_top.specs.declared.task.Task.TheVariants.{Run, Weave, Check, Gen}
 
 -- a number of which a setup can be made, 1 to 1,000
 abbrev pub in_range : ℕ → Option ℕ
@@ -17,7 +17,8 @@ setup_number word = option_and_then in_range (number_of word)
 abbrev pub lone_task : Word → Option Task
 lone_task name =
     if bytes_eq name (codes "run") then Some Run else (
-    if bytes_eq name (codes "check") then Some Check else None)
+    if bytes_eq name (codes "weave") then Some Weave else (
+    if bytes_eq name (codes "check") then Some Check else None))
 
 -- the task that a word names with the number of a setup
 abbrev pub numbered_task : Word → ℕ → Option Task
@@ -34,5 +35,6 @@ task_of (name ∷ number ∷ other ∷ more) = None
 -- the number of a task is one of which a setup can be made
 abbrev pub HasNumber : Task → Type 0
 HasNumber Run = Unit {0}
+HasNumber Weave = Unit {0}
 HasNumber Check = Unit {0}
 HasNumber (Gen n) = (1 ≤ n) × (n ≤ 1000)

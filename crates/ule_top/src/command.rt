@@ -6,13 +6,15 @@ use crate::output::USAGE;
 use crate::rounds::run;
 use crate::summary::summarize;
 use crate::task::{Task, task_of};
+use crate::weave::weave;
 use std::alloc::Global;
 use ule_io::{Sink, Source};
 
 /// Performs the task that the words name, from the source to the sink, and gives the exit status.
 ///
-/// `run` reads a scenario to its end, plays it in rounds and writes the trace. `gen N`, with N of
-/// 1..=1000, reads nothing, plays the setup that `ule_gen` makes of N, and writes one line of counts.
+/// `run` reads a scenario to its end, plays it in rounds and writes the trace. `weave` reads one,
+/// makes its turns one after another, and writes what each did and left. `gen N`, with N of 1..=1000,
+/// reads nothing, plays the setup that `ule_gen` makes of N, and writes one line of counts.
 ///
 /// 0: done, and the text was written and flushed. 1: the words name no task, and nothing is read or
 /// written. 2: a read failed, within the first 1,048,576 bytes, and nothing is written. 3: the input
@@ -27,6 +29,7 @@ pub fn top<S: Source, K: Sink>(alloc: Global, words: &[String], src: &mut S, out
     match task_of(words) {
         None => USAGE,
         Some(Task::Run) => run(alloc, src, out),
+        Some(Task::Weave) => weave(alloc, src, out),
         Some(Task::Check) => check(alloc, src, out),
         Some(Task::Gen(n)) => summarize(alloc, n, out),
     }

@@ -14,3 +14,4 @@ mod rounds;
 mod summary;
 mod task;
 mod verdict_line;
+mod weave;

@@ -13,6 +13,8 @@ const MOST: u64 = 1000;
 pub enum Task {
     /// To play a scenario in rounds and to write its trace.
     Run,
+    /// To make the turns of a scenario one after another, and to write what each did and left.
+    Weave,
     /// To judge the trace that stands right behind its scenario.
     Check,
     /// To play the setup that this number makes, 1..=1000, and to write one line of counts.
@@ -50,6 +52,9 @@ fn lone_task(name: &str) -> Option<Task>
 {
     if name == "run" {
         return Some(Task::Run);
+    }
+    if name == "weave" {
+        return Some(Task::Weave);
     }
     if name == "check" {
         return Some(Task::Check);

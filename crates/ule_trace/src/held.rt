@@ -108,10 +108,10 @@ impl Held {
         self.last_digit(n);
     }
 
-    // Appends a number of at most two digits.
+    /// Appends a number of at most two digits.
     #[tactic(auto, using(crate::proofs::Digits::more_digits))]
     #[inline]
-    fn two_digits(&mut self, n: u32)
+    pub fn two_digits(&mut self, n: u32)
         requires small { n < 100 }
         requires room { length self.old + 2 ≤ CAPACITY }
         ensures text { self.new ≡ self.old ++ decimal n }
@@ -125,10 +125,10 @@ impl Held {
         self.last_digit(n);
     }
 
-    // Appends a number of at most three digits.
+    /// Appends a number of at most three digits.
     #[tactic(auto, using(crate::proofs::Digits::more_digits))]
     #[inline]
-    fn three_digits(&mut self, n: u32)
+    pub fn three_digits(&mut self, n: u32)
         requires small { n < 1000 }
         requires room { length self.old + 3 ≤ CAPACITY }
         ensures text { self.new ≡ self.old ++ decimal n }
@@ -159,10 +159,10 @@ impl Held {
         self.last_digit(n);
     }
 
-    // Appends a number of at most five digits.
+    /// Appends a number of at most five digits.
     #[tactic(auto, using(crate::proofs::Digits::more_digits))]
     #[inline]
-    fn five_digits(&mut self, n: u32)
+    pub fn five_digits(&mut self, n: u32)
         requires small { n < 100000 }
         requires room { length self.old + 5 ≤ CAPACITY }
         ensures text { self.new ≡ self.old ++ decimal n }
@@ -375,7 +375,16 @@ impl Held {
         ensures room { OnOk result (length self.new + LINE ≤ CAPACITY) }
         ensures moved { Moves (K.state out.old) (K.state out.new) self.old self.new result }
     {
-        if self.bytes.len() + LINE <= CAPACITY {
+        self.make_room_for(LINE, out)
+    }
+
+    /// Writes what is held, unless there is room for so many bytes behind it.
+    pub fn make_room_for<K: Sink>(&mut self, room: usize, out: &mut K) -> Result<(), WriteFault>
+        requires { room ≤ CAPACITY }
+        ensures room { OnOk result (length self.new + room ≤ CAPACITY) }
+        ensures moved { Moves (K.state out.old) (K.state out.new) self.old self.new result }
+    {
+        if self.bytes.len() + room <= CAPACITY {
             return Ok(());
         }
         let written = write_all(out, self.bytes.as_slice());

@@ -2,11 +2,11 @@
 //! replies and places in them.
 #![tactic(auto)]
 
-pub use event::write_event;
+pub use event::{spell_event, write_event};
 pub use fault::TraceFault;
-pub use place::write_place;
+pub use place::{spell_place, write_place};
 pub use reading::read_trace;
-pub use reply::write_reply;
+pub use reply::{spell_reply, write_reply};
 pub use single::{write_closing, write_cpu, write_entry, write_thread};
 pub use trace::write_trace;
 
@@ -15,7 +15,7 @@ mod event_form;
 mod fault;
 mod field;
 mod finals;
-mod held;
+pub mod held;
 mod line_form;
 mod parts;
 mod place;
@@ -25,4 +25,4 @@ mod reply;
 mod reply_form;
 mod single;
 mod trace;
-mod word;
+pub mod word;

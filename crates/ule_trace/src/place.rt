@@ -20,39 +20,39 @@ pub fn kind_name(kind: Kind) -> &'static str
 }
 
 fn spell_queued(held: &mut Held, cpu: Cpu, kind: Kind, bucket: u8)
-    requires { length held.old + 48 ≤ CAPACITY }
+    requires { length held.old + 13 ≤ CAPACITY }
     ensures text { held.new ≡ held.old ++ place_word (Place.Queued cpu kind bucket) }
-    ensures growth { length held.new ≤ length held.old + 48 }
+    ensures growth { length held.new ≤ length held.old + 13 }
 {
     held.byte(b'q');
-    held.number(u64::from(cpu.0));
+    held.two_digits(u32::from(cpu.0));
     held.byte(b'.');
     held.text(kind_name(kind));
     held.byte(b'.');
-    held.number(u64::from(bucket));
+    held.three_digits(u32::from(bucket));
 }
 
 /// Appends the text of a place.
 pub fn spell_place(held: &mut Held, place: Place)
-    requires { length held.old + 48 ≤ CAPACITY }
+    requires { length held.old + 13 ≤ CAPACITY }
     ensures text { held.new ≡ held.old ++ place_word place }
-    ensures growth { length held.new ≤ length held.old + 48 }
+    ensures growth { length held.new ≤ length held.old + 13 }
 {
     match place {
         Place::Running(c) => {
             held.byte(b'r');
-            held.number(u64::from(c.0));
+            held.two_digits(u32::from(c.0));
         }
         Place::Queued { cpu, kind, bucket } => spell_queued(held, cpu, kind, bucket),
         Place::Asleep(channel) => {
             held.byte(b's');
-            held.number(u64::from(channel));
+            held.five_digits(u32::from(channel));
         }
         Place::Unborn => held.byte(b'u'),
         Place::Gone => held.byte(b'g'),
         Place::Hand(w) => {
             held.byte(b'h');
-            held.number(u64::from(w));
+            held.three_digits(u32::from(w));
         }
     }
 }

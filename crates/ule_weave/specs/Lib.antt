@@ -1,0 +1,3 @@
+pub mod TurnText
+pub mod Start
+pub mod WeaveText
