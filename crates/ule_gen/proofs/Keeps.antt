@@ -175,6 +175,7 @@ keeps n few = record {
   cpus = refl;
   groups = grouped;
   group_count = refl;
+  group_cpus = refl;
   threads = refl;
   numbers = refl;
   workers = refl;

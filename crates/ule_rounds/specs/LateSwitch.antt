@@ -28,7 +28,7 @@ two_cpus = record {
   unborn = [];
   scripts = replicate 16 [];
   turns = [];
-  rules = record { settings = refl; jitter = refl; cpus = refl; groups = refl; group_count = refl; threads = refl; numbers = refl; workers = refl; idle = refl; commands = refl; budget = refl; forks = refl; forked_once = refl; turns = refl; turn_count = refl };
+  rules = record { settings = refl; jitter = refl; cpus = refl; groups = refl; group_count = refl; group_cpus = refl; threads = refl; numbers = refl; workers = refl; idle = refl; commands = refl; budget = refl; forks = refl; forked_once = refl; turns = refl; turn_count = refl };
 }
 
 -- a list of commands for each of the two workers: the first lets time pass before it yields

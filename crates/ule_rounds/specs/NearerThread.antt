@@ -27,7 +27,7 @@ one_cpu = record {
   unborn = [];
   scripts = replicate 16 [];
   turns = [];
-  rules = record { settings = refl; jitter = refl; cpus = refl; groups = refl; group_count = refl; threads = refl; numbers = refl; workers = refl; idle = refl; commands = refl; budget = refl; forks = refl; forked_once = refl; turns = refl; turn_count = refl };
+  rules = record { settings = refl; jitter = refl; cpus = refl; groups = refl; group_count = refl; group_cpus = refl; threads = refl; numbers = refl; workers = refl; idle = refl; commands = refl; budget = refl; forks = refl; forked_once = refl; turns = refl; turn_count = refl };
 }
 
 -- the worker's list: it lets thread 0 run, and a tick passes

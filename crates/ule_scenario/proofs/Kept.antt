@@ -48,7 +48,7 @@ sound_line r line Cpus p s =
     sound_cpus r (num line 1) (in_range 1 16 (word line 1) (head_passes (number_fault 1 16 (word line 1)) [] p.numbers)) (leb-false 4 r.place p.placed) s
 sound_line r line Group p s =
     let parts = or_parts (nat_lt 5 r.place) (nat_le 15 (length r.groups)) p.placed in
-    sound_group r line (ltb-false 5 r.place parts.0) (leb-false 15 (length r.groups) parts.1) p.topology s
+    sound_group r line (ltb-false 5 r.place parts.0) (leb-false 15 (length r.groups) parts.1) (ltb-false (length line) 4 p.enough) p.topology s
 sound_line r line Thread p s =
     let id = number_fault 0 255 (word line 1) in
     let form = class_fault (name line 2) (word line 3) in

@@ -15,6 +15,7 @@ use Rattle.ule_scenario.specs.Reasons.{when, told, of_topology, over_budget, fir
 pub record Passes (r : Reading) (line : Line) (first : Name) : Type 0 where
   pub placed : is_misplaced r line first ≡ false
   pub counted : ((nat_le 5 (place_of_line first) && nat_lt r.place 4) || is_bad_count line first) ≡ false
+  pub enough : nat_lt (length line) (least_words first) ≡ false
   pub numbers : first_fault (number_faults line first) ≡ None
   pub there : list_any (λ c. nat_le r.cpus c) (named_cpus line first) ≡ false
   pub new : is_repeated r line first ≡ false
@@ -35,11 +36,11 @@ place_parts false false false true e = cc
 place_parts false false false false e = (refl, refl)
 
 -- the rows of its words
-word_parts : (a b : Bool) (f : Option ℕ) → first_reason (when a 18 ∷ when b 2 ∷ told f ∷ []) ≡ None → f ≡ None
-word_parts a b None e = refl
-word_parts true b (Some n) e = cc
-word_parts false true (Some n) e = cc
+word_parts : (a b : Bool) (f : Option ℕ) → first_reason (when a 18 ∷ when b 2 ∷ told f ∷ []) ≡ None → (a ≡ false) × (f ≡ None)
+word_parts true b f e = cc
+word_parts false true f e = cc
 word_parts false false (Some n) e = cc
+word_parts false false None e = (refl, refl)
 
 -- the rows of what it says
 record Means (a b c d e : Bool) (f : Option ℕ) (g h : Bool) (t : Option Reason) : Type 0 where
@@ -87,12 +88,14 @@ passes r line first none =
     let one = neither (place_reason r line first) (reason_or (word_reason line first) (meaning_reason r line first)) none in
     let two = neither (word_reason line first) (meaning_reason r line first) one.1 in
     let place = place_parts (place_of_line first == 0) (is_misplaced r line first) (nat_le 4 (place_of_line first) && nat_lt r.place 3) ((nat_le 5 (place_of_line first) && nat_lt r.place 4) || is_bad_count line first) one.0 in
+    let words = word_parts (nat_lt (length line) (least_words first)) (has_unknown_word line first) (first_fault (number_faults line first)) two.0 in
     let says = meaning_parts (list_any (λ c. nat_le r.cpus c) (named_cpus line first)) (is_repeated r line first) (has_no_base line first) (is_undeclared r line first) (is_no_fork r line first) (topology_fault r line first)
     (list_any (λ w. nat_le r.cpus w) (turns_in line first)) (nat_lt 4096 (length r.turns + length (turns_in line first))) (over_budget (spent_items r + charge r (command_in line first))) two.1 in
     record {
       placed = place.0;
       counted = place.1;
-      numbers = word_parts (nat_lt (length line) (least_words first)) (has_unknown_word line first) (first_fault (number_faults line first)) two.0;
+      enough = words.0;
+      numbers = words.1;
       there = says.there;
       new = says.new;
       base = says.base;

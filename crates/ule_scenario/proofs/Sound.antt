@@ -3,7 +3,8 @@ use Rattle.std.proofs.Common.{◌≡◌, ◌≢◌, ℕ, zero, suc, ◌+◌, ◌
 use Rattle.std.specs.Prelude.{nat_lt, nat_le, Result, Ok, Err, is_ok, unwrap_or}
 use Rattle.std.specs.List.{list_all, list_any}
 use Rattle.std.proofs.lemmas.Bool.{and_from, and_parts, or_parts, leb-true, leb-false, lt-ltb, le-leb, false≢true}
-use Rattle.std.proofs.lemmas.List.{map-append, append_assoc, length-append, length-set}
+use Rattle.std.proofs.lemmas.List.{map-append, append_assoc, length-append, length-drop, length-set}
+use Rattle.std.proofs.lemmas.Nat.{pow_pos}
 use Rattle.std.proofs.lemmas.List.Folds.{list_all-append, list_any-append}
 use Rattle.ule_prio.specs.Class.{is_within, is_base_of}
 use Rattle.ule_prio.specs.declared.class.Class.TheVariants as class
@@ -17,8 +18,8 @@ use Rattle.ule_types.specs.Rules.{KeepsRules, is_form, is_spec, are_numbers, dec
 use Rattle.ule_types.specs.declared.command.Command.{Command}
 use Rattle.ule_types.specs.declared.setup.ThreadSpec.{ThreadSpec}
 use Rattle.ule_scenario.specs.Reading.{Reading, no_line, is_known_thread, is_forked, spent_items, last_worker}
-use Rattle.ule_scenario.specs.Forms.{Line, word, num, signed, number_fault, setting_fault, class_fault}
-use Rattle.ule_scenario.specs.Effects.{with_setting, with_command, form_in, group_in_line}
+use Rattle.ule_scenario.specs.Forms.{Line, word, num, nums, signed, number_fault, setting_fault, class_fault}
+use Rattle.ule_scenario.specs.Effects.{with_setting, with_command, form_in, group_in_line, bits_of, cpus_in}
 use Rattle.ule_scenario.specs.Reasons.{is_no_base, fault_in}
 use Rattle.ule_scenario.specs.Scenario.{KeepsAll}
 use Rattle.ule_scenario.specs.declared.token.Token.{Token}
@@ -89,6 +90,7 @@ bare given seed count settings jitter cpus = record {
   cpus = cpus;
   groups = refl;
   group_count = refl;
+  group_cpus = refl;
   threads = refl;
   numbers = refl;
   workers = refl;
@@ -161,6 +163,7 @@ sound_set r n from t pass s =
         cpus = s.rules.cpus;
         groups = s.rules.groups;
         group_count = s.rules.group_count;
+        group_cpus = s.rules.group_cpus;
         threads = s.rules.threads;
         numbers = s.rules.numbers;
         workers = s.rules.workers;
@@ -191,6 +194,7 @@ sound_jitter r n small s =
         cpus = s.rules.cpus;
         groups = s.rules.groups;
         group_count = s.rules.group_count;
+        group_cpus = s.rules.group_cpus;
         threads = s.rules.threads;
         numbers = s.rules.numbers;
         workers = s.rules.workers;
@@ -231,10 +235,18 @@ without_fault : (b : Result Tree BuildFault) → fault_in b ≡ None → is_ok b
 without_fault (Ok tree) e = refl
 without_fault (Err f) e = cc
 
+-- a line of more than three words names a CPU, which has a bit
+names_cpu : (line : Line) → 4 ≤ length line → 1 ≤ bits_of (cpus_in line)
+names_cpu line long = by_words (drop 3 line) (omega (arith, length-drop 3 line))
+  where
+    by_words : (ts : List Token) → 1 ≤ length ts → 1 ≤ bits_of (nums ts)
+    by_words [] some = absurd (omega (arith, some))
+    by_words (t ∷ ts) some = omega (arith, pow_pos (num (t ∷ []) 0))
+
 -- a group
-pub sound_group : (r : Reading) (line : Line) → r.place ≤ 5 → length r.groups < 15 → fault_in (built r.cpus (r.groups ++ group_in_line line ∷ [])) ≡ None → IsSound r →
+pub sound_group : (r : Reading) (line : Line) → r.place ≤ 5 → length r.groups < 15 → 4 ≤ length line → fault_in (built r.cpus (r.groups ++ group_in_line line ∷ [])) ≡ None → IsSound r →
     IsSound (record r { place = max r.place 5; groups = r.groups ++ group_in_line line ∷ [] })
-sound_group r line early few pass s =
+sound_group r line early few long pass s =
     let m = sound_moved r 5 (λ e. omega arith) s in
     record {
       rules = record {
@@ -243,6 +255,7 @@ sound_group r line early few pass s =
         cpus = s.rules.cpus;
         groups = without_fault (built r.cpus (r.groups ++ group_in_line line ∷ [])) pass;
         group_count = le-leb (length (r.groups ++ group_in_line line ∷ [])) 15 (omega (arith, length-append r.groups (group_in_line line ∷ [])));
+        group_cpus = all_push (λ l. nat_lt 0 l.cpus) r.groups (group_in_line line) s.rules.group_cpus (lt-ltb 0 (bits_of (cpus_in line)) (names_cpu line long));
         threads = s.rules.threads;
         numbers = s.rules.numbers;
         workers = s.rules.workers;
@@ -286,6 +299,7 @@ sound_turns r ns there few s =
         cpus = s.rules.cpus;
         groups = s.rules.groups;
         group_count = s.rules.group_count;
+        group_cpus = s.rules.group_cpus;
         threads = s.rules.threads;
         numbers = s.rules.numbers;
         workers = s.rules.workers;
@@ -339,6 +353,7 @@ sound_thread r spec early good small new s =
         cpus = s.rules.cpus;
         groups = s.rules.groups;
         group_count = s.rules.group_count;
+        group_cpus = s.rules.group_cpus;
         threads = all_push (is_spec r.cpus) r.threads spec s.rules.threads good;
         numbers = ap (λ front. are_numbers (front ++ r.unborn)) (map-append ids r.threads (spec ∷ [])) ∙ numbers_between (map ids r.threads) r.unborn spec.id small s.rules.numbers (unknown r spec.id new);
         workers = s.rules.workers;
@@ -372,6 +387,7 @@ sound_unborn r t early small new s =
         cpus = s.rules.cpus;
         groups = s.rules.groups;
         group_count = s.rules.group_count;
+        group_cpus = s.rules.group_cpus;
         threads = s.rules.threads;
         numbers = ap are_numbers (sym (append_assoc (map ids r.threads) r.unborn (t ∷ []))) ∙ numbers_behind (declared_ids r.threads r.unborn) t small s.rules.numbers (unknown r t new);
         workers = s.rules.workers;
@@ -437,6 +453,7 @@ sound_command r c at valid forks room s =
         cpus = s.rules.cpus;
         groups = s.rules.groups;
         group_count = s.rules.group_count;
+        group_cpus = s.rules.group_cpus;
         threads = s.rules.threads;
         numbers = s.rules.numbers;
         workers = length-set r.scripts w (get_or r.scripts w [] ++ c ∷ []) ∙ s.rules.workers;

@@ -25,7 +25,7 @@ one_yield = record {
   unborn = [];
   scripts = (Yield ∷ []) ∷ replicate 15 [];
   turns = [];
-  rules = record { settings = refl; jitter = refl; cpus = refl; groups = refl; group_count = refl; threads = refl; numbers = refl; workers = refl; idle = refl; commands = refl; budget = refl; forks = refl; forked_once = refl; turns = refl; turn_count = refl };
+  rules = record { settings = refl; jitter = refl; cpus = refl; groups = refl; group_count = refl; group_cpus = refl; threads = refl; numbers = refl; workers = refl; idle = refl; commands = refl; budget = refl; forks = refl; forked_once = refl; turns = refl; turn_count = refl };
 }
 
 -- the text of examples/yield.trace
@@ -52,7 +52,7 @@ lost_turn = record {
   unborn = [];
   scripts = (Yield ∷ Sleep 3 ∷ []) ∷ (Time 1 ∷ Wake 0 ∷ []) ∷ replicate 14 [];
   turns = [];
-  rules = record { settings = refl; jitter = refl; cpus = refl; groups = refl; group_count = refl; threads = refl; numbers = refl; workers = refl; idle = refl; commands = refl; budget = refl; forks = refl; forked_once = refl; turns = refl; turn_count = refl };
+  rules = record { settings = refl; jitter = refl; cpus = refl; groups = refl; group_count = refl; group_cpus = refl; threads = refl; numbers = refl; workers = refl; idle = refl; commands = refl; budget = refl; forks = refl; forked_once = refl; turns = refl; turn_count = refl };
 }
 
 -- the text of examples/lost_turn.trace

@@ -253,7 +253,7 @@ impl Held {
     pub fn small(&mut self, n: u8)
         requires { length self.old + 25 ≤ CAPACITY }
         ensures text { self.new ≡ self.old ++ 32 ∷ decimal n }
-        ensures growth { length self.new ≤ length self.old + 25 }
+        ensures growth { length self.new ≤ length self.old + 4 }
     {
         self.byte(b' ');
         self.three_digits(u32::from(n));

@@ -55,9 +55,10 @@ pub record KeepsRules (given : Settings) (seed count : ℕ) (lines : List GroupL
   pub settings : IsTrue (are_settings given)
   pub jitter : IsTrue (nat_lt seed (2 ^ 32))
   pub cpus : IsTrue (is_within 1 16 count)
-  -- the groups of CPUs are a topology, of 15 groups at most
+  -- the groups of CPUs are a topology, of 15 groups at most, each of which has a CPU
   pub groups : IsTrue (is_ok (built count lines))
   pub group_count : IsTrue (nat_le (length lines) 15)
+  pub group_cpus : IsTrue (list_all (λ l. nat_lt 0 l.cpus) lines)
   -- each thread may be declared so, and no number is declared twice
   pub threads : IsTrue (list_all (is_spec count) specs)
   pub numbers : IsTrue (are_numbers (declared_ids specs waiting))

@@ -1,0 +1,9 @@
+pub mod Sending
+pub mod WordsBack
+pub mod Leading
+pub mod NumbersBack
+pub mod CommandLines
+pub mod OpeningLines
+pub mod DeclaringLines
+pub mod Spelling
+pub mod Sections
