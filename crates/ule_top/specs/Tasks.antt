@@ -3,7 +3,7 @@ use Rattle.std.specs.Prelude.{ℕ, ◌≤◌, ◌&&◌, nat_le, if◌then◌else
 use Rattle.ule_text.specs.Numerals.{number_of}
 use Rattle.ule_text.specs.Words.{Word}
 use Rattle.ule_top.specs.declared.task.Task.{Task}
-use Rattle.ule_top.specs.declared.task.Task.TheVariants.{Run, Weave, Check, Gen}
+use Rattle.ule_top.specs.declared.task.Task.TheVariants.{Run, Weave, Check, Gen, Text}
 
 -- a number of which a setup can be made, 1 to 1,000
 abbrev pub in_range : ℕ → Option ℕ
@@ -23,7 +23,8 @@ lone_task name =
 -- the task that a word names with the number of a setup
 abbrev pub numbered_task : Word → ℕ → Option Task
 numbered_task name n =
-    if bytes_eq name (codes "gen") then Some (Gen n) else None
+    if bytes_eq name (codes "gen") then Some (Gen n) else (
+    if bytes_eq name (codes "text") then Some (Text n) else None)
 
 -- the task that words name
 abbrev pub task_of : List Word → Option Task
@@ -38,3 +39,4 @@ HasNumber Run = Unit {0}
 HasNumber Weave = Unit {0}
 HasNumber Check = Unit {0}
 HasNumber (Gen n) = (1 ≤ n) × (n ≤ 1000)
+HasNumber (Text n) = (1 ≤ n) × (n ≤ 1000)

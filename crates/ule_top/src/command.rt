@@ -3,6 +3,7 @@ ghost use Rattle.ule_top.specs.Answers.{Answers};
 
 use crate::check::check;
 use crate::output::USAGE;
+use crate::plain::spell_made;
 use crate::rounds::run;
 use crate::summary::summarize;
 use crate::task::{Task, task_of};
@@ -32,5 +33,6 @@ pub fn top<S: Source, K: Sink>(alloc: Global, words: &[String], src: &mut S, out
         Some(Task::Weave) => weave(alloc, src, out),
         Some(Task::Check) => check(alloc, src, out),
         Some(Task::Gen(n)) => summarize(alloc, n, out),
+        Some(Task::Text(n)) => spell_made(alloc, n, out),
     }
 }

@@ -10,6 +10,7 @@ mod command;
 mod example;
 mod input;
 mod output;
+mod plain;
 mod rounds;
 mod summary;
 mod task;

@@ -19,6 +19,8 @@ pub enum Task {
     Check,
     /// To play the setup that this number makes, 1..=1000, and to write one line of counts.
     Gen(u32),
+    /// To write the plain text of the setup that this number makes, 1..=1000.
+    Text(u32),
 }
 
 /// The number that a word spells: 0, or digits without a leading zero. One above 2^32 is told as
@@ -71,6 +73,9 @@ fn numbered_task(name: &str, n: u32) -> Option<Task>
 {
     if name == "gen" {
         return Some(Task::Gen(n));
+    }
+    if name == "text" {
+        return Some(Task::Text(n));
     }
     None
 }
