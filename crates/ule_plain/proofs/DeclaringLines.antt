@@ -38,10 +38,10 @@ pub record IsOpen (high : ℕ) (r : Reading) : Type 0 where
   pub budget : spent_items r ≤ 65536
 
 -- the tests of such a place
-not_first : (p : ℕ) → 4 ≤ p → (p == 0) ≡ false
+pub not_first : (p : ℕ) → 4 ≤ p → (p == 0) ≡ false
 not_first p from = ne_eqb p 0 (λ e. omega (arith, from, e))
 
-not_before : (p k : ℕ) → k ≤ p → nat_lt p k ≡ false
+pub not_before : (p k : ℕ) → k ≤ p → nat_lt p k ≡ false
 not_before p k h = grind (arith, nat_tests)
 
 -- ---- an unborn thread
