@@ -1,17 +1,17 @@
 -- Written lines that lead from one setup so far to the next.
-use Rattle.std.proofs.Common.{◌≡◌, ℕ, ◌+◌, Bool, true, false, List, [], ◌∷◌, ◌++◌, length, fold, map, refl, sym, ap, ◌∙◌, arith, Some, None, Option}
+use Rattle.std.proofs.Common.{◌≡◌, ℕ, ◌+◌, true, false, List, [], ◌∷◌, ◌++◌, length, fold, map, refl, ap, ◌∙◌, arith, Some, None, Option}
 use Rattle.std.proofs.lemmas.Bool.{ne_eqb}
-use Rattle.std.specs.Prelude.{Result, Ok, Err}
-use Rattle.std.specs.List.{list_all, list_any}
+use Rattle.std.specs.Prelude.{Result, Ok}
+use Rattle.std.specs.List.{list_all}
 use Rattle.std.proofs.lemmas.Grind.{fold-append, flat_map-append}
-use Rattle.ule_text.specs.Words.{Word, words_of, is_unprinted}
+use Rattle.ule_text.specs.Words.{Word}
 use Rattle.ule_scenario.proofs.WholeLines.{line_whole}
 use Rattle.ule_scenario.specs.Effects.{with_line}
 use Rattle.ule_scenario.specs.Forms.{Line, name}
 use Rattle.ule_scenario.specs.Reading.{Reading}
 use Rattle.ule_scenario.specs.Reasons.{reason_of}
 use Rattle.ule_scenario.specs.Scenario.{TextRead, LinesRead, after_byte, after_line, after_words, judged, means_nothing}
-use Rattle.ule_scenario.specs.Tokens.{token_of, tokens_of}
+use Rattle.ule_scenario.specs.Tokens.{token_of}
 use Rattle.ule_scenario.specs.declared.token.Token.{Token}
 use Rattle.ule_scenario.specs.declared.reason.Reason.{Reason}
 use Rattle.ule_scenario.specs.declared.reason.Refusal.{Refusal}

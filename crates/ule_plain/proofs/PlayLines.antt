@@ -1,10 +1,10 @@
 -- What the lines of scripts and of turns give, and the last line.
-use Rattle.std.proofs.Common.{◌≡◌, ℕ, ◌+◌, ◌<◌, ◌≤◌, Bool, true, false, List, [], ◌∷◌, ◌++◌, length, map, max, refl, sym, ap, ◌∙◌, arith, Some, None}
-use Rattle.std.specs.Prelude.{nat_lt, nat_le, ◌&&◌, ◌==◌}
-use Rattle.std.specs.List.{list_all, list_any}
+use Rattle.std.proofs.Common.{◌≡◌, ℕ, ◌+◌, ◌<◌, ◌≤◌, true, false, List, [], ◌∷◌, ◌++◌, length, map, max, refl, arith, None}
+use Rattle.std.specs.Prelude.{nat_le}
+use Rattle.std.specs.List.{list_any}
 use Rattle.std.specs.Fmt.{decimal}
-use Rattle.std.proofs.lemmas.Bool.{and_from, and_parts, le-leb, ltb-true, lt-ltb}
-use Rattle.ule_scenario.specs.Forms.{number, num, nums, number_fault, first_fault}
+use Rattle.std.proofs.lemmas.Bool.{le-leb}
+use Rattle.ule_scenario.specs.Forms.{nums, number_fault, first_fault}
 use Rattle.ule_scenario.specs.Reading.{Reading, spent_items}
 use Rattle.ule_scenario.specs.Reasons.{place_reason, word_reason, meaning_reason}
 use Rattle.ule_scenario.specs.Tokens.{token_of}
@@ -16,7 +16,6 @@ use Rattle.ule_plain.proofs.DeclaringLines.{IsOpen, not_first, not_before}
 use Rattle.ule_plain.proofs.Leading.{Leads, Takes, leads_line, means_something}
 use Rattle.ule_plain.proofs.NumberLists.{are_small, written, nums_back, no_fault, written_are_words, length_written}
 use Rattle.ule_plain.proofs.NumbersBack.{IsNumber, token_back, decimal_is_word}
-use Rattle.ule_plain.proofs.WordsBack.{is_word}
 use Rattle.ule_plain.specs.Lines.{script_words, weave_words, turns_words, end_words}
 
 -- ---- a script
