@@ -1,6 +1,6 @@
 -- What the line of a command gives.
-use Rattle.std.proofs.Common.{◌≡◌, ℕ, ◌+◌, ◌<◌, ◌≤◌, ℤ, Bool, true, false, List, [], ◌∷◌, ◌++◌, length, map, max, refl, sym, ap, ◌∙◌, arith, Some, None}
-use Rattle.std.specs.Prelude.{nat_lt, nat_le, ◌&&◌, ◌||◌, ◌==◌, not}
+use Rattle.std.proofs.Common.{◌≡◌, ℕ, ◌+◌, ◌<◌, ◌≤◌, ℤ, true, false, [], ◌∷◌, map, max, refl, sym, ◌∙◌, arith, Some, None}
+use Rattle.std.specs.Prelude.{nat_lt, nat_le, ◌==◌}
 use Rattle.std.specs.List.{list_all, list_any}
 use Rattle.std.proofs.lemmas.Bool.{and_parts, le-leb, leb-true, ltb-true, or_parts}
 use Rattle.std.proofs.lemmas.Bool.Decides.{nat_tests}
@@ -13,9 +13,8 @@ use Rattle.ule_types.specs.Rules.{declared_ids}
 use Rattle.ule_types.specs.declared.command.Command.{Command}
 use Rattle.ule_types.specs.declared.command.Command.TheVariants as command
 use Rattle.ule_scenario.specs.Effects.{with_command}
-use Rattle.ule_scenario.specs.Forms.{Line, number_fault}
 use Rattle.ule_scenario.specs.Reading.{Reading, is_known_thread, is_forked, spent_items, last_worker}
-use Rattle.ule_scenario.specs.Reasons.{place_reason, word_reason, meaning_reason, reason_of}
+use Rattle.ule_scenario.specs.Reasons.{place_reason, word_reason, meaning_reason}
 use Rattle.ule_scenario.specs.Tokens.{token_of}
 use Rattle.ule_scenario.specs.declared.name.Name.{Name}
 use Rattle.ule_scenario.specs.declared.name.Name.TheVariants.{Tick, Time, Yield, Resched, Sleep, Wake, Lend, Unlend, Renice, Fork, Exit, Idle, Balance, Look}

@@ -1,22 +1,19 @@
 -- What the lines of groups and of threads give.
-use Rattle.std.proofs.Common.{◌≡◌, ◌≢◌, ℕ, ◌^◌, ◌+◌, ◌<◌, ◌≤◌, ℤ, Bool, true, false, List, [], ◌∷◌, ◌++◌, length, map, max, refl, sym, ap, ◌∙◌, arith, Option, Some, None}
-use Rattle.std.specs.Prelude.{codes, nat_lt, nat_le, ◌&&◌, ◌||◌, ◌==◌, not, unwrap_or}
-use Rattle.std.specs.List.{list_all, list_any}
+use Rattle.std.proofs.Common.{◌≡◌, ℕ, ◌+◌, ◌<◌, ◌≤◌, ℤ, Bool, true, false, [], ◌∷◌, ◌++◌, map, max, refl, ap, ◌∙◌, arith, None}
+use Rattle.std.specs.Prelude.{codes, nat_lt, nat_le, ◌==◌}
+use Rattle.std.specs.List.{list_all}
 use Rattle.std.specs.Fmt.{decimal, signed_decimal}
 use Rattle.std.proofs.lemmas.Bool.{and_from, and_parts, le-leb, leb-true, ltb-true, ne_eqb}
 use Rattle.std.proofs.lemmas.Bool.Decides.{nat_tests}
 use Rattle.std.proofs.lemmas.List.Folds.{list_all-append}
 use Rattle.ule_prio.specs.Class.{is_within, is_base_of}
 use Rattle.ule_prio.specs.declared.class.Class.TheVariants as class
-use Rattle.ule_topo.specs.Build.{built}
-use Rattle.ule_topo.specs.declared.group.GroupLine.{GroupLine}
-use Rattle.ule_types.specs.Commands.{is_nice}
 use Rattle.ule_types.specs.Rules.{is_form, is_spec}
 use Rattle.ule_types.specs.declared.setup.Form.{Form}
 use Rattle.ule_types.specs.declared.setup.Form.TheVariants as form
 use Rattle.ule_types.specs.declared.setup.ThreadSpec.{ThreadSpec}
-use Rattle.ule_scenario.specs.Effects.{form_in, spec_in}
-use Rattle.ule_scenario.specs.Forms.{Line, num, number_fault, nice_fault, class_fault, is_class}
+use Rattle.ule_scenario.specs.Effects.{form_in}
+use Rattle.ule_scenario.specs.Forms.{Line, num, class_fault, is_class}
 use Rattle.ule_scenario.specs.Reading.{Reading, is_known_thread, spent_items}
 use Rattle.ule_scenario.specs.Reasons.{place_reason, word_reason, meaning_reason, is_no_base}
 use Rattle.ule_scenario.specs.Tokens.{token_of}
@@ -38,10 +35,10 @@ pub record IsOpen (high : ℕ) (r : Reading) : Type 0 where
   pub budget : spent_items r ≤ 65536
 
 -- the tests of such a place
-not_first : (p : ℕ) → 4 ≤ p → (p == 0) ≡ false
+pub not_first : (p : ℕ) → 4 ≤ p → (p == 0) ≡ false
 not_first p from = ne_eqb p 0 (λ e. omega (arith, from, e))
 
-not_before : (p k : ℕ) → k ≤ p → nat_lt p k ≡ false
+pub not_before : (p k : ℕ) → k ≤ p → nat_lt p k ≡ false
 not_before p k h = grind (arith, nat_tests)
 
 -- ---- an unborn thread
@@ -95,8 +92,27 @@ bound_taken r w n v c id cpu f t o =
     let small = t.small in
     record {
       means = refl;
-      unopposed = rw (o.turns, t.number.minus, t.number.number, t.queue.minus, t.queue.number, t.class.class, t.class.fault, t.class.base, not_first r.place from, not_above r.place 6 o.to, not_before r.place 3 (omega arith), not_before r.place 4 from,
-      le-leb 0 id (omega arith), le-leb id 255 (omega arith), le-leb 0 cpu (omega arith), le-leb cpu 15 t.below, not_past r.cpus cpu t.there, t.new, not_above (spent_items r + 0) 65536 (omega arith)) refl;
+      unopposed = rw (
+        o.turns,
+        t.number.minus,
+        t.number.number,
+        t.queue.minus,
+        t.queue.number,
+        t.class.class,
+        t.class.fault,
+        t.class.base,
+        not_first r.place from,
+        not_above r.place 6 o.to,
+        not_before r.place 3 (omega arith),
+        not_before r.place 4 from,
+        le-leb 0 id (omega arith),
+        le-leb id 255 (omega arith),
+        le-leb 0 cpu (omega arith),
+        le-leb cpu 15 t.below,
+        not_past r.cpus cpu t.there,
+        t.new,
+        not_above (spent_items r + 0) 65536 (omega arith),
+      ) refl;
       gives = rw (t.class.gives w c true, t.number.minus, t.number.number, t.queue.minus, t.queue.number) refl;
     }
 
@@ -109,8 +125,27 @@ free_taken r w n v c id cpu f t o =
     let small = t.small in
     record {
       means = refl;
-      unopposed = rw (o.turns, t.number.minus, t.number.number, t.queue.minus, t.queue.number, t.class.class, t.class.fault, t.class.base, not_first r.place from, not_above r.place 6 o.to, not_before r.place 3 (omega arith), not_before r.place 4 from,
-      le-leb 0 id (omega arith), le-leb id 255 (omega arith), le-leb 0 cpu (omega arith), le-leb cpu 15 t.below, not_past r.cpus cpu t.there, t.new, not_above (spent_items r + 0) 65536 (omega arith)) refl;
+      unopposed = rw (
+        o.turns,
+        t.number.minus,
+        t.number.number,
+        t.queue.minus,
+        t.queue.number,
+        t.class.class,
+        t.class.fault,
+        t.class.base,
+        not_first r.place from,
+        not_above r.place 6 o.to,
+        not_before r.place 3 (omega arith),
+        not_before r.place 4 from,
+        le-leb 0 id (omega arith),
+        le-leb id 255 (omega arith),
+        le-leb 0 cpu (omega arith),
+        le-leb cpu 15 t.below,
+        not_past r.cpus cpu t.there,
+        t.new,
+        not_above (spent_items r + 0) 65536 (omega arith),
+      ) refl;
       gives = rw (t.class.gives w c false, t.number.minus, t.number.number, t.queue.minus, t.queue.number) refl;
     }
 

@@ -1,16 +1,18 @@
 -- Written lines that lead from one setup so far to the next.
-use Rattle.std.proofs.Common.{◌≡◌, ℕ, ◌+◌, Bool, true, false, List, [], ◌∷◌, ◌++◌, fold, map, refl, sym, ap, ◌∙◌, Some, None, Option}
-use Rattle.std.specs.Prelude.{Result, Ok, Err}
-use Rattle.std.specs.List.{list_all, list_any}
+use Rattle.std.proofs.Common.{◌≡◌, ℕ, ◌+◌, true, false, List, [], ◌∷◌, ◌++◌, length, fold, map, refl, ap, ◌∙◌, arith, Some, None, Option}
+use Rattle.std.proofs.lemmas.Bool.{ne_eqb}
+use Rattle.std.specs.Prelude.{Result, Ok}
+use Rattle.std.specs.List.{list_all}
 use Rattle.std.proofs.lemmas.Grind.{fold-append, flat_map-append}
-use Rattle.ule_text.specs.Words.{Word, words_of, is_unprinted}
+use Rattle.ule_text.specs.Words.{Word}
 use Rattle.ule_scenario.proofs.WholeLines.{line_whole}
 use Rattle.ule_scenario.specs.Effects.{with_line}
 use Rattle.ule_scenario.specs.Forms.{Line, name}
 use Rattle.ule_scenario.specs.Reading.{Reading}
 use Rattle.ule_scenario.specs.Reasons.{reason_of}
 use Rattle.ule_scenario.specs.Scenario.{TextRead, LinesRead, after_byte, after_line, after_words, judged, means_nothing}
-use Rattle.ule_scenario.specs.Tokens.{token_of, tokens_of}
+use Rattle.ule_scenario.specs.Tokens.{token_of}
+use Rattle.ule_scenario.specs.declared.token.Token.{Token}
 use Rattle.ule_scenario.specs.declared.reason.Reason.{Reason}
 use Rattle.ule_scenario.specs.declared.reason.Refusal.{Refusal}
 use Rattle.ule_trace.specs.Line.{joined, line_text, lines_text}
@@ -41,6 +43,10 @@ pub record Takes (r : Reading) (line : Line) (s : Reading) : Type 0 where
   pub means : means_nothing line ≡ false
   pub unopposed : reason_of r line ≡ None
   pub gives : with_line r line (name line 0) ≡ s
+
+-- a line with a word that begins no comment
+pub means_something : (t : Token) (ts : Line) → t.comment ≡ false → means_nothing (t ∷ ts) ≡ false
+means_something t ts none = rw (ne_eqb (length (t ∷ ts)) 0 (λ e. omega (arith, e))) none
 
 -- a line without a reason against it
 judged_so : (n : ℕ) (r s : Reading) (line : Line) (x : Option Reason) → x ≡ None → with_line r line (name line 0) ≡ s → judged n r line x ≡ Ok s

@@ -7,3 +7,6 @@ pub mod OpeningLines
 pub mod DeclaringLines
 pub mod Spelling
 pub mod Sections
+pub mod Masks
+pub mod NumberLists
+pub mod PlayLines

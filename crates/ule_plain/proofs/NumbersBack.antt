@@ -1,6 +1,6 @@
 -- A written number is read as that number.
-use Rattle.std.proofs.Common.{◌≡◌, ℕ, zero, suc, ◌^◌, ◌*◌, ◌+◌, ◌-◌, ◌<◌, ◌≤◌, ℤ, pos, negsuc, Bool, true, false, List, [], ◌∷◌, length, drop, get_or, fold, refl, sym, arith, ap, ◌∙◌, Some, None, ⊎_elim}
-use Rattle.std.specs.Prelude.{◌==◌, ◌&&◌, ◌||◌, not, nat_lt, nat_le, min, unwrap_or, is_none}
+use Rattle.std.proofs.Common.{◌≡◌, ℕ, zero, suc, ◌^◌, ◌*◌, ◌+◌, ◌-◌, ◌<◌, ◌≤◌, ℤ, pos, negsuc, Bool, true, false, List, [], ◌∷◌, length, get_or, fold, refl, arith, ap, ◌∙◌, Some, None, ⊎_elim}
+use Rattle.std.specs.Prelude.{◌==◌, ◌&&◌, not, nat_lt, min, unwrap_or}
 use Rattle.std.specs.List.{list_all}
 use Rattle.std.specs.Fmt.{decimal, signed_decimal}
 use Rattle.std.specs.Char.{digit_value}
@@ -9,8 +9,7 @@ use Rattle.std.proofs.lemmas.Grind.{common_steps}
 use Rattle.std.proofs.lemmas.Bool.{and_from, le-leb, leb-true, lt-ltb, ltb-true, ne_eqb, cases_eq}
 use Rattle.std.proofs.lemmas.Fmt.{digits_decimal, digits_value-decimal, decimal_nonempty, first_decimal, decimal_digit}
 use Rattle.std.proofs.lemmas.Str.Parse.{numerals_by_value, tells_digits, digit_at, IsNumeralModel}
-use Rattle.ule_text.specs.Numerals.{is_digit, is_numeral, value_of_digits, number_of, is_negative, unsigned}
-use Rattle.ule_text.specs.Words.{Word}
+use Rattle.ule_text.specs.Numerals.{is_digit, value_of_digits, number_of}
 use Rattle.ule_types.specs.Commands.{is_nice}
 use Rattle.ule_scenario.specs.Forms.{signed, nice_fault}
 use Rattle.ule_scenario.specs.Tokens.{token_of}

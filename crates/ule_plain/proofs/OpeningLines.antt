@@ -1,10 +1,8 @@
 -- What the lines up to the number of CPUs give.
-use Rattle.std.proofs.Common.{◌≡◌, ℕ, ◌^◌, ◌+◌, ◌<◌, ◌≤◌, true, List, [], ◌∷◌, ◌++◌, map, replicate, refl, sym, ap, ◌∙◌, subst, arith, append_assoc}
+use Rattle.std.proofs.Common.{◌≡◌, ℕ, ◌^◌, ◌<◌, ◌≤◌, true, List, [], ◌∷◌, map, refl, sym, subst, arith}
 use Rattle.std.specs.Prelude.{codes, nat_lt, nat_le, ◌&&◌}
-use Rattle.std.specs.List.{list_all}
 use Rattle.std.specs.Fmt.{decimal}
 use Rattle.std.proofs.lemmas.Bool.{and_parts, le-leb, leb-true, ltb-true}
-use Rattle.std.proofs.lemmas.List.{append-nil}
 use Rattle.ule_prio.specs.Class.{is_within}
 use Rattle.ule_score.specs.Settings.{are_settings}
 use Rattle.ule_score.specs.declared.record.Settings.{Settings}

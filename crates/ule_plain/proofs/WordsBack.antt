@@ -1,14 +1,14 @@
 -- The bytes of a written line are cut back into its words.
-use Rattle.std.proofs.Common.{◌≡◌, ℕ, ◌<◌, ◌≤◌, Bool, true, false, List, [], ◌∷◌, ◌++◌, length, fold, refl, sym, ap, ◌∙◌, append_assoc, arith}
-use Rattle.std.specs.Prelude.{◌&&◌, ◌||◌, ◌==◌, nat_lt, nat_le}
-use Rattle.std.specs.List.{list_all, list_any, flat_map}
-use Rattle.std.proofs.lemmas.Bool.{and_from, and_parts, leb-true, ltb-true, le-leb, lt-ltb, ne_eqb, false≢true}
+use Rattle.std.proofs.Common.{◌≡◌, ℕ, Bool, true, false, List, [], ◌∷◌, ◌++◌, length, fold, refl, sym, ap, ◌∙◌, append_assoc, arith}
+use Rattle.std.specs.Prelude.{◌&&◌, nat_lt, nat_le}
+use Rattle.std.specs.List.{list_all, list_any}
+use Rattle.std.proofs.lemmas.Bool.{and_from, and_parts, leb-true, le-leb, ne_eqb, false≢true}
 use Rattle.std.proofs.lemmas.Bool.Decides.{nat_tests}
 use Rattle.std.proofs.lemmas.Grind.{fold-append}
 use Rattle.std.proofs.lemmas.List.{append-nil}
 use Rattle.std.proofs.lemmas.List.Folds.{list_all-append}
 use Rattle.ule_scenario.specs.FirstLine.{is_newline}
-use Rattle.ule_text.specs.Words.{Word, Cut, cut, cut_at, no_cut, word_ended, with_word, words_of, is_unprinted}
+use Rattle.ule_text.specs.Words.{Word, Cut, cut_at, no_cut, word_ended, with_word, words_of, is_unprinted}
 use Rattle.ule_trace.specs.Line.{spaced, joined}
 
 -- a printed byte that is no space

@@ -18,7 +18,11 @@ use ule_types::{Command, Scripts, ThreadSpec};
 const TURNS: usize = 64;
 
 /// Writes the lines of the groups.
-pub fn write_groups<K: Sink>(held: &mut Held, groups: &[GroupLine], out: &mut K) -> Result<(), WriteFault>
+pub fn write_groups<K: Sink>(
+    held: &mut Held,
+    groups: &[GroupLine],
+    out: &mut K,
+) -> Result<(), WriteFault>
     ensures { HasSent (K.state out.old) (K.state out.new) held.old (lines_text (map group_words groups.now)) held.new result }
 {
     for g in groups {
@@ -29,7 +33,11 @@ pub fn write_groups<K: Sink>(held: &mut Held, groups: &[GroupLine], out: &mut K)
 }
 
 /// Writes the lines of the threads that are queued at the start.
-pub fn write_threads<K: Sink>(held: &mut Held, threads: &[ThreadSpec], out: &mut K) -> Result<(), WriteFault>
+pub fn write_threads<K: Sink>(
+    held: &mut Held,
+    threads: &[ThreadSpec],
+    out: &mut K,
+) -> Result<(), WriteFault>
     ensures { HasSent (K.state out.old) (K.state out.new) held.old (lines_text (map thread_words threads.now)) held.new result }
 {
     for t in threads {
@@ -40,7 +48,11 @@ pub fn write_threads<K: Sink>(held: &mut Held, threads: &[ThreadSpec], out: &mut
 }
 
 /// Writes the lines of the threads that are unborn at the start.
-pub fn write_unborn<K: Sink>(held: &mut Held, unborn: &[ThreadId], out: &mut K) -> Result<(), WriteFault>
+pub fn write_unborn<K: Sink>(
+    held: &mut Held,
+    unborn: &[ThreadId],
+    out: &mut K,
+) -> Result<(), WriteFault>
     ensures { HasSent (K.state out.old) (K.state out.new) held.old (lines_text (map unborn_words unborn.now)) held.new result }
 {
     for t in unborn {
@@ -51,7 +63,11 @@ pub fn write_unborn<K: Sink>(held: &mut Held, unborn: &[ThreadId], out: &mut K) 
 }
 
 // Writes the lines of commands.
-fn write_commands<K: Sink>(held: &mut Held, commands: &[Command], out: &mut K) -> Result<(), WriteFault>
+fn write_commands<K: Sink>(
+    held: &mut Held,
+    commands: &[Command],
+    out: &mut K,
+) -> Result<(), WriteFault>
     ensures { HasSent (K.state out.old) (K.state out.new) held.old (lines_text (map command_words commands.now)) held.new result }
 {
     for c in commands {
@@ -62,7 +78,12 @@ fn write_commands<K: Sink>(held: &mut Held, commands: &[Command], out: &mut K) -
 }
 
 // Writes the lines of a worker's script.
-fn write_script<K: Sink>(held: &mut Held, worker: u8, commands: &[Command], out: &mut K) -> Result<(), WriteFault>
+fn write_script<K: Sink>(
+    held: &mut Held,
+    worker: u8,
+    commands: &[Command],
+    out: &mut K,
+) -> Result<(), WriteFault>
     ensures { HasSent (K.state out.old) (K.state out.new) held.old (lines_text (script_lines worker commands.now)) held.new result }
 {
     held.make_room(out)?;
@@ -71,7 +92,12 @@ fn write_script<K: Sink>(held: &mut Held, worker: u8, commands: &[Command], out:
 }
 
 /// Writes the lines of the scripts of so many workers.
-pub fn write_scripts<K: Sink>(held: &mut Held, cpus: u8, scripts: &Scripts, out: &mut K) -> Result<(), WriteFault>
+pub fn write_scripts<K: Sink>(
+    held: &mut Held,
+    cpus: u8,
+    scripts: &Scripts,
+    out: &mut K,
+) -> Result<(), WriteFault>
     requires within { cpus ≤ 16 }
     requires workers { length scripts.now ≡ 16 }
     ensures { HasSent (K.state out.old) (K.state out.new) held.old (lines_text (scripts_lines 0 (take cpus scripts.now))) held.new result }

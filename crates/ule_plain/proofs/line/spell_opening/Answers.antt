@@ -1,4 +1,3 @@
-use Rattle.std.proofs.Common.{codes}
 use Rattle.ule_trace.specs.Line.{line_text}
 use Rattle.ule_plain.proofs.Spelling.{opening_parts}
 use Rattle.ule_plain.specs.Lines.{header_words, jitter_words, cpus_words}

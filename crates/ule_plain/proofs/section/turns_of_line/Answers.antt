@@ -1,4 +1,4 @@
-use Rattle.std.proofs.Common.{◌≡◌, ◌≤◌, ◌*◌, drop, length, sym, ◌∙◌, ap, arith}
+use Rattle.std.proofs.Common.{◌*◌, drop, length, sym, ◌∙◌, ap, arith}
 use Rattle.std.proofs.lemmas.List.{take_all}
 use Rattle.ule_plain.proofs.section.turns_of_line.Goals as goal
 

@@ -1,4 +1,4 @@
-use Rattle.std.proofs.Common.{◌<◌, map, length, arith, get_or, None}
+use Rattle.std.proofs.Common.{map, get_or, None}
 use Rattle.std.proofs.lemmas.Result.{err_from_is_err_and}
 use Rattle.std.proofs.lemmas.List.{get_or_default}
 use Rattle.ule_topo.specs.declared.group.GroupLine.{GroupLine}

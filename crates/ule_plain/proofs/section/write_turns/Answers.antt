@@ -1,4 +1,4 @@
-use Rattle.std.proofs.Common.{◌≡◌, ◌<◌, ◌≤◌, ◌+◌, ◌-◌, ◌*◌, ◌/◌, drop, length, ap, subst, arith, length-take}
+use Rattle.std.proofs.Common.{◌<◌, ◌+◌, ◌*◌, drop, length, ap, arith, length-take}
 use Rattle.std.proofs.lemmas.Result.{err_from_is_err_and}
 use Rattle.ule_trace.proofs.Progress.{failed, made_room, spelled}
 use Rattle.ule_trace.specs.Line.{line_text, lines_text}

@@ -1,4 +1,4 @@
-use Rattle.std.proofs.Common.{◌<◌, map, length, arith}
+use Rattle.std.proofs.Common.{map}
 use Rattle.std.proofs.lemmas.Result.{err_from_is_err_and}
 use Rattle.ule_trace.proofs.Progress.{failed}
 use Rattle.ule_trace.specs.Line.{lines_text}
