@@ -1,5 +1,5 @@
--- Worked judgments, by computing: the traces of one thread and one yield.
-use Rattle.std.proofs.Common.{◌≡◌, ℕ, pos, false, List, [], ◌∷◌, replicate, Some, None, refl}
+-- Worked judgments, by computing: the traces of one thread and one yield, and of a thread in a hand.
+use Rattle.std.proofs.Common.{◌≡◌, ℕ, pos, true, false, List, [], ◌∷◌, replicate, Some, None, refl}
 use Rattle.ule_history.specs.CpuUseUpdate.{updated_use, slid_use, ran_ticks}
 use Rattle.ule_prio.specs.declared.class.Class.TheVariants as class
 use Rattle.ule_score.specs.Score.{score_of}
@@ -11,9 +11,9 @@ use Rattle.ule_types.specs.Defaults.{default_settings}
 use Rattle.ule_types.specs.Outcome.{OutcomeValue}
 use Rattle.ule_types.specs.declared.command.Command.TheVariants as command
 use Rattle.ule_types.specs.declared.event.Entry.{Entry}
-use Rattle.ule_types.specs.declared.event.Event.TheVariants.{Switch, Tick}
+use Rattle.ule_types.specs.declared.event.Event.TheVariants.{Drop, Switch, Tick, Wake}
 use Rattle.ule_types.specs.declared.event.Event.{Event}
-use Rattle.ule_types.specs.declared.event.Reply.TheVariants.{Switched}
+use Rattle.ule_types.specs.declared.event.Reply.TheVariants.{Dropped, Switched, Woken}
 use Rattle.ule_types.specs.declared.outcome.ThreadLine.{ThreadLine}
 use Rattle.ule_types.specs.declared.setup.Form.TheVariants.{Ts}
 use Rattle.ule_types.specs.declared.setup.Setup.{Setup}
@@ -123,3 +123,48 @@ ends_judged :
     (judged one_yield (with_lines (thread_line 0 ∷ []) (cpu_line 0 ∷ []) 20001) ≡ Illegal 2 (fault.Final name.Now))
 unfolding judged_from next_event timeshare_priority priority_at score_of batch_priority use_steps updated_use slid_use ran_ticks
 ends_judged = (refl, refl, refl, refl, refl, refl)
+
+-- one thread that yields and then sleeps, and a second worker that wakes it
+abbrev sleeper : Setup
+sleeper = record {
+  settings = default_settings;
+  jitter = 1;
+  cpus = 2;
+  groups = [];
+  threads = record { id = 0; form = Ts (pos 0); cpu = 0; bound = true } ∷ [];
+  unborn = [];
+  scripts = (command.Yield ∷ command.Sleep 3 ∷ []) ∷ (command.Time 1 ∷ command.Wake 0 ∷ []) ∷ replicate 14 [];
+  turns = [];
+  rules = record {
+    settings = refl;
+    jitter = refl;
+    cpus = refl;
+    groups = refl;
+    group_count = refl;
+    threads = refl;
+    numbers = refl;
+    workers = refl;
+    idle = refl;
+    commands = refl;
+    budget = refl;
+    forks = refl;
+    forked_once = refl;
+    turns = refl;
+    turn_count = refl;
+  };
+}
+
+-- the thread leaves its CPU at 20,001
+abbrev dropped : Entry
+dropped = record { worker = 0; event = Drop 0 3; now = 20001; reply = Dropped 0 None }
+
+-- it is woken at this time
+abbrev woken : ℕ → Entry
+woken now = record { worker = 1; event = Wake 0; now = now; reply = Woken 172 (Some 0) 0 20001 }
+
+-- the thread is in worker 0's hand, at whatever time it is sought
+hands_judged :
+    (judged sleeper (told (yielded 20000 0 ∷ dropped ∷ woken 20001 ∷ []) [] [] 20001) ≡ Illegal 3 (fault.Hand 0)) ×
+    (judged sleeper (told (yielded 20000 0 ∷ dropped ∷ woken 20000 ∷ []) [] [] 20001) ≡ Illegal 3 (fault.Hand 0))
+unfolding judged_from next_event timeshare_priority priority_at score_of batch_priority use_steps updated_use slid_use ran_ticks
+hands_judged = (refl, refl)

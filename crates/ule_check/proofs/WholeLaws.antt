@@ -1,5 +1,5 @@
 -- What tells a whole legal history is judged legal, and so is what is told of rounds.
-use Rattle.std.proofs.Common.{◌≡◌, ℕ, ◌+◌, ◌<◌, ◌≤◌, List, [], ◌∷◌, slice_get, Some, refl, sym, ◌∙◌, ap, subst, arith}
+use Rattle.std.proofs.Common.{◌≡◌, ℕ, ◌+◌, ◌<◌, ◌≤◌, List, [], ◌∷◌, slice_get, Some, sym, ◌∙◌, ap, subst, arith}
 use Rattle.std.specs.List.{AllByRecursion}
 use Rattle.std.proofs.lemmas.Option.{slice_get_within}
 use Rattle.ule_types.specs.Outcome.{OutcomeValue}
@@ -7,7 +7,7 @@ use Rattle.ule_types.specs.declared.event.Entry.{Entry}
 use Rattle.ule_types.specs.declared.setup.Setup.{Setup}
 use Rattle.ule_model.specs.Ends.{outcome_of}
 use Rattle.ule_model.specs.History.{IsHistoryOf}
-use Rattle.ule_model.specs.Legal.{IsReplayed, Locked, Timed, after_entry, amount_in_all, entries_of, replayed, with_locks}
+use Rattle.ule_model.specs.Legal.{IsLegal, IsReplayed, IsWhole, Locked, Timed, after_entry, amount_in_all, entries_of, replayed, with_locks}
 use Rattle.ule_program.specs.Courses.{Course}
 use Rattle.ule_model.specs.Rounds.{opening_courses, play_of}
 use Rattle.ule_model.specs.Start.{starting_time, world_at_start}
@@ -77,8 +77,14 @@ whole_is_legal s o tells =
       end = sym (ap (λ (x : OutcomeValue). x.now) tells.lines);
     })))
 
--- what is told of the rounds is judged legal
+-- the outcome of the rounds is judged legal
 pub runs_are_legal : RunsAreLegal
-runs_are_legal s =
+runs_are_legal s o is =
     let history : IsHistoryOf s (play_of s) = history_of_rounds s in
-    whole_is_legal s (outcome_of s s.scripts (play_of s).entries) (record { legal = history.legal; whole = history.whole; lines = refl })
+    let same : o.entries ≡ (play_of s).entries = ap (λ (x : OutcomeValue). x.entries) is in
+    whole_is_legal s o
+    (record {
+      legal = subst (IsLegal s s.scripts) (sym same) history.legal;
+      whole = subst (IsWhole s s.scripts) (sym same) history.whole;
+      lines = is ∙ ap (outcome_of s s.scripts) (sym same);
+    })

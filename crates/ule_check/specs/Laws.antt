@@ -4,7 +4,7 @@ use Rattle.ule_types.specs.Outcome.{OutcomeValue}
 use Rattle.ule_types.specs.declared.setup.Setup.{Setup}
 use Rattle.ule_model.specs.Ends.{outcome_of}
 use Rattle.ule_model.specs.Legal.{IsLegal, IsWhole}
-use Rattle.ule_model.specs.Rounds.{play_of}
+use Rattle.ule_seq.specs.Outcomes.{IsOutcomeOf}
 use Rattle.ule_check.specs.Judged.{judged}
 use Rattle.ule_check.specs.declared.verdicts.Verdict.TheVariants.{Legal}
 
@@ -22,6 +22,6 @@ LegalIsWhole = (s : Setup) (o : OutcomeValue) → judged s o ≡ Legal → Tells
 abbrev pub WholeIsLegal : Type 0
 WholeIsLegal = (s : Setup) (o : OutcomeValue) → TellsWhole s o → judged s o ≡ Legal
 
--- what is told of the rounds of a setup is judged legal
+-- the outcome of the rounds of a setup is judged legal
 abbrev pub RunsAreLegal : Type 0
-RunsAreLegal = (s : Setup) → judged s (outcome_of s s.scripts (play_of s).entries) ≡ Legal
+RunsAreLegal = (s : Setup) (o : OutcomeValue) → IsOutcomeOf s o → judged s o ≡ Legal

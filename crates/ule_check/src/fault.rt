@@ -55,13 +55,13 @@ pub(crate) fn end_fault(expected: u64, found: u64) -> Option<Fault>
 }
 
 /// Another line of a thread than the one that is expected first.
-fn first_thread(x: &ThreadLine, y: &ThreadLine) -> Option<Fault>
-    ensures { result ≡ first_thread_fault x.now y.now }
+fn first_thread(line: &ThreadLine, told: &ThreadLine) -> Option<Fault>
+    ensures { result ≡ first_thread_fault line.now told.now }
 {
-    if *x == *y {
+    if *line == *told {
         None
     } else {
-        Some(Fault::Final(FinalName::Thread(least(x.id, y.id))))
+        Some(Fault::Final(FinalName::Thread(least(line.id, told.id))))
     }
 }
 
@@ -90,10 +90,10 @@ pub(crate) fn thread_fault(expected: &[ThreadLine], found: &[ThreadLine]) -> Opt
 }
 
 /// Another line of a CPU than the one that is expected first.
-fn first_cpu(c: Cpu, x: &CpuLine, y: &CpuLine) -> Option<Fault>
-    ensures { result ≡ first_cpu_fault c x.now y.now }
+fn first_cpu(c: Cpu, numbers: &CpuLine, told: &CpuLine) -> Option<Fault>
+    ensures { result ≡ first_cpu_fault c numbers.now told.now }
 {
-    if *x == *y {
+    if *numbers == *told {
         None
     } else {
         Some(Fault::Final(FinalName::Cpu(c)))

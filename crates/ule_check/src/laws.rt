@@ -13,8 +13,8 @@ pub fn whole_is_legal()
     ensures { WholeIsLegal }
 {}
 
-/// The law of runs: what is told of the rounds of a setup is judged legal. It does nothing when it
-/// runs.
+/// The law of runs: each outcome of the rounds of a setup, as `play` gives it, is judged legal. It
+/// does nothing when it runs.
 pub fn runs_are_legal()
     ensures { RunsAreLegal }
 {}

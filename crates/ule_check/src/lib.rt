@@ -5,10 +5,10 @@ pub use judgment::verdict;
 pub use laws::{legal_is_whole, runs_are_legal, whole_is_legal};
 pub use verdicts::{Fault, FinalName, Verdict};
 
-pub mod fault;
-pub mod judge;
+mod fault;
+mod judge;
 pub mod judgment;
 pub mod laws;
-pub mod seat;
-pub mod time;
+mod seat;
+mod time;
 pub mod verdicts;
