@@ -1,5 +1,5 @@
 //! The program `ule`: it hands its words, standard input and standard output to the top call, and
-//! ends with the status that this gives, 0 to 5. Where its words can't be had as text it ends
+//! ends with the status that this gives, 0 to 6. Where its words can't be had as text it ends
 //! without that call: with 1 where they are none, and with 5 where there is no memory for them.
 #![tactic(auto)]
 

@@ -13,7 +13,7 @@ pub const USAGE: u8 = 1;
 /// Reading failed.
 pub const READ_FAULT: u8 = 2;
 
-/// The input spells no setup.
+/// The input spells no setup, or begins with no scenario.
 pub const REFUSED: u8 = 3;
 
 /// Writing failed.
