@@ -2,18 +2,18 @@
 //! a setup in rounds.
 #![tactic(auto)]
 
+pub use event_locks::EventLocks;
 pub use own::SchedOwn;
 pub use parts::SchedParts;
 pub use places::{is_legal_so_far, place, place_in};
-pub use event_locks::EventLocks;
 pub use player::{GREATEST_ROUNDS, Player, Turn};
 pub use records::{STARTING_TIME, record_of};
 pub use rounds::play;
 pub use ule_program::Program;
 pub use world::{Ready, World};
 
-pub mod event_locks;
 pub mod course;
+pub mod event_locks;
 pub mod finals;
 pub mod hand;
 pub mod lock;

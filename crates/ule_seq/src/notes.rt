@@ -20,14 +20,7 @@ const BLANK_LINE: CpuLine = CpuLine {
 };
 
 /// Sets the lines of those of the first so many threads that are under a lock.
-#[tactic(
-    auto,
-    using(
-        crate::proofs::NoteSteps::none_before,
-        crate::proofs::NoteSteps::line_more,
-        crate::proofs::NoteSteps::no_line_more
-    )
-)]
+#[tactic(auto, using(crate::proofs::NoteSteps::none_before, crate::proofs::NoteSteps::line_more, crate::proofs::NoteSteps::no_line_more))]
 pub(crate) fn set_lines(v: &Guarded, count: u16, out: &mut Outcome)
     requires { count ≤ 256 }
     ensures { out.new ≡ record out.old { threads = with_lines_under v.now count out.old.threads } }
