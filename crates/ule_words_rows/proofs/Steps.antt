@@ -97,8 +97,8 @@ module _ (s : Setup) (z : TableId) where
     ready = record p { worker = record p.worker { held = (l, v) ∷ []; read = Some (One l, now) } }
 
     is_ready : p2 ≡ ready
-    is_ready = read ∙ (ap (λ x. record x { worker = timed x.worker now }) took
-        ∙ ap (λ h. record p { worker = record p.worker { held = (l, v) ∷ h; read = read_under (locks_of ((l, v) ∷ h)) now } }) at.holds)
+    is_ready = read ∙ (ap (λ (x : SchedPass). let y : SchedPass = record x { worker = timed x.worker now } in y) took
+        ∙ ap (λ (h : List (ℕ × LockValue)). let y : SchedPass = record p { worker = record p.worker { held = (l, v) ∷ h; read = read_under (locks_of ((l, v) ∷ h)) now } } in y) at.holds)
 
     -- it can commit the event, where that needs the lock
     pub can_commit : (sched_means s).needs e ≡ one l → CanCommit (sched_means s) p2.worker e (One l) now

@@ -1,12 +1,14 @@
 -- Where a pass over the scheduler's own parts stands in its program.
-use Rattle.std.specs.Prelude.{◌≡◌, ℕ, List, [], ◌∷◌, replicate, Option, Some, None}
+use Rattle.std.specs.Prelude.{◌≡◌, ℕ, pos, false, List, [], ◌∷◌, replicate, Option, Some, None}
 use Rattle.atomic_table.specs.Seated.{TableId}
 use Rattle.ule_score.specs.declared.record.ThreadRecord.{ThreadRecord}
 use Rattle.ule_types.specs.declared.command.Command.{Command}
 use Rattle.ule_types.specs.declared.command.Command.TheVariants.{Yield, Sleep, Wake}
 use Rattle.ule_types.specs.declared.event.Event.{Event}
 use Rattle.ule_types.specs.declared.event.Reply.{Reply}
+use Rattle.ule_types.specs.declared.setup.Form.TheVariants.{Ts}
 use Rattle.ule_types.specs.declared.setup.Setup.{Setup}
+use Rattle.ule_types.specs.declared.setup.ThreadSpec.{ThreadSpec}
 use Rattle.ule_model.specs.LockValue.{LockValue}
 use Rattle.ule_program.specs.Program.{begun, next_of, own_of_setup}
 use Rattle.ule_program.specs.declared.own.Own.{Own}
@@ -42,17 +44,25 @@ module _ (s : Setup) (z : TableId) where
     -- an event that it has as its item is one that it asks for
     pub asks : (e : Event) → at ≡ has (todo.Event e) → AsksFor s 0 (entries_in p.worker.mine) p.worker.hand e
 
-  -- is spare: the pass of worker 1 on this table, which holds no lock and has no change pending
-  pub record IsSpare (p : SchedPass) : Type 0 where
-    pub table : p.table ≡ z
-    pub number : p.worker.number ≡ 1
-    pub held : p.worker.held ≡ []
-    pub calm : p.worker.pending ≡ None
+-- is spare: the pass of worker 1 on this table, which holds no lock and has no change pending
+pub record IsSpare (z : TableId) (p : SchedPass) : Type 0 where
+  pub table : p.table ≡ z
+  pub number : p.worker.number ≡ 1
+  pub held : p.worker.held ≡ []
+  pub calm : p.worker.pending ≡ None
 
--- is sleeper: the setup of two CPUs whose worker 0 yields and sleeps on channel 3, and whose worker 1 wakes thread 0
+-- one thread: thread 0 on CPU 0
+abbrev pub one_thread : List ThreadSpec
+one_thread = record { id = 0; form = Ts (pos 0); cpu = 0; bound = false } ∷ []
+
+-- two scripts: worker 0 yields and sleeps on channel 3, and worker 1 wakes thread 0
+abbrev pub two_scripts : List (List Command)
+two_scripts = (Yield ∷ Sleep 3 ∷ []) ∷ (Wake 0 ∷ []) ∷ replicate 14 []
+
+-- is sleeper: a setup of two CPUs with these scripts
 pub record IsSleeper (s : Setup) : Type 0 where
   pub cpus : s.cpus ≡ 2
-  pub scripts : s.scripts ≡ (Yield ∷ Sleep 3 ∷ []) ∷ (Wake 0 ∷ []) ∷ replicate 14 []
+  pub scripts : s.scripts ≡ two_scripts
 
 -- dozing: the program of worker 0 whose sleep was begun
 abbrev pub dozing : Setup → Own
