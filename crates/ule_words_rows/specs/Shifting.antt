@@ -13,6 +13,7 @@ pub record CanShift (p : PassState Mover Bool Bool Move Place) : Type 0 where
   pub held : p.worker.held ≡ []
   pub calm : p.worker.pending ≡ None
 
--- can shift often: passes on this table, each of which may shift the thread, and has an allowance for 500 times
+-- can shift often: the passes of both workers on this table, in rising number, each of which may shift the thread, and has an allowance for 500 times
 pub record CanShiftOften (z : TableId) (passes : List (PassState Mover Bool Bool Move Place)) : Type 0 where
-  pub each : (w : ℕ) (p : PassState Mover Bool Bool Move Place) → slice_get passes w ≡ Some p → (p.table ≡ z) × CanShift p × (500 ≤ p.worker.allowance)
+  pub count : length passes ≡ 2
+  pub each : (w : ℕ) (p : PassState Mover Bool Bool Move Place) → slice_get passes w ≡ Some p → (p.table ≡ z) × (p.worker.number ≡ w) × CanShift p × (500 ≤ p.worker.allowance)

@@ -1,6 +1,7 @@
 use crate::{nap, shift};
 use std::test::*;
 use ule_micro_rows::nap::{Act, Answer};
+use ule_micro_rows::shift::{Move, Place};
 use ule_prio::LockId;
 use ule_words::{allowance, worker};
 
@@ -42,8 +43,22 @@ fn closes_in_order(rt: HostRuntime) -> Result<(), Fail> {
 
 #[test]
 fn workers_run_at_once(rt: HostRuntime) -> Result<(), Fail> {
-    let (named, left) = shift::race(&rt, rt.alloc())?;
-    assert_eq!(rt; named, Some(0));
-    assert_eq!(rt; left.as_slice(), [12, 14].as_slice());
+    let raced = shift::race(&rt, rt.alloc())?;
+    assert_eq!(rt; raced.left.as_slice(), [12, 14].as_slice());
+    let told = raced.end.entries();
+    assert_eq!(rt; told.len(), 1000);
+    for w in [0, 1] {
+        assert_eq!(rt; told.iter().filter(|x| x.worker == w).count(), 500);
+    }
+    for (k, x) in told.iter().enumerate() {
+        let is_there = matches!(x.reply, Place::Second);
+        assert_eq!(rt; is_there, k % 2 == 0);
+        assert!(rt; matches!(x.event, Move::Shift(0, 1)));
+        assert_eq!(rt; x.now, 20000);
+    }
+    let end = &raced.end;
+    assert_eq!(rt; (end.values(), end.time()), (25, 20000));
+    assert_eq!(rt; end.place(), Some(LockId(0)));
+    assert_eq!(rt; end.word(), Some(LockId(0)));
     Ok(())
 }
