@@ -52,6 +52,12 @@ idle_budget worker cpus (s ∷ xs) idle =
     let parts = and_parts (length s == 0) (are_idle xs) idle in
     rw (no_command s parts.0) (omega (arith, idle_budget (worker + 1) cpus xs parts.1))
 
+-- scripts that are read so far are charged no more than all
+pub scripts_room : (cpus : ℕ) (done rest idle : List (List Command)) → are_idle idle ≡ true → budget_from 0 cpus (done ++ rest) ≤ 65536 → budget_from 0 cpus (done ++ idle) ≤ 65536
+scripts_room cpus done rest idle none all =
+    let w = length done in
+    omega (arith, budget-append 0 w cpus done idle (omega arith), budget-append 0 w cpus done rest (omega arith), idle_budget w cpus idle none, all)
+
 -- a command that is read has room, since all have
 pub command_room : (cpus : ℕ) (done : List (List Command)) (front : List Command) (c : Command) (rest : List Command) (later idle : List (List Command)) → are_idle idle ≡ true →
     budget_from 0 cpus (done ++ (front ++ c ∷ rest) ∷ later) ≤ 65536 → budget_from 0 cpus (done ++ front ∷ idle) + greatest_of c (length done) cpus ≤ 65536
