@@ -88,7 +88,7 @@ all_groups_reach s = groups_reach s 4 [] s.groups (omega arith) (omega arith) re
 -- ---- threads
 
 -- all declared numbers are below 256, and distinct
-numbers_of : (s : Setup) → (list_all (λ t. nat_lt t 256) (declared_ids s.threads s.unborn) ≡ true) × (is_distinct (declared_ids s.threads s.unborn) ≡ true)
+pub numbers_of : (s : Setup) → (list_all (λ t. nat_lt t 256) (declared_ids s.threads s.unborn) ≡ true) × (is_distinct (declared_ids s.threads s.unborn) ≡ true)
 numbers_of s = and_parts (list_all (λ t. nat_lt t 256) (declared_ids s.threads s.unborn)) (is_distinct (declared_ids s.threads s.unborn)) s.rules.numbers
 
 -- a number of those is below 256, and none of those before it

@@ -122,6 +122,8 @@ group_taken r w v ts g cs is o =
         is.number.number,
         is.parent.fault,
         is.parent.value,
+        le-leb 0 g.id (omega arith),
+        le-leb g.id 14 is.small,
         is.rising,
         is.cpus,
         is.mask,
@@ -133,8 +135,6 @@ group_taken r w v ts g cs is o =
         not_before r.place 3 (omega arith),
         not_before r.place 4 from,
         not_before (length (keyword Group ∷ w ∷ v ∷ ts)) 4 (omega (arith, some)),
-        le-leb 0 g.id (omega arith),
-        le-leb g.id 14 is.small,
         not_above (spent_items r + 0) 65536 (omega arith),
       ) refl;
       gives = rw (is.number.minus, is.number.number, is.parent.value, is.cpus, is.mask) refl;
