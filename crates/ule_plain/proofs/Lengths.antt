@@ -74,7 +74,7 @@ nice_length (negsuc n) small = let few = ltb-true n 20 small in let short = two_
 -- ---- lines
 
 -- lines of which none has more than so many bytes
-lines_length : {X : Type 0} (words : X → List (List ℕ)) (p : X → Bool) (k : ℕ) → ((x : X) → p x ≡ true → length (line_text (words x)) ≤ k) → (xs : List X) → list_all p xs ≡ true →
+pub lines_length : {X : Type 0} (words : X → List (List ℕ)) (p : X → Bool) (k : ℕ) → ((x : X) → p x ≡ true → length (line_text (words x)) ≤ k) → (xs : List X) → list_all p xs ≡ true →
     length (lines_text (map words xs)) ≤ length xs * k
 lines_length words p k each [] all = omega arith
 lines_length words p k each (x ∷ xs) all =

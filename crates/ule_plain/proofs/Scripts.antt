@@ -36,7 +36,7 @@ charge-append worker cpus xs ys =
     omega (arith, sum-map f (xs ++ ys), sum_by-append f xs ys, sum-map f xs, sum-map f ys)
 
 -- what scripts are charged, those of the workers from `next` on apart
-budget-append : (worker next cpus : ℕ) (xs ys : List (List Command)) → worker + length xs ≡ next → budget_from worker cpus (xs ++ ys) ≡ budget_from worker cpus xs + budget_from next cpus ys
+pub budget-append : (worker next cpus : ℕ) (xs ys : List (List Command)) → worker + length xs ≡ next → budget_from worker cpus (xs ++ ys) ≡ budget_from worker cpus xs + budget_from next cpus ys
 budget-append worker next cpus [] ys is = let same : worker ≡ next = omega (arith, is) in omega (arith, ap (λ w. budget_from w cpus ys) same)
 budget-append worker next cpus (s ∷ xs) ys is = omega (arith, budget-append (worker + 1) next cpus xs ys (omega (arith, is)))
 

@@ -28,13 +28,13 @@ late_at : (s : Setup) (place : ℕ) (turns : List ℕ) → 4 ≤ place → IsLat
 late_at s place turns from = record { from = from; budget = leb-true (budget_from 0 s.cpus s.scripts) 65536 s.rules.budget }
 
 -- no more turns than there may be
-few_turns : (s : Setup) → length s.turns ≤ 4096
+pub few_turns : (s : Setup) → length s.turns ≤ 4096
 few_turns s = leb-true (length s.turns) 4096 s.rules.turn_count
 
 -- ---- a line of turns
 
 -- a test of all, of those of a line
-part_passes : (p : ℕ → Bool) (n m : ℕ) (xs : List ℕ) → list_all p xs ≡ true → list_all p (take m (drop n xs)) ≡ true
+pub part_passes : (p : ℕ → Bool) (n m : ℕ) (xs : List ℕ) → list_all p xs ≡ true → list_all p (take m (drop n xs)) ≡ true
 part_passes p n m xs all =
     let behind = and_parts (list_all p (take n xs)) (list_all p (drop n xs)) (sym (list_all-append p (take n xs) (drop n xs)) ∙ ap (list_all p) (take-append-drop n xs) ∙ all) in
     (and_parts (list_all p (take m (drop n xs))) (list_all p (drop m (drop n xs)))
