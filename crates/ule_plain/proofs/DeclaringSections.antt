@@ -1,5 +1,5 @@
 -- What the sections of groups and of threads give.
-use Rattle.std.proofs.Common.{◌≡◌, ℕ, ◌+◌, ◌<◌, ◌≤◌, ◌==◌, max, Bool, true, false, ◌&&◌, ◌||◌, List, [], ◌∷◌, ◌++◌, length, map, replicate, refl, sym, ap, ◌∙◌, subst, append_assoc, arith}
+use Rattle.std.proofs.Common.{◌≡◌, ℕ, ◌<◌, ◌≤◌, ◌==◌, max, Bool, true, false, ◌||◌, List, [], ◌∷◌, ◌++◌, length, map, replicate, refl, sym, ap, ◌∙◌, subst, append_assoc, arith}
 use Rattle.std.specs.Prelude.{nat_lt, nat_le, is_ok}
 use Rattle.std.specs.List.{list_all}
 use Rattle.std.proofs.lemmas.Bool.{and_parts, leb-true, ltb-true}
@@ -7,13 +7,12 @@ use Rattle.std.proofs.lemmas.List.{append-nil, length-append, map-append}
 use Rattle.std.proofs.lemmas.List.Folds.{list_all-append, list_any-append}
 use Rattle.ule_topo.specs.Build.{built}
 use Rattle.ule_topo.specs.declared.group.GroupLine.{GroupLine}
-use Rattle.ule_types.proofs.Repeats.{distinct_front}
 use Rattle.ule_types.specs.Commands.{is_among}
-use Rattle.ule_types.specs.Rules.{is_spec, is_distinct, are_numbers, declared_ids}
+use Rattle.ule_types.specs.Rules.{is_spec, is_distinct, declared_ids}
 use Rattle.ule_types.specs.declared.command.Command.{Command}
 use Rattle.ule_types.specs.declared.setup.Setup.{Setup}
 use Rattle.ule_types.specs.declared.setup.ThreadSpec.{ThreadSpec}
-use Rattle.ule_scenario.specs.Reading.{Reading, is_known_thread}
+use Rattle.ule_scenario.specs.Reading.{Reading}
 use Rattle.ule_trace.specs.Line.{lines_text}
 use Rattle.ule_plain.proofs.DeclaringLines.{IsOpen, thread_leads, unborn_leads}
 use Rattle.ule_plain.proofs.GroupLines.{group_leads}

@@ -1,15 +1,15 @@
 -- What the section of scripts gives.
-use Rattle.std.proofs.Common.{◌≡◌, ℕ, ◌+◌, ◌-◌, ◌<◌, ◌≤◌, ◌==◌, max, Bool, true, false, ◌&&◌, List, [], ◌∷◌, ◌++◌, length, map, take, drop, set, get_or, replicate, refl, sym, ap, ◌∙◌, subst, append_assoc, arith}
-use Rattle.std.specs.Prelude.{nat_lt, nat_le, Some}
+use Rattle.std.proofs.Common.{◌≡◌, ℕ, ◌+◌, ◌-◌, ◌<◌, ◌≤◌, max, true, List, [], ◌∷◌, ◌++◌, length, map, take, drop, set, replicate, refl, sym, ap, ◌∙◌, subst, append_assoc, arith}
+use Rattle.std.specs.Prelude.{Some}
 use Rattle.std.specs.List.{list_all}
-use Rattle.std.proofs.lemmas.Bool.{and_parts, leb-true, lt-ltb}
+use Rattle.std.proofs.lemmas.Bool.{leb-true}
 use Rattle.std.proofs.lemmas.List.{append-nil, length-append, length-take, take-append-drop, set_at, get_or_at}
 use Rattle.ule_types.specs.Commands.{is_among, is_command, greatest_of}
 use Rattle.ule_types.specs.Rules.{is_distinct, declared_ids, budget_from, forked_in_all}
 use Rattle.ule_types.specs.declared.command.Command.{Command}
 use Rattle.ule_types.specs.declared.setup.Setup.{Setup}
 use Rattle.ule_scenario.specs.Effects.{with_command}
-use Rattle.ule_scenario.specs.Reading.{Reading, last_worker, spent_items}
+use Rattle.ule_scenario.specs.Reading.{Reading}
 use Rattle.ule_trace.specs.Line.{line_text, lines_text}
 use Rattle.ule_plain.proofs.CommandLines.{IsValid, HasRoom, command_leads, commanded}
 use Rattle.ule_plain.proofs.DeclaringLines.{IsOpen}

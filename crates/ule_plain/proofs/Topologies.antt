@@ -1,8 +1,8 @@
 -- What the groups of a setup keep, since they are a topology: a front of them is one too, and their numbers and CPUs are in range.
-use Rattle.std.proofs.Common.{◌≡◌, ℕ, ◌+◌, ◌-◌, ◌^◌, ◌<◌, ◌≤◌, ◌==◌, Bool, true, false, not, ◌&&◌, ◌||◌, Option, Some, None, Result, Ok, Err, List, [], ◌∷◌, ◌++◌, length, refl, sym, ap, ◌∙◌, subst, arith}
+use Rattle.std.proofs.Common.{◌≡◌, ℕ, ◌+◌, ◌^◌, ◌<◌, ◌==◌, Bool, true, false, not, ◌&&◌, ◌||◌, Option, Some, None, Result, Ok, Err, List, [], ◌∷◌, ◌++◌, length, refl, sym, ap, ◌∙◌, subst, arith}
 use Rattle.std.specs.Prelude.{nat_lt, nat_le, is_none, is_some, if◌then◌else◌, is_ok, slice_get, get_or, bit_and}
 use Rattle.std.specs.List.{list_all}
-use Rattle.std.proofs.lemmas.Bool.{and_from, and_parts, or_parts, not-false, leb-true, le-leb, ltb-true, ltb-false, lt-ltb, eqb-true, false≢true}
+use Rattle.std.proofs.lemmas.Bool.{and_from, and_parts, or_parts, not-false, le-leb, ltb-true, ltb-false, lt-ltb, eqb-true, false≢true}
 use Rattle.std.proofs.lemmas.List.Folds.{list_all-append, list_all_at}
 use Rattle.std.proofs.lemmas.List.Quantifiers.{position-Some}
 use Rattle.std.proofs.lemmas.Nat.{and_le_r, pow_pos}
@@ -10,8 +10,7 @@ use Rattle.std.proofs.lemmas.Option.{get_or_from_slice_get}
 use Rattle.ule_topo.proofs.BuildLaws.{built_more, built_fault}
 use Rattle.ule_topo.specs.Build.{built, built_behind, group_of_line, root_of_line, child_of_line, group_at_place, group_in_found, group_in, overlaps, place_of_id}
 use Rattle.ule_topo.specs.Mask.{all_cpus, is_inside}
-use Rattle.ule_topo.specs.Tree.{Tree, no_group}
-use Rattle.ule_topo.specs.declared.fault.BuildFault.{BuildFault}
+use Rattle.ule_topo.specs.Tree.{no_group}
 use Rattle.ule_topo.specs.declared.fault.TopoFault.{TopoFault}
 use Rattle.ule_topo.specs.declared.fault.TopoFault.TheVariants.{NoRoot, OutsideParent, Overlap, TooDeep, BadId}
 use Rattle.ule_topo.specs.declared.group.Group.{Group}
@@ -67,9 +66,10 @@ let_through false e r k is = (refl, is)
 -- a line and its group by the numbers and the CPUs of both
 in_range : (cpus : ℕ) (l : GroupLine) (k : Group) → nat_le l.id 14 ≡ true → is_parent_number l.parent ≡ true → l.cpus < 2 ^ cpus → k.id ≡ l.id → k.cpus ≡ l.cpus → Ranges cpus l k
 in_range cpus l k id parent below same_id same_cpus =
-    let few = lt-ltb l.cpus (2 ^ cpus) below in
-    (and_from (nat_le l.id 14 && is_parent_number l.parent) (nat_lt l.cpus (2 ^ cpus)) (and_from (nat_le l.id 14) (is_parent_number l.parent) id parent) few,
-    and_from (nat_le k.id 14) (nat_lt k.cpus (2 ^ cpus)) (ap (λ n. nat_le n 14) same_id ∙ id) (ap (λ n. nat_lt n (2 ^ cpus)) same_cpus ∙ few))
+    let few = lt-ltb l.cpus (2 ^ cpus) below in (
+      and_from (nat_le l.id 14 && is_parent_number l.parent) (nat_lt l.cpus (2 ^ cpus)) (and_from (nat_le l.id 14) (is_parent_number l.parent) id parent) few,
+      and_from (nat_le k.id 14) (nat_lt k.cpus (2 ^ cpus)) (ap (λ n. nat_le n 14) same_id ∙ id) (ap (λ n. nat_lt n (2 ^ cpus)) same_cpus ∙ few),
+    )
 
 -- the first line
 root_ranges : (cpus : ℕ) (l : GroupLine) (k : Group) → nat_le l.id 14 ≡ true → (b : Bool) → (is_none l.parent && (l.cpus == all_cpus cpus)) ≡ b →
