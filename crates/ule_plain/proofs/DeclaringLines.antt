@@ -198,11 +198,11 @@ spec_of r n v f id cpu cpus there small new is = record {
 }
 
 -- a number that ends a range
-range_end : (low high p : ℕ) → is_within low high p ≡ true → p ≤ high
+pub range_end : (low high p : ℕ) → is_within low high p ≡ true → p ≤ high
 range_end low high p within = leb-true p high (and_parts (nat_le low p) (nat_le p high) within).1
 
 -- a priority in the range of the class of idle threads
-idle_small : (p : ℕ) → is_form (form.Idle p) ≡ true → (is_base_of class.Idle p ≡ true) × (p ≤ 255)
+pub idle_small : (p : ℕ) → is_form (form.Idle p) ≡ true → (is_base_of class.Idle p ≡ true) × (p ≤ 255)
 idle_small p good =
     let both = and_parts (is_base_of class.Idle p) (nat_lt p 256) good in
     let below = ltb-true p 256 both.1 in

@@ -10,3 +10,12 @@ pub mod Sections
 pub mod Masks
 pub mod NumberLists
 pub mod PlayLines
+pub mod Topologies
+pub mod GroupLines
+pub mod Scripts
+pub mod DeclaringSections
+pub mod ScriptSections
+pub mod TurnSections
+pub mod Lengths
+pub mod TextLength
+pub mod TextBack

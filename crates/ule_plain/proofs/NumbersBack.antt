@@ -79,7 +79,7 @@ decimal_is_word n small =
     and_from (nat_lt 0 (length (decimal n))) (list_all is_inner (decimal n)) (lt-ltb 0 (length (decimal n)) (decimal_nonempty n (omega arith))) (each_inner (decimal n) (all_digits n small))
 
 -- its first byte is a digit
-first_byte : (n : ℕ) → n < 2 ^ 32 → (48 ≤ get_or (decimal n) 0 0) × (get_or (decimal n) 0 0 ≤ 57)
+pub first_byte : (n : ℕ) → n < 2 ^ 32 → (48 ≤ get_or (decimal n) 0 0) × (get_or (decimal n) 0 0 ≤ 57)
 first_byte n small = let d = digit_at (decimal n) 0 (all_digits n small) (decimal_nonempty n (omega arith)) in (omega (arith, d), omega (arith, d))
 
 -- no digit is a minus

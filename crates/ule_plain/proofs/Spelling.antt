@@ -56,7 +56,7 @@ opening_parts held first lines y z =
 -- ---- lines of turns
 
 -- how many numbers are below one
-length_below : (n : ℕ) → length (below n) ≡ n
+pub length_below : (n : ℕ) → length (below n) ≡ n
 unfolding below
 length_below zero = refl
 length_below (suc n) = omega (arith, length-append (below n) (n ∷ []), length_below n)
