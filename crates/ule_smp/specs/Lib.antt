@@ -1,0 +1,4 @@
+pub mod Runs
+pub mod Rests
+pub mod Smp
+pub mod Ends
