@@ -1,3 +1,4 @@
 pub mod Made
 pub mod Programs
 pub mod Amounts
+pub mod Places
