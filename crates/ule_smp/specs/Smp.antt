@@ -1,5 +1,5 @@
 -- The shared scheduler of a setup, and the passes of its workers.
-use Rattle.std.specs.Prelude.{◌≡◌, ◌<◌, ℕ, true, List, [], ◌∷◌, reverse, length, Option, Some, None, slice_get}
+use Rattle.std.specs.Prelude.{◌≡◌, ◌≤◌, ℕ, true, List, [], ◌∷◌, reverse, length, Option, Some, None, slice_get}
 use Rattle.atomic_table.specs.Seated.{TableId}
 use Rattle.ule_score.specs.declared.record.ThreadRecord.{ThreadRecord}
 use Rattle.ule_types.specs.declared.command.Command.{Command}
@@ -52,10 +52,11 @@ module _ (s : Setup) where
     pub number : p.worker.number ≡ w
     pub rest : RestsAfter (reverse list) p
 
-  -- are done: the passes of all workers on this table, in rising number, each at rest behind its list of commands
+  -- are done: the passes of all workers on this table, in rising number, each at rest behind its list of commands; no other list has a command
   pub record AreDone (table : TableId) (lists : List (List Command)) (passes : List SchedPass) : Type 0 where
     pub count : length passes ≡ s.cpus
     pub each : (w : ℕ) (p : SchedPass) → slice_get passes w ≡ Some p → IsDone table (list_of lists w) w p
+    pub others : (w : ℕ) → s.cpus ≤ w → list_of lists w ≡ []
 
 -- has locked: the pass took the lock, and the thread's record is under it, in the value that the pass now holds, at this place
 pub record HasLocked (t : ℕ) (p : SchedPass) (h : Held) (q : SchedPass) : Type 0 where
