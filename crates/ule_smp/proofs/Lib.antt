@@ -5,3 +5,4 @@ pub mod Places
 pub mod Lines
 pub mod Noting
 pub mod Legality
+pub mod Closing

@@ -103,13 +103,13 @@ one_told t o (v ∷ vs) f each (inr (none, (zero, u, at, is))) = one_told t o vs
     come None q o none is = none ∙ is
     come (Some l) q o none is = is
 one_told t o (v ∷ vs) f each (inr (none, (suc l, u, at, is))) = one_told t o vs (λ u. first_found (line_under v u) (f u)) (λ l u at. each (suc l) u at)
-    (by (line_under v t) (f t) o (each 0 v refl) none)
+    (by (line_under v t) (f t) (each 0 v refl) none)
   where
-    by : (p q o : Option ThreadLine) → (p ≡ o) ⊎ (p ≡ None) → q ≡ None
+    by : (p q : Option ThreadLine) → (p ≡ o) ⊎ (p ≡ None) → q ≡ None
         → (first_found p q ≡ o) ⊎ ((first_found p q ≡ None) × ((k : ℕ) × (x : LockValue) × (slice_get vs k ≡ Some x) × (line_under x t ≡ o)))
-    by None q o either none = inl none
-    by (Some m) q o (inl same) none = inl same
-    by (Some m) q o (inr other) none = absurd (none-some m (sym other))
+    by None q either none = inr (none, (l, u, at, is))
+    by (Some m) q (inl same) none = inl same
+    by (Some m) q (inr other) none = absurd (none-some m (sym other))
 
 module _ (s : Setup) where
   -- ---- entries
