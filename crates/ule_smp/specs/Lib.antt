@@ -1,4 +1,3 @@
 pub mod Runs
 pub mod Rests
-pub mod Smp
-pub mod Ends
+pub mod Taken

@@ -2,8 +2,8 @@
 use Rattle.std.specs.Prelude.{◌≡◌, ℕ, ◌+◌, ◌<◌, ◌≤◌, List, [], ◌∷◌, ◌++◌, Option, Some, None}
 use Rattle.std.specs.List.{AllByRecursion}
 use Rattle.ule_micro.specs.declared.todo.Todo.TheVariants.{Advance, Event}
-use Rattle.ule_micro.specs.Means.{Means}
-use Rattle.ule_micro.specs.Standings.{Standing, asks, has, rests, standing_with}
+use Rattle.ule_micro.specs.Means.{Means, one}
+use Rattle.ule_micro.specs.Standings.{Journal, Standing, asks, has, rests, standing_with}
 use Rattle.ule_words.specs.Passes.{PassState}
 use Rattle.ule_words.specs.declared.log.Numbered.{Numbered}
 
@@ -70,3 +70,15 @@ pub record HasRun {H O G E R C : Type 0} (m : Means H O G E R C) (c : C) (p : Pa
   pub few : items ≤ m.charge (m.number p.own) c
   pub table : q.table ≡ p.table
   pub number : q.worker.number ≡ p.worker.number
+
+module _ {H O G E R C : Type 0} (m : Means H O G E R C) where
+  -- counts events: where a worker has an event to perform, the items that are left of its command are one at least
+  abbrev pub CountsEvents : Type 0
+  CountsEvents = (j : Journal E R C) (o : O) (e : E) → m.stands j o (has (Event e)) → 1 ≤ m.left o (has (Event e))
+
+  -- is one under: of a worker with this own part the command is one event under this lock
+  pub record IsOneUnder (l : ℕ) (c : C) (o : O) : Type 0 where
+    pub event : E
+    pub item : (m.next (m.begin o c) None).0 ≡ Some (Event event)
+    pub needs : m.needs event ≡ one l
+    pub last : (hand : H) (told : R × ℕ) → (m.next (m.with_hand (m.next (m.begin o c) None).1 hand) (Some told)).0 ≡ None

@@ -2,8 +2,7 @@
 //! worker runs commands on its pass, and at the end all passes give one history.
 #![tactic(auto)]
 
-mod close;
-mod smp;
-
-pub use close::Closed;
-pub use smp::{Held, Smp, SmpPass, SmpPasses, left};
+mod course;
+mod event;
+mod seek;
+mod taken;
