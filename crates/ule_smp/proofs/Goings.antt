@@ -45,11 +45,11 @@ module _ {H O G E R C : Type 0} (m : Means H O G E R C) (law : IsLawful m) (c : 
     runs = subst (λ z. Runs m (point_of p rests) (c ∷ []) 0 (point_of z (asks None))) (sym is) (begins c stays refl);
     more = [];
     adds = ap (λ z. z.worker.mine) is;
-    above = ();
+    above = tt;
     seen = let z = ap (λ z. z.worker.seen) is in omega arith;
     answers = refl;
     left = let z = ap (λ z. z.worker.allowance) is in omega arith;
-    few = few;
+    few = omega (arith, few);
     table = ap (λ z. z.table) is;
     number = ap (λ z. z.worker.number) is;
     come = λ given rest valid. come_begun m law.hands given c p q held read is rest.come (stands given rest valid);
