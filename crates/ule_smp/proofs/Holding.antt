@@ -14,7 +14,7 @@ use Rattle.ule_words.specs.Passes.{PassState}
 use Rattle.ule_words.specs.Programs.{StandsAt}
 use Rattle.ule_words.specs.Tells.{CanCommit, HasCommitted}
 use Rattle.ule_words.specs.Workers.{act_of, calm, entries_in, read_under, taking, timed}
-use Rattle.ule_smp.specs.Taken.{AreHeld, HasPerformed, Serve, holding}
+use Rattle.ule_smp.specs.Taken.{ActsSo, AreHeld, HasPerformed, Serve, holding}
 
 module _ {G : Type 0} where
   -- held locks: the locks that are held
@@ -59,11 +59,15 @@ module _ {H O G E R C : Type 0} (m : Means H O G E R C) (e : E) (locks : HeldLoc
   held_behind p q r s now reply is d settled held = subst (λ z. AreHeld locks z.worker.held) (sym settled) (subst (λ z. AreHeld locks z.held) (sym d.worker)
       (held_still locks q.worker.held _ (subst (λ z. AreHeld locks z.worker.held) (sym is) held)))
 
+  -- same time: the time of the commit is the one that the pass read
+  same_time : (p r : PassState O H G E R) (now : ℕ) (reply : R) (d : HasCommitted m (record p { worker = timed p.worker now }) e reply r) → AreHeld locks p.worker.held → d.now ≡ now
+  same_time p r now reply d held = ap (λ x. x.1) (same_Some (d.locks, d.now) (locks, now) (sym d.read ∙ time_read p now held))
+
   -- has performed timed: the event, from the time that the pass read to where it gave its locks back
   has_performed_timed : (p r s z : PassState O H G E R) (now : ℕ) (reply : R) → HasCommitted m (record p { worker = timed p.worker now }) e reply r → s ≡ record r { worker = calm r.worker }
       → z ≡ record s { worker = holding s.worker [] } → AreHeld locks p.worker.held → HasPerformed m p e (reply, now) z
   has_performed_timed p r s z now reply d settled free held =
-      let same : d.now ≡ now = ap (λ x. x.1) (same_Some (d.locks, d.now) (locks, now) (sym d.read ∙ time_read p now held)) in
+      let same = same_time p r now reply d held in
       let behind : z ≡ record r { worker = holding (calm r.worker) [] } = free ∙ ap {A = PassState O H G E R} (λ x. record x { worker = holding x.worker [] }) settled in record {
     hand = (act_of m p.worker e d.now).hand;
     entry = record { number = d.ticket; entry = entry_made p.worker.number e d.locks d.now (act_of m p.worker e d.now).reply };
@@ -83,6 +87,13 @@ module _ {H O G E R C : Type 0} (m : Means H O G E R C) (e : E) (locks : HeldLoc
       → z ≡ record s { worker = holding s.worker [] } → AreHeld locks p.worker.held → HasPerformed m p e (reply, now) z
   has_performed_under p q r s z now reply is d settled free held = has_performed_timed p r s z now reply (subst (λ x. HasCommitted m x e reply r) is d) settled free held
 
+
+  -- acts so: the event was performed where it may be
+  pub acts_so : (p q r : PassState O H G E R) (now : ℕ) (reply : R) → q ≡ record p { worker = timed p.worker now } → HasCommitted m q e reply r → AreHeld locks p.worker.held
+      → ActsSo m p.worker.number p.worker.hand (held_values p.worker.held) e (reply, now)
+  acts_so p q r now reply is d held = by (subst (λ x. HasCommitted m x e reply r) is d) where
+    by : HasCommitted m (record p { worker = timed p.worker now }) e reply r → ActsSo m p.worker.number p.worker.hand (held_values p.worker.held) e (reply, now)
+    by d = subst (λ n. ActsSo m p.worker.number p.worker.hand (held_values p.worker.held) e (reply, n)) (same_time p r now reply d held) record { may = d.may; is_reply = d.is_reply }
 
 module _ {H O G E R : Type 0} where
   -- took: a lock that was taken behind a time that was forgotten

@@ -80,5 +80,5 @@ module _ {H O G E R C : Type 0} (m : Means H O G E R C) where
   pub record IsOneUnder (l : ℕ) (c : C) (o : O) : Type 0 where
     pub event : E
     pub item : (m.next (m.begin o c) None).0 ≡ Some (Event event)
-    pub needs : m.needs event ≡ one l
+    pub needs : (e : E) → (m.next (m.begin o c) None).0 ≡ Some (Event e) → m.needs e ≡ one l
     pub last : (hand : H) (told : R × ℕ) → (m.next (m.with_hand (m.next (m.begin o c) None).1 hand) (Some told)).0 ≡ None

@@ -27,6 +27,11 @@ module _ {H O G E R C : Type 0} (m : Means H O G E R C) where
   abbrev pub Serve : E → HeldLocks → List (ℕ × G) → Type 0
   Serve e locks held = AreHeld locks held × AreItsLocks m locks (held_values held) (m.needs e)
 
+  -- acts so: the event may be performed with this hand on these values, and so answers
+  pub record ActsSo (w : ℕ) (hand : H) (guarded : List G) (e : E) (told : R × ℕ) : Type 0 where
+    pub may : m.may w e told.1 hand guarded
+    pub is_reply : told.0 ≡ (m.act w e told.1 hand guarded).reply
+
   -- has performed: the pass, without a lock before and behind it, performed the event, as the newest of its entries, with this reply at this time
   pub record HasPerformed (p : PassState O H G E R) (e : E) (told : R × ℕ) (q : PassState O H G E R) : Type 0 where
     pub hand : H

@@ -1,8 +1,8 @@
 //! One event of a worker's program.
-ghost use Rattle.std.specs.Prelude.{◌≡◌, ℕ, ◌<◌, List, [], None};
-ghost use Rattle.ule_words.specs.Passes.{PassState};
+ghost use Rattle.std.specs.Prelude.{◌≡◌, ◌<◌, [], None};
+ghost use Rattle.ule_words.specs.Held.{held_values};
 ghost use Rattle.ule_words.specs.Workers.{entries_in};
-ghost use Rattle.ule_smp.specs.Taken.{HasPerformed, Serve, holding};
+ghost use Rattle.ule_smp.specs.Taken.{ActsSo, HasPerformed, Serve};
 
 use crate::taken::{give_back, settle, take_locks};
 use std::sync::Wait;
@@ -41,7 +41,8 @@ pub(crate) fn perform_under<P: Parts>(
     requires calm { p.old.worker.pending ≡ None }
     requires left { 0 < p.old.worker.allowance }
     requires asks { (P.means locks.now.parts).asks p.old.worker.number (entries_in p.old.worker.mine) p.old.worker.hand e.now }
-    ensures { HasPerformed (P.means locks.now.parts) p.old e.now result p.new }
+    ensures performed { HasPerformed (P.means locks.now.parts) p.old e.now result p.new }
+    ensures acts { ActsSo (P.means locks.now.parts) p.old.worker.number p.old.worker.hand (held_values p.old.worker.held) e.now result }
 {
     let now = locks.read_now(p);
     let reply = locks.commit(p, e);
