@@ -9,7 +9,7 @@ use Rattle.ule_micro.specs.declared.todo.Todo.{Todo}
 use Rattle.ule_micro.specs.declared.todo.Todo.TheVariants.{Advance, Event}
 use Rattle.ule_words.specs.Passes.{PassState}
 use Rattle.ule_words.specs.Programs.{StandsAt}
-use Rattle.ule_words.specs.Workers.{advancing}
+use Rattle.ule_words.specs.Workers.{advancing, taking}
 use Rattle.ule_words.specs.declared.log.Numbered.{Numbered}
 use Rattle.ule_smp.specs.Rests.{HasComeTo, IsAtRest}
 use Rattle.ule_smp.specs.Runs.{CountsEvents, HasRun, Runs, begins, newest_reply, point_of, stays}
@@ -36,6 +36,14 @@ module _ {H O G E R C : Type 0} (m : Means H O G E R C) (c : C) (p : PassState O
     pub number : q.worker.number ≡ p.worker.number
     pub come : (given : List C) → IsAtRest m given p → m.valid p.worker.number given c → HasComeTo m (c ∷ given) q standing
 
+module _ {H O G E R C : Type 0} (m : Means H O G E R C) where
+  -- is told: what a pass is that was told its next item
+  pub record IsTold (q : PassState O H G E R) (told : Option (R × ℕ)) (given_item : Option (Todo E)) (z : PassState O H G E R) : Type 0 where
+    pub item : given_item ≡ (m.next q.own told).0
+    pub own : z ≡ told_from m q told
+    pub stands : (given : List C) → StandsAt m given q (asks told) → StandsAt m given z (standing_with given_item)
+    pub left : m.left z.own (standing_with given_item) ≤ m.left q.own (asks told)
+
 module _ {H O G E R C : Type 0} (m : Means H O G E R C) (law : IsLawful m) (c : C) (p : PassState O H G E R) where
   -- goes begun: the command was begun
   pub goes_begun : (q : PassState O H G E R) (held : List (ℕ × G)) (read : Option (HeldLocks × ℕ)) → q ≡ begun_from m p c held read → m.left q.own (asks None) ≤ m.charge (m.number p.own) c
@@ -55,24 +63,32 @@ module _ {H O G E R C : Type 0} (m : Means H O G E R C) (law : IsLawful m) (c : 
     come = λ given rest valid. come_begun m law.hands given c p q held read is rest.come (stands given rest valid);
   }
 
-  -- goes told: the pass was told its next item
-  pub goes_told : (answer : Option R) (q z : PassState O H G E R) (told : Option (R × ℕ)) (item : Option (Todo E)) → z ≡ told_from m q told → item ≡ (m.next q.own told).0
-      → m.left z.own (standing_with item) ≤ m.left q.own (asks told)
-      → ((given : List C) → StandsAt m given q (asks told) → StandsAt m given z (standing_with item))
-      → Goes m c p answer q (asks told) → Goes m c p answer z (standing_with item)
-  goes_told answer q z told item is next few stands g = record {
+  -- goes begun under: the command was begun under a lock
+  pub goes_begun_under : (l : ℕ) (v : G) (q z : PassState O H G E R) → q ≡ record p { worker = taking p.worker l v } → z ≡ record q { own = m.begin q.own c } → m.left z.own (asks None) ≤ m.charge (m.number q.own) c
+      → ((given : List C) → StandsAt m given q rests → m.valid (m.number q.own) given c → StandsAt m (c ∷ given) z (asks None)) → Goes m c p None z (asks None)
+  goes_begun_under l v q z taken begun few stands = subst
+      (λ q. z ≡ record q { own = m.begin q.own c } → m.left z.own (asks None) ≤ m.charge (m.number q.own) c
+          → ((given : List C) → StandsAt m given q rests → m.valid (m.number q.own) given c → StandsAt m (c ∷ given) z (asks None)) → Goes m c p None z (asks None))
+      (sym taken)
+      (λ begun few stands. goes_begun z ((l, v) ∷ p.worker.held) None begun few (λ given rest valid. stands given rest.come.stands (subst (λ w. m.valid w given c) (sym rest.come.number) valid)))
+      begun few stands
+
+  -- goes told: the pass was told its next item, which is this
+  pub goes_told : (answer : Option R) (q z : PassState O H G E R) (told : Option (R × ℕ)) (item next : Option (Todo E)) → IsTold m q told item z → item ≡ next
+      → Goes m c p answer q (asks told) → Goes m c p answer z (standing_with next)
+  goes_told answer q z told item next t is g = subst (λ x. Goes m c p answer z (standing_with x)) is record {
     items = g.items;
-    runs = runs_told m _ _ g.items q z told item is next g.runs;
+    runs = runs_told m _ _ g.items q z told item t.own t.item g.runs;
     more = g.more;
-    adds = ap (λ x. x.worker.mine) is ∙ g.adds;
+    adds = ap (λ x. x.worker.mine) t.own ∙ g.adds;
     above = g.above;
-    seen = let a = ap (λ x. x.worker.seen) is in let b = g.seen in omega arith;
+    seen = let a = ap (λ x. x.worker.seen) t.own in let b = g.seen in omega arith;
     answers = g.answers;
-    left = let a = ap (λ x. x.worker.allowance) is in let b = g.left in omega arith;
-    few = let a = g.few in omega arith;
-    table = ap (λ x. x.table) is ∙ g.table;
-    number = ap (λ x. x.worker.number) is ∙ g.number;
-    come = λ given rest valid. let at = g.come given rest valid in come_told m law.hands (c ∷ given) q z told item is next at (stands (c ∷ given) at.stands);
+    left = let a = ap (λ x. x.worker.allowance) t.own in let b = g.left in omega arith;
+    few = let a = g.few in let b = t.left in omega arith;
+    table = ap (λ x. x.table) t.own ∙ g.table;
+    number = ap (λ x. x.worker.number) t.own ∙ g.number;
+    come = λ given rest valid. let at = g.come given rest valid in come_told m law.hands (c ∷ given) q z told item t.own t.item at (t.stands (c ∷ given) at.stands);
   }
 
   -- goes advanced: the pass advanced now
@@ -147,3 +163,9 @@ module _ {H O G E R C : Type 0} (m : Means H O G E R C) (law : IsLawful m) (c : 
   pub event_left : (answer : Option R) (q : PassState O H G E R) (e : E) → CountsEvents m → CanBegin m c p → m.charge p.worker.number c ≤ p.worker.allowance → Goes m c p answer q (has (Event e)) → 0 < q.worker.allowance
   event_left answer q e counts can enough g = let at = g.come can.0 can.1 can.2 in let a = counts _ q.own e at.stands in
       let b = g.left in let few = g.few in let same = ap (λ x. m.charge x c) can.1.come.number in omega arith
+
+  -- goes through: a command of one event has run
+  pub goes_through : (q z w y : PassState O H G E R) (e : E) (told : R × ℕ) (item last : Option (Todo E)) → CountsEvents m → CanBegin m c p → m.charge p.worker.number c ≤ p.worker.allowance
+      → Goes m c p None q (asks None) → IsTold m q None item z → item ≡ Some (Event e) → HasPerformed m z e told w → IsTold m w (Some told) last y → last ≡ None → Goes m c p (Some told.0) y rests
+  goes_through q z w y e told item last counts can enough g first is d second ended = let has = goes_told None q z None item (Some (Event e)) first is g in
+      goes_told (Some told.0) w y (Some told) last None second ended (goes_performed None z w e told can (event_left None z e counts can enough has) d has)
