@@ -1,0 +1,9 @@
+//! What the tasks share that read an input and write a text: how a scenario is read to its end, how
+//! its refusal is told, and how a text ends.
+#![tactic(auto, using(ule_io::proofs::Written::writes))]
+
+pub use input::{TOO_LONG, Unread, read_setup, tell, why_refused};
+pub use output::{DONE, ILLEGAL, NO_MEMORY, READ_FAULT, REFUSED, USAGE, WRITE_FAULT, finish};
+
+mod input;
+mod output;
