@@ -156,9 +156,13 @@ module _ (i : Intake) (IsDueFor : List ℕ → Setup → Told → Type 0) where
       (took_front (IsDue i IsDueFor s0 s1) k0 k1 due.text due.status status (text_due input s due has.read gives is refl) w at) has.kept (inr has.read.one_end))
       w.known
 
+  -- the answer where there was no memory for what the input asks for
+  pub answers_unmade : (s0 s1 : SourceState) (k0 k1 : SinkState) (status : ℕ) (input : List ℕ) → HasInput i s0 s1 input → status ≡ 5 → k1 ≡ k0 → Reads i IsDueFor s0 s1 k0 k1 status
+  answers_unmade s0 s1 k0 k1 status input has is same =
+      answers_no_memory s0 s1 k0 k1 status is same has.kept (input, has.read.given, (let h = has.read.within in omega arith)) (inr has.read.one_end)
+
   -- what a setup comes to is the answer
   pub answers_setup : (s0 s1 : SourceState) (k0 k1 : SinkState) (status : ℕ) (input : List ℕ) (s : Setup) (due : Told) → (due.status < 2) ⊎ (5 < due.status) →
       HasInput i s0 s1 input → GivesSetup i input s → IsDueFor input s due → Gave due k0 k1 status → Reads i IsDueFor s0 s1 k0 k1 status
   answers_setup s0 s1 k0 k1 status input s due fits has gives is (written w) = answers_written s0 s1 k0 k1 status input s due fits has gives is w
-  answers_setup s0 s1 k0 k1 status input s due fits has gives is (unmade none same) =
-      answers_no_memory s0 s1 k0 k1 status none same has.kept (input, has.read.given, (let h = has.read.within in omega arith)) (inr has.read.one_end)
+  answers_setup s0 s1 k0 k1 status input s due fits has gives is (unmade none same) = answers_unmade s0 s1 k0 k1 status input has none same

@@ -4,7 +4,7 @@ use Rattle.std.specs.Prelude.{nat_lt}
 use Rattle.std.proofs.lemmas.Bool.{lt-ltb, ltb-false, ltb-true}
 use Rattle.ule_io.specs.Sink.{SinkState}
 use Rattle.ule_io.specs.Source.{SourceState}
-use Rattle.ule_task.proofs.InputLaws.{answers_setup, answers_unread}
+use Rattle.ule_task.proofs.InputLaws.{answers_setup, answers_unmade, answers_unread}
 use Rattle.ule_task.specs.Input.{Gave, HasAnswered, IsHad, IsUnread, Reads, RefusesLonger, Tells}
 use Rattle.ule_task.specs.Scenario.{scenario_intake, text_alone}
 use Rattle.ule_task.specs.declared.input.Unread.{Unread}
@@ -20,6 +20,10 @@ module _ (IsTextOf : Setup → List ℕ → Type 0) (s0 s1 : SourceState) (k0 k1
       Reads scenario_intake (text_alone IsTextOf) s0 s1 k0 k1 status
   reads_setup s text had is gave =
       answers_setup scenario_intake (text_alone IsTextOf) s0 s1 k0 k1 status had.0 s (record { status = 0; text = text }) (inl (omega arith)) had.1 had.2 (refl, is) gave
+
+  -- what reading a setup without memory for what it asks for comes to is the answer
+  pub reads_unmade : (s : Setup) → IsHad scenario_intake s0 s1 (Ok s) → status ≡ 5 → k1 ≡ k0 → Reads scenario_intake (text_alone IsTextOf) s0 s1 k0 k1 status
+  reads_unmade s had is same = answers_unmade scenario_intake (text_alone IsTextOf) s0 s1 k0 k1 status had.0 had.1 is same
 
   -- what reading no setup and telling why come to is the answer
   pub reads_unread : (why : Unread) → IsUnread scenario_intake s0 s1 why → Tells why k0 k1 status → Reads scenario_intake (text_alone IsTextOf) s0 s1 k0 k1 status
