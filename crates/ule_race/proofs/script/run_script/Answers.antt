@@ -8,3 +8,6 @@ len-requires g c = let many = (setup_scripts c.args.s.now).cpus in let below = c
 
 pub loop-k-init : goal.loop-k-init
 loop-k-init g c = running_first c.args.s.now _ c.args.worker _ c.requires.worker c.requires.fresh
+
+pub returns : goal.returns
+returns g c = running_last c.args.s.now _ c.args.worker _ _ (let done = c.loop-k.done in omega arith) c.loop-k.invariant
