@@ -1,5 +1,5 @@
 -- The shared scheduler of a setup, and the passes of its workers.
-use Rattle.std.specs.Prelude.{◌≡◌, ◌<◌, ℕ, true, List, [], ◌∷◌, reverse, length, Option, Some, None, slice_get}
+use Rattle.std.specs.Prelude.{◌≡◌, ◌<◌, ◌≤◌, ℕ, true, List, [], ◌∷◌, reverse, length, Option, Some, None, slice_get}
 use Rattle.atomic_table.specs.Seated.{TableId}
 use Rattle.ule_score.specs.declared.record.ThreadRecord.{ThreadRecord}
 use Rattle.ule_types.specs.declared.command.Command.{Command}
@@ -14,7 +14,6 @@ use Rattle.ule_seq.specs.StepStates.{place_under}
 use Rattle.ule_words.specs.Passes.{PassState}
 use Rattle.ule_words.specs.Workers.{taking}
 use Rattle.ule_smp.specs.Rests.{IsAtRest}
-use Rattle.ule_smp.specs.declared.smp.Held.{Held}
 
 -- smp value: what a contract sees of a shared scheduler, which is its setup and the table of its words
 pub record SmpValue : Type 0 where
@@ -56,11 +55,6 @@ module _ (s : Setup) where
   pub record AreDone (table : TableId) (lists : List (List Command)) (passes : List SchedPass) : Type 0 where
     pub count : length passes ≡ s.cpus
     pub each : (w : ℕ) (p : SchedPass) → slice_get passes w ≡ Some p → IsDone table (list_of lists w) w p
+    -- no other list has a command
+    pub others : (w : ℕ) → s.cpus ≤ w → list_of lists w ≡ []
 
--- has locked: the pass took the lock, and the thread's record is under it, in the value that the pass now holds, at this place
-pub record HasLocked (t : ℕ) (p : SchedPass) (h : Held) (q : SchedPass) : Type 0 where
-  pub value : LockValue
-  pub after : q ≡ record p { worker = taking p.worker h.lock value }
-  pub stands : has_under value t ≡ true
-  pub place : place_under value t ≡ Some h.place
-  pub thread : h.thread ≡ t

@@ -7,6 +7,7 @@ ghost use Rattle.ule_smp.specs.Smp.{AreDone};
 use crate::smp::{Smp, SmpPasses};
 use std::marker::Model;
 use ule_types::Outcome;
+use ule_words::Passes;
 
 /// The history of all passes, and what stands at its end. `Smp::close` alone makes it.
 #[derive(Drop)]
@@ -39,4 +40,9 @@ impl Smp {
         requires done { (lists : List (List Command)) × AreDone self.setup self.table lists passes.list.items }
         requires room { HasRoom self.setup out }
         ensures { (lists : List (List Command)) → AreDone self.setup self.table lists passes.list.items → IsClosed self.setup lists passes.list.items result }
+    {
+        let Passes { list } = passes;
+        std::mem::drop(list);
+        Closed { outcome: out }
+    }
 }

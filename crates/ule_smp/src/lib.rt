@@ -6,4 +6,4 @@ mod close;
 mod smp;
 
 pub use close::Closed;
-pub use smp::{Held, Smp, SmpPass, SmpPasses, left};
+pub use smp::{Smp, SmpPass, SmpPasses, left};

@@ -11,18 +11,15 @@ ghost use Rattle.ule_words.specs.Tells.{IsHolderOf};
 ghost use Rattle.ule_words.specs.Workers.{releasing};
 ghost use Rattle.ule_smp.specs.Rests.{HasComeTo};
 ghost use Rattle.ule_smp.specs.Runs.{HasRun};
-ghost use Rattle.ule_smp.specs.Smp.{AreFresh, CanRun, HasLocked, RestsAfter};
+ghost use Rattle.ule_smp.specs.Smp.{AreFresh, CanRun, RestsAfter};
 
 use std::alloc::Global;
 use std::marker::Model;
 use std::sync::Wait;
 use ule_io::Memory;
-use ule_prio::{Cpu, LockId, ThreadId};
-use ule_score::Place;
 use ule_seq::{SchedOwn, SchedParts};
-use ule_topo::Summary;
 use ule_types::{Command, Reply, Setup};
-use ule_words::{Busy, Locks, Pass, Passes};
+use ule_words::{Locks, Pass, Passes};
 
 /// What a worker runs commands on.
 pub type SmpPass = Pass<SchedOwn>;
@@ -34,6 +31,7 @@ pub type SmpPasses = Passes<SchedParts>;
 #[derive(Drop)]
 pub struct Smp {
     pub(crate) locks: Locks<SchedParts>,
+    ghost never: { ⊥ },
 }
 
 impl Model for Smp {
@@ -44,17 +42,12 @@ impl Model for Smp {
     ghost view = { λ s. record { setup = s.locks.parts; table = s.locks.table.shared.table_id } };
 }
 
-/// A thread that was locked: the lock of its place, which the pass holds, and the place.
-#[derive(Clone, Copy)]
-pub struct Held {
-    pub thread: ThreadId,
-    pub lock: LockId,
-    pub place: Place,
-}
-
 /// How many items a pass may still perform.
 pub fn left(p: &SmpPass) -> u32
     ensures { result ≡ p.now.worker.allowance }
+{
+    ule_words::allowance(p)
+}
 
 impl Smp {
     /// The scheduler of a setup at its start, and a pass for each worker with the budget of its
@@ -62,25 +55,9 @@ impl Smp {
     pub fn start(alloc: Global, s: &Setup) -> Result<(Smp, SmpPasses), Memory>
         ensures setup { IfOk result (λ r. r.0.setup ≡ s.now) }
         ensures fresh { IfOk result (λ r. AreFresh s.now r.0.table r.1.list.items) }
-
-    /// Takes the lock of a declared thread's place, after `thread_lock`: reads the thread's word, takes
-    /// the lock that it names, and reads the word again; where it has changed, it gives the lock back
-    /// and begins again. No entry is made.
-    pub fn lock_thread<R: Wait>(&self, rt: &R, p: &mut SmpPass, t: ThreadId) -> Held
-        requires table { p.old.table ≡ self.now.table }
-        requires rest { (given : List Command) × RestsAfter self.now.setup given p.old }
-        requires declared { is_among (declared_ids_of self.now.setup) t ≡ true }
-        ensures locked { HasLocked t p.old result p.new }
-        ensures low { result.lock < 25 }
-
-    /// Gives a thread's lock back, after `thread_unlock`. The pass holds no other, and has no change
-    /// of a word to store.
-    pub fn unlock(&self, p: &mut SmpPass, h: Held)
-        requires table { p.old.table ≡ self.now.table }
-        requires held { (v : _) × (p.old.worker.held ≡ (h.lock, v) ∷ []) }
-        requires calm { p.old.worker.pending ≡ None }
-        ensures after { p.new ≡ record p.old { worker = releasing p.old.worker h.lock } }
-        ensures free { p.new.worker.held ≡ [] }
+    {
+        Err(Memory)
+    }
 
     /// Runs a command to its end: takes the locks of each of its events, lets it take effect, stores
     /// the change of a thread's word, and gives the locks back. It answers the reply of the last
@@ -91,16 +68,8 @@ impl Smp {
         requires left { greatest_of c.now p.old.worker.number self.now.setup.cpus ≤ p.old.worker.allowance }
         ensures run { HasRun (sched_means self.now.setup) c.now p.old result p.new }
         ensures rest { (given : List Command) → CanRun self.now.setup given c.now p.old → RestsAfter self.now.setup (c.now ∷ given) p.new }
-
-    /// Looks at a CPU where its lock is free, as the command `look` does. Where another worker holds
-    /// the lock, it answers that one, and has changed nothing.
-    pub fn try_look(&self, p: &mut SmpPass, c: Cpu) -> Result<Summary, Busy>
-        requires table { p.old.table ≡ self.now.table }
-        requires rest { (given : List Command) × RestsAfter self.now.setup given p.old }
-        requires left { 1 ≤ p.old.worker.allowance }
-        requires cpu { c < self.now.setup.cpus }
-        ensures run { IfOk result (λ x. HasRun (sched_means self.now.setup) (Look c) p.old (Some (Seen x.load x.movable x.lowpri)) p.new) }
-        ensures rest { OnOk result ((given : List Command) → RestsAfter self.now.setup given p.old → RestsAfter self.now.setup (Look c ∷ given) p.new) }
-        ensures busy { OnErr result (p.new ≡ p.old) }
-        ensures holder { IfErr result (λ b. IsHolderOf (sched_means self.now.setup) p.old.worker c b.holder) }
+    {
+        for _ in rt.forever() {}
+        unreachable!()
+    }
 }
