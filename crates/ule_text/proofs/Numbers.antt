@@ -1,6 +1,6 @@
 -- A written number is one word, and is read as that number.
-use Rattle.std.proofs.Common.{◌≡◌, ℕ, zero, suc, ◌^◌, ◌*◌, ◌+◌, ◌-◌, ◌<◌, ◌≤◌, Bool, true, false, List, [], ◌∷◌, length, get_or, fold, refl, arith, ap, ◌∙◌, ⊎_elim}
-use Rattle.std.specs.Prelude.{◌==◌, ◌&&◌, not, nat_lt, nat_le}
+use Rattle.std.proofs.Common.{◌≡◌, ℕ, ◌^◌, ◌*◌, ◌+◌, ◌-◌, ◌<◌, ◌≤◌, Bool, true, false, List, [], ◌∷◌, length, get_or, fold, refl, arith, ap, ◌∙◌, ⊎_elim}
+use Rattle.std.specs.Prelude.{◌==◌, ◌&&◌, not, nat_lt}
 use Rattle.std.specs.List.{list_all}
 use Rattle.std.specs.Fmt.{decimal}
 use Rattle.std.specs.Char.{digit_value}
@@ -70,10 +70,14 @@ decimal_is_numeral n small =
 pub value_of_decimal : (n : ℕ) → n < 2 ^ 64 → value_of_digits (decimal n) ≡ n
 value_of_decimal n small = value_behind (decimal n) 0 (all_digits n small) ∙ digits_value-decimal own n small
 
+-- its bytes are printed
+pub decimal_inner : (n : ℕ) → n < 2 ^ 64 → list_all is_inner (decimal n) ≡ true
+decimal_inner n small = each_inner (decimal n) (all_digits n small)
+
 -- it is a word of a written line
 pub decimal_is_word : (n : ℕ) → n < 2 ^ 64 → is_word (decimal n) ≡ true
 decimal_is_word n small =
-    and_from (nat_lt 0 (length (decimal n))) (list_all is_inner (decimal n)) (lt-ltb 0 (length (decimal n)) (decimal_nonempty n small)) (each_inner (decimal n) (all_digits n small))
+    and_from (nat_lt 0 (length (decimal n))) (list_all is_inner (decimal n)) (lt-ltb 0 (length (decimal n)) (decimal_nonempty n small)) (decimal_inner n small)
 
 -- its first byte is a digit
 pub first_of_decimal : (n : ℕ) → n < 2 ^ 64 → (48 ≤ get_or (decimal n) 0 0) × (get_or (decimal n) 0 0 ≤ 57)

@@ -1,8 +1,8 @@
 -- Words that can be told apart again: printed bytes alone, and no space.
-use Rattle.std.proofs.Common.{◌≡◌, ◌≢◌, ℕ, Bool, true, false, List, [], ◌∷◌, length, get_or, refl, sym, ap, ◌∙◌}
+use Rattle.std.proofs.Common.{◌≡◌, ◌≢◌, ℕ, Bool, true, false, List, [], ◌∷◌, length, get_or, refl, sym, ap, ◌∙◌, arith}
 use Rattle.std.specs.Prelude.{◌&&◌, ◌==◌, not, nat_lt, nat_le, bytes_eq}
 use Rattle.std.specs.List.{list_all}
-use Rattle.std.proofs.lemmas.Bool.{and_parts, ne_eqb, false≢true}
+use Rattle.std.proofs.lemmas.Bool.{and_parts, lt-ltb, ne_eqb, false≢true}
 use Rattle.ule_text.specs.Words.{Word}
 
 -- a printed byte that is no space
@@ -12,6 +12,10 @@ is_inner b = nat_le 33 b && nat_le b 126
 -- a word of a written line has a byte, and printed ones alone that are no space
 abbrev pub is_word : Word → Bool
 is_word w = nat_lt 0 (length w) && list_all is_inner w
+
+-- printed bytes behind a first one are a word
+pub word_from : (b : ℕ) (w : Word) → is_inner b ≡ true → list_all is_inner w ≡ true → is_word (b ∷ w) ≡ true
+word_from b w first rest = rw (lt-ltb 0 (length (b ∷ w)) (omega arith), first, rest) refl
 
 -- whether a byte isn't among some
 abbrev pub lacks : ℕ → List ℕ → Bool
