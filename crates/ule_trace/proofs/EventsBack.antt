@@ -1,7 +1,6 @@
 -- What the written words of an event are read as.
 use Rattle.std.proofs.Common.{◌≡◌, true, List, ◌++◌, Some, refl, arith}
 use Rattle.std.specs.List.{list_all}
-use Rattle.ule_score.specs.declared.record.Why.{Why}
 use Rattle.ule_text.specs.Words.{Word}
 use Rattle.ule_text.proofs.Numbers.{decimal_is_word}
 use Rattle.ule_text.proofs.Printed.{is_word}

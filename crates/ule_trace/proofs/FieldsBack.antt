@@ -1,10 +1,10 @@
 -- What a written word of a trace is read as: a number in its range, a keyword, or what may be absent.
-use Rattle.std.proofs.Common.{◌≡◌, ℕ, ◌<◌, ◌≤◌, ◌^◌, ℤ, pos, negsuc, suc, Bool, true, false, List, [], ◌∷◌, ◌++◌, length, get_or, Option, Some, None, IfSome, refl, ap, arith}
+use Rattle.std.proofs.Common.{◌≡◌, ℕ, ◌<◌, ◌≤◌, ◌^◌, ℤ, pos, negsuc, suc, Bool, true, false, [], ◌∷◌, get_or, Option, Some, None, IfSome, refl, ap, ◌∙◌, arith}
 use Rattle.std.specs.Prelude.{bytes_eq, codes}
-use Rattle.std.specs.List.{list_all}
 use Rattle.std.specs.Option.{option_map}
 use Rattle.std.specs.Fmt.{decimal, signed_decimal}
 use Rattle.std.proofs.lemmas.Bool.{le-leb, ne_eqb}
+use Rattle.std.proofs.lemmas.Int.{ints}
 use Rattle.ule_prio.specs.declared.class.Class.{Class}
 use Rattle.ule_prio.specs.declared.class.Class.TheVariants as class
 use Rattle.ule_prio.specs.declared.kind.Kind.{Kind}
@@ -15,7 +15,7 @@ use Rattle.ule_score.specs.declared.record.Why.TheVariants.{Yield, Resched}
 use Rattle.ule_text.specs.Words.{Word}
 use Rattle.ule_text.proofs.Numbers.{decimal_inner, decimal_is_numeral, decimal_is_word, first_of_decimal, value_of_decimal}
 use Rattle.ule_text.proofs.Printed.{first_differs, is_word, word_from}
-use Rattle.ule_trace.specs.Fields.{amount, channel, class_named, cpu, flag, kind_named, lock, lock_name, maybe, move_why_named, nice, priority, thread, bucket, up_to, why_named, worker}
+use Rattle.ule_trace.specs.Fields.{amount, channel, class_named, cpu, flag, kind_named, lock_name, maybe, move_why_named, nice, thread, bucket, up_to, why_named, worker}
 use Rattle.ule_trace.specs.EventText.{move_why_word, why_word}
 use Rattle.ule_trace.specs.FinalText.{class_word, lock_word}
 use Rattle.ule_trace.specs.Line.{flag_word, optional_word, worker_word}
@@ -64,19 +64,19 @@ nice_plain (b ∷ w) digit = rw (ne_eqb b 45 (λ e. omega (arith, digit, e))) re
 
 pub nice_back : (z : ℤ) → IsNice z → nice (signed_decimal z) ≡ Some z
 nice_back (pos n) small =
-    let most : n ≤ 20 = small.1 in
+    let most : n ≤ 20 = omega (arith, ints, small.1) in
     nice_plain (decimal n) (first_of_decimal n (omega arith)).0 ∙ ap (option_map pos) (up_to_back 20 n most (omega arith))
 nice_back (negsuc n) small =
-    let most : n ≤ 19 = small.0 in
+    let most : n ≤ 19 = omega (arith, ints, small.0) in
     rw (up_to_back 20 (suc n) (omega arith) (omega arith)) refl
 
 -- it is a word of a written line
 pub nice_is_word : (z : ℤ) → IsNice z → is_word (signed_decimal z) ≡ true
 nice_is_word (pos n) small =
-    let most : n ≤ 20 = small.1 in
+    let most : n ≤ 20 = omega (arith, ints, small.1) in
     decimal_is_word n (omega arith)
 nice_is_word (negsuc n) small =
-    let most : n ≤ 19 = small.0 in
+    let most : n ≤ 19 = omega (arith, ints, small.0) in
     word_from 45 (decimal (suc n)) refl (decimal_inner (suc n) (omega arith))
 
 -- ---- what may be absent

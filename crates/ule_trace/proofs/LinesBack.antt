@@ -1,5 +1,5 @@
 -- What the written words of a line are read as: an entry, a thread's line, a CPU's line.
-use Rattle.std.proofs.Common.{◌≡◌, ℕ, ◌<◌, ◌≤◌, ◌^◌, true, List, [], ◌∷◌, ◌++◌, length, Option, Some, refl, ap, ◌∙◌, arith}
+use Rattle.std.proofs.Common.{◌≡◌, ℕ, ◌<◌, ◌≤◌, true, List, [], ◌∷◌, ◌++◌, Option, Some, refl, ◌∙◌, arith}
 use Rattle.std.specs.Prelude.{codes}
 use Rattle.std.specs.List.{list_all}
 use Rattle.std.specs.Fmt.{decimal, signed_decimal}
@@ -13,13 +13,12 @@ use Rattle.ule_trace.proofs.EventsBack.{event_are_words, event_back}
 use Rattle.ule_trace.proofs.FieldsBack.{amount_back, bucket_back, byte_back, byte_if_any_back, class_back, class_is_word, cpu_back, cpu_if_any_back, cpu_if_any_is_word, flag_back, flag_is_word, if_any_is_word, lock_back, lock_is_word, nice_back, nice_is_word, up_to_back, worker_back, worker_is_word}
 use Rattle.ule_trace.proofs.PlacesBack.{final_place_back, final_place_is_word, standing}
 use Rattle.ule_trace.proofs.RepliesBack.{reply_are_words, reply_back}
-use Rattle.ule_trace.specs.EventForm.{event_form}
 use Rattle.ule_trace.specs.EventText.{event_words}
-use Rattle.ule_trace.specs.Fields.{amount, bucket, class_named, cpu, flag, lock_name, maybe, nice, priority, thread, worker}
+use Rattle.ule_trace.specs.Fields.{amount, bucket, class_named, cpu, flag, lock_name, maybe, nice, priority, thread}
 use Rattle.ule_trace.specs.FinalText.{class_word, cpu_words, final_words, lock_word}
 use Rattle.ule_trace.specs.Line.{flag_word, optional_word, worker_word}
 use Rattle.ule_trace.specs.LineForm.{counts, cpu_form, entry_form, entry_number, head, history, marks, past, priorities, thread_form, ties, usage}
-use Rattle.ule_trace.specs.Parts.{Spelled, form2, form3, form4, taken, whole}
+use Rattle.ule_trace.specs.Parts.{form2, form3, form4, whole}
 use Rattle.ule_trace.specs.PlaceForm.{final_place}
 use Rattle.ule_trace.specs.PlaceText.{final_place_word}
 use Rattle.ule_trace.specs.Ranges.{CpuFits, EntryFits, ThreadFits}
@@ -88,16 +87,16 @@ pub thread_back : (l : ThreadLine) → l.id < 256 → ThreadFits l → whole (th
 thread_back l small fits =
     rw (
       four_back head thread final_place class_named nice (decimal l.id) (final_place_word l.place l.pos) (class_word l.class) (signed_decimal l.nice)
-      l.id (standing l.place l.pos) l.class l.nice (priority_words l) (byte_back l.id small) (final_place_back l.place l.pos fits.place fits.pos) (class_back l.class) (nice_back l.nice fits.nice),
+          l.id (standing l.place l.pos) l.class l.nice (priority_words l) (byte_back l.id small) (final_place_back l.place l.pos fits.place fits.pos) (class_back l.class) (nice_back l.nice fits.nice),
       three_back priorities priority (maybe priority) priority (decimal l.base) (optional_word l.lent) (decimal l.priority)
-      l.base l.lent l.priority (history_words l) (byte_back l.base fits.base) (byte_if_any_back l.lent fits.lent) (byte_back l.priority fits.priority),
+          l.base l.lent l.priority (history_words l) (byte_back l.base fits.base) (byte_if_any_back l.lent fits.lent) (byte_back l.priority fits.priority),
       two_back history amount amount (decimal l.run) (decimal l.slept) l.run l.slept (use_words l) (amount_back l.run fits.run) (amount_back l.slept fits.slept),
       three_back usage amount amount amount (decimal l.ticks) (decimal l.ltick) (decimal l.ftick)
-      l.ticks l.ltick l.ftick (past_words l) (amount_back l.ticks fits.ticks) (amount_back l.ltick fits.ltick) (amount_back l.ftick fits.ftick),
+          l.ticks l.ltick l.ftick (past_words l) (amount_back l.ticks fits.ticks) (amount_back l.ltick fits.ltick) (amount_back l.ftick fits.ftick),
       four_back past amount amount cpu amount (decimal l.slice_count) (decimal l.slept_at) (decimal l.last) (decimal l.last_run)
-      l.slice_count l.slept_at l.last l.last_run (ties_words l) (amount_back l.slice_count fits.slice_count) (amount_back l.slept_at fits.slept_at) (cpu_back l.last fits.last) (amount_back l.last_run fits.last_run),
+          l.slice_count l.slept_at l.last l.last_run (ties_words l) (amount_back l.slice_count fits.slice_count) (amount_back l.slept_at fits.slept_at) (cpu_back l.last fits.last) (amount_back l.last_run fits.last_run),
       three_back ties (maybe cpu) (maybe thread) lock_name (optional_word l.bound) (optional_word l.parent) (lock_word l.word)
-      l.bound l.parent l.word [] (cpu_if_any_back l.bound fits.bound) (byte_if_any_back l.parent fits.parent) (lock_back l.word fits.word)
+          l.bound l.parent l.word [] (cpu_if_any_back l.bound fits.bound) (byte_if_any_back l.parent fits.parent) (lock_back l.word fits.word),
     ) refl
 
 pub thread_are_words : (l : ThreadLine) → l.id < 256 → ThreadFits l → list_all is_word (final_words l) ≡ true
@@ -121,7 +120,7 @@ thread_are_words l small fits =
       decimal_is_word l.last_run fits.last_run,
       cpu_if_any_is_word l.bound fits.bound,
       if_any_is_word l.parent fits.parent,
-      lock_is_word l.word fits.word
+      lock_is_word l.word fits.word,
     ) refl
 
 -- ---- a CPU's line
@@ -140,10 +139,10 @@ cpu_line_back c l small fits =
     rw (
       cpu_back c small,
       four_back marks bucket bucket flag flag (decimal l.idx) (decimal l.ridx) (flag_word l.resched) (flag_word l.slice_end)
-      l.idx l.ridx l.resched l.slice_end (decimal l.switches ∷ decimal l.old_switches ∷ decimal l.balance ∷ [])
-      (bucket_back l.idx fits.idx) (bucket_back l.ridx fits.ridx) (flag_back l.resched) (flag_back l.slice_end),
+          l.idx l.ridx l.resched l.slice_end (decimal l.switches ∷ decimal l.old_switches ∷ decimal l.balance ∷ [])
+          (bucket_back l.idx fits.idx) (bucket_back l.ridx fits.ridx) (flag_back l.resched) (flag_back l.slice_end),
       three_back counts amount amount amount (decimal l.switches) (decimal l.old_switches) (decimal l.balance)
-      l.switches l.old_switches l.balance [] (amount_back l.switches fits.switches) (amount_back l.old_switches fits.old_switches) (amount_back l.balance fits.balance)
+          l.switches l.old_switches l.balance [] (amount_back l.switches fits.switches) (amount_back l.old_switches fits.old_switches) (amount_back l.balance fits.balance),
     ) refl
 
 pub cpu_are_words : (c : ℕ) (l : CpuLine) → c < 16 → CpuFits l → list_all is_word (cpu_words c l) ≡ true
@@ -156,5 +155,5 @@ cpu_are_words c l small fits =
       flag_is_word l.slice_end,
       decimal_is_word l.switches fits.switches,
       decimal_is_word l.old_switches fits.old_switches,
-      decimal_is_word l.balance fits.balance
+      decimal_is_word l.balance fits.balance,
     ) refl

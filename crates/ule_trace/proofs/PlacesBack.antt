@@ -1,9 +1,9 @@
 -- What the written word of a place is read as.
-use Rattle.std.proofs.Common.{◌≡◌, ℕ, ◌<◌, ◌^◌, Bool, true, List, [], ◌∷◌, ◌++◌, length, Some, refl, sym, ap, ◌∙◌, append_assoc, arith}
-use Rattle.std.specs.Prelude.{nat_lt, ◌&&◌}
+use Rattle.std.proofs.Common.{◌≡◌, ℕ, ◌<◌, true, List, [], ◌∷◌, ◌++◌, Some, refl, ap, ◌∙◌, append_assoc, arith}
+use Rattle.std.specs.Prelude.{codes}
 use Rattle.std.specs.List.{list_all}
 use Rattle.std.specs.Fmt.{decimal}
-use Rattle.std.proofs.lemmas.Bool.{and_from, and_parts}
+use Rattle.std.proofs.lemmas.Bool.{and_from}
 use Rattle.std.proofs.lemmas.List.Folds.{list_all-append}
 use Rattle.ule_prio.specs.declared.kind.Kind.{Kind}
 use Rattle.ule_prio.specs.declared.kind.Kind.TheVariants.{Real, Batch, Idle}
@@ -12,7 +12,7 @@ use Rattle.ule_score.specs.declared.place.Place.TheVariants.{Running, Queued, As
 use Rattle.ule_text.specs.Words.{Word}
 use Rattle.ule_text.proofs.Numbers.{decimal_inner, decimal_lacks}
 use Rattle.ule_text.proofs.Printed.{is_inner, is_word, lacks, word_from}
-use Rattle.ule_trace.proofs.FieldsBack.{bucket_back, channel_back, cpu_back, kind_back, kind_is_word, up_to_back}
+use Rattle.ule_trace.proofs.FieldsBack.{bucket_back, channel_back, cpu_back, kind_back, up_to_back}
 use Rattle.ule_trace.proofs.WordsBack.{front_part, lone_part}
 use Rattle.ule_trace.specs.Parts.{parts_at}
 use Rattle.ule_trace.specs.PlaceForm.{final_place, place}
@@ -36,15 +36,16 @@ dotted c b k cs bs =
     (front_part 46 (kind_word k) (decimal b) (kind_lacks k) ∙ ap (λ (ps : List Word). kind_word k ∷ ps) (lone_part 46 (decimal b) (decimal_lacks 46 b refl (omega arith))))
 
 -- behind them a position
-regrouped : (c b k p : List ℕ) → (c ++ 46 ∷ (k ++ 46 ∷ b)) ++ 46 ∷ p ≡ c ++ 46 ∷ (k ++ 46 ∷ (b ++ 46 ∷ p))
-regrouped c b k p =
-    append_assoc c (46 ∷ (k ++ 46 ∷ b)) (46 ∷ p) ∙ ap (λ (xs : List ℕ). c ++ 46 ∷ xs) (append_assoc k (46 ∷ b) (46 ∷ p))
+queued_text : (c k b : List ℕ) → codes "q" ++ c ++ codes "." ++ k ++ codes "." ++ b ≡ 113 ∷ (c ++ 46 ∷ (k ++ 46 ∷ b))
+queued_text c k b = simp append_assoc
+
+queued_text_at : (c k b p : List ℕ) → codes "q" ++ c ++ codes "." ++ k ++ codes "." ++ b ++ codes "." ++ p ≡ 113 ∷ (c ++ 46 ∷ (k ++ 46 ∷ (b ++ 46 ∷ p)))
+queued_text_at c k b p = simp append_assoc
 
 dotted_at : (c b p : ℕ) (k : Kind) → c < 16 → b < 64 → p < 256 →
-    parts_at 46 ((decimal c ++ 46 ∷ (kind_word k ++ 46 ∷ decimal b)) ++ 46 ∷ decimal p) ≡ decimal c ∷ kind_word k ∷ decimal b ∷ decimal p ∷ []
+    parts_at 46 (decimal c ++ 46 ∷ (kind_word k ++ 46 ∷ (decimal b ++ 46 ∷ decimal p))) ≡ decimal c ∷ kind_word k ∷ decimal b ∷ decimal p ∷ []
 dotted_at c b p k cs bs ps =
-    ap (parts_at 46) (regrouped (decimal c) (decimal b) (kind_word k) (decimal p))
-    ∙ front_part 46 (decimal c) (kind_word k ++ 46 ∷ (decimal b ++ 46 ∷ decimal p)) (decimal_lacks 46 c refl (omega arith))
+    front_part 46 (decimal c) (kind_word k ++ 46 ∷ (decimal b ++ 46 ∷ decimal p)) (decimal_lacks 46 c refl (omega arith))
     ∙ ap (λ (xs : List Word). decimal c ∷ xs)
     (front_part 46 (kind_word k) (decimal b ++ 46 ∷ decimal p) (kind_lacks k)
     ∙ ap (λ (xs : List Word). kind_word k ∷ xs)
@@ -54,7 +55,8 @@ dotted_at c b p k cs bs ps =
 
 pub place_back : (p : Place) → PlaceFits p → place (place_word p) ≡ Some p
 place_back (Running c) fits = rw (cpu_back c fits) refl
-place_back (Queued c k b) fits = rw (dotted c b k fits.0 fits.1, cpu_back c fits.0, kind_back k, bucket_back b fits.1) refl
+place_back (Queued c k b) fits =
+    ap place (queued_text (decimal c) (kind_word k) (decimal b)) ∙ rw (dotted c b k fits.0 fits.1, cpu_back c fits.0, kind_back k, bucket_back b fits.1) refl
 place_back (Asleep channel) fits = rw (channel_back channel fits) refl
 place_back Unborn fits = refl
 place_back Gone fits = refl
@@ -66,7 +68,8 @@ standing p position = record { place = p; position = position }
 
 pub final_place_back : (p : Place) (position : ℕ) → PlaceFits p → PositionFits p position → final_place (final_place_word p position) ≡ Some (standing p position)
 final_place_back (Running c) position fits at = rw (cpu_back c fits, at) refl
-final_place_back (Queued c k b) position fits at = rw (dotted_at c b position k fits.0 fits.1 at, cpu_back c fits.0, kind_back k, bucket_back b fits.1, up_to_back 255 position (omega arith) (omega arith)) refl
+final_place_back (Queued c k b) position fits at =
+    ap final_place (queued_text_at (decimal c) (kind_word k) (decimal b) (decimal position)) ∙ rw (dotted_at c b position k fits.0 fits.1 at, cpu_back c fits.0, kind_back k, bucket_back b fits.1, up_to_back 255 position (omega arith) (omega arith)) refl
 final_place_back (Asleep channel) position fits at = rw (channel_back channel fits, at) refl
 final_place_back Unborn position fits at = rw at refl
 final_place_back Gone position fits at = rw at refl
@@ -91,7 +94,8 @@ queued_inner c b k cs bs =
 
 pub place_is_word : (p : Place) → PlaceFits p → is_word (place_word p) ≡ true
 place_is_word (Running c) fits = word_from 114 (decimal c) refl (decimal_inner c (omega arith))
-place_is_word (Queued c k b) fits = word_from 113 (decimal c ++ 46 ∷ (kind_word k ++ 46 ∷ decimal b)) refl (queued_inner c b k fits.0 fits.1)
+place_is_word (Queued c k b) fits =
+    ap is_word (queued_text (decimal c) (kind_word k) (decimal b)) ∙ word_from 113 (decimal c ++ 46 ∷ (kind_word k ++ 46 ∷ decimal b)) refl (queued_inner c b k fits.0 fits.1)
 place_is_word (Asleep channel) fits = word_from 115 (decimal channel) refl (decimal_inner channel (omega arith))
 place_is_word Unborn fits = refl
 place_is_word Gone fits = refl
@@ -99,8 +103,10 @@ place_is_word (Hand w) fits = word_from 104 (decimal w) refl (decimal_inner w (o
 
 pub final_place_is_word : (p : Place) (position : ℕ) → PlaceFits p → PositionFits p position → is_word (final_place_word p position) ≡ true
 final_place_is_word (Queued c k b) position fits at =
-    word_from 113 ((decimal c ++ 46 ∷ (kind_word k ++ 46 ∷ decimal b)) ++ 46 ∷ decimal position) refl
-    (dot_inner (decimal c ++ 46 ∷ (kind_word k ++ 46 ∷ decimal b)) (decimal position) (queued_inner c b k fits.0 fits.1) (decimal_inner position (omega arith)))
+    ap is_word (queued_text_at (decimal c) (kind_word k) (decimal b) (decimal position)) ∙
+    word_from 113 (decimal c ++ 46 ∷ (kind_word k ++ 46 ∷ (decimal b ++ 46 ∷ decimal position))) refl
+    (dot_inner (decimal c) (kind_word k ++ 46 ∷ (decimal b ++ 46 ∷ decimal position)) (decimal_inner c (omega arith))
+    (dot_inner (kind_word k) (decimal b ++ 46 ∷ decimal position) (kind_inner k) (dot_inner (decimal b) (decimal position) (decimal_inner b (omega arith)) (decimal_inner position (omega arith)))))
 final_place_is_word (Running c) position fits at = place_is_word (Running c) fits
 final_place_is_word (Asleep channel) position fits at = place_is_word (Asleep channel) fits
 final_place_is_word Unborn position fits at = refl

@@ -1,11 +1,11 @@
 -- A written trace is read as the outcome that it was written of.
-use Rattle.std.proofs.Common.{◌≡◌, ℕ, ◌+◌, ◌<◌, ◌≤◌, ◌^◌, Bool, true, false, List, [], ◌∷◌, ◌++◌, length, map, Some, Ok, refl, sym, subst, ap, ◌∙◌, append_assoc, arith}
-use Rattle.std.specs.Prelude.{◌==◌, ◌&&◌, nat_lt, nat_le, codes}
+use Rattle.std.proofs.Common.{◌≡◌, ℕ, ◌+◌, ◌<◌, ◌≤◌, ◌^◌, Bool, true, List, [], ◌∷◌, ◌++◌, length, map, Some, Ok, refl, sym, subst, ap, ◌∙◌, append_assoc, arith}
+use Rattle.std.specs.Prelude.{nat_lt, nat_le, codes}
 use Rattle.std.specs.List.{list_all, AllByRecursion}
 use Rattle.std.specs.Fmt.{decimal}
 use Rattle.std.proofs.lemmas.Bool.{and_from, and_parts, eq-eqb, le-leb, leb-true, lt-ltb, ltb-true}
 use Rattle.std.proofs.lemmas.Grind.{flat_map-append}
-use Rattle.std.proofs.lemmas.List.{append-nil, length-append, length_push}
+use Rattle.std.proofs.lemmas.List.{append-nil, length_push}
 use Rattle.std.proofs.lemmas.List.Folds.{list_all-append}
 use Rattle.ule_score.specs.declared.record.CpuLine.{CpuLine}
 use Rattle.ule_text.specs.Words.{Word}
@@ -13,16 +13,17 @@ use Rattle.ule_text.proofs.Numbers.{decimal_is_word}
 use Rattle.ule_text.proofs.Printed.{is_word}
 use Rattle.ule_trace.proofs.FieldsBack.{amount_back, no_keyword, up_to_back}
 use Rattle.ule_trace.proofs.Lines.{read_more}
-use Rattle.ule_trace.proofs.LinesBack.{cpu_are_words, cpu_line_back, entry_are_words, entry_back, line_words, numbered, thread_are_words, thread_back, thread_words}
+use Rattle.ule_trace.proofs.LinesBack.{cpu_are_words, cpu_line_back, entry_are_words, entry_back, line_words, thread_are_words, thread_back, thread_words}
 use Rattle.ule_trace.proofs.Parted.{has_part}
 use Rattle.ule_trace.proofs.WordsBack.{front_part, line_unbroken, words_parted}
+use Rattle.ule_trace.specs.EventText.{event_words}
 use Rattle.ule_trace.specs.FinalText.{cpu_words, final_words}
 use Rattle.ule_trace.specs.Laws.{WrittenIsReadBack}
-use Rattle.ule_trace.specs.Line.{joined, line_text, lines_text}
-use Rattle.ule_trace.specs.LineForm.{cpu_form, entry_form, thread_form}
-use Rattle.ule_trace.specs.Parts.{parts_at, whole}
+use Rattle.ule_trace.specs.Line.{joined, line_text, lines_text, worker_word}
+use Rattle.ule_trace.specs.Parts.{parts_at}
 use Rattle.ule_trace.specs.Ranges.{CpuFits, EntryFits, OutcomeFits, ThreadFits}
 use Rattle.ule_trace.specs.Reading.{Reading, after_line, after_words, is_behind_header, no_lines, read_bytes, read_lines}
+use Rattle.ule_trace.specs.ReplyText.{reply_words}
 use Rattle.ule_trace.specs.Trace.{closing_lines, cpu_lines, entry_lines, entry_words, trace_text}
 use Rattle.ule_types.specs.Outcome.{OutcomeValue, RisesFrom}
 use Rattle.ule_types.specs.declared.event.Entry.{Entry}
@@ -75,7 +76,7 @@ entry_taken es e few fits =
       no_keyword k 110 (codes "ow") (omega arith) (omega arith),
       no_keyword k 100 (codes "one") (omega arith) (omega arith),
       entry_back k e few fits,
-      lt-ltb (length es) 65536 (omega arith)
+      lt-ltb (length es) 65536 (omega arith),
     ) refl
 
 -- the lines of entries
@@ -86,7 +87,7 @@ entries_lead before (e ∷ es) few fit =
     let k = length before + 1 in
     let count : length (before ++ e ∷ []) ≡ k = length_push before e in
     leads_on
-    (leads_line {r = entered before} {s = entered (before ++ e ∷ [])} (decimal k) _ (entry_are_words k e (omega arith) fit.0) (entry_taken before e (omega arith) fit.0))
+    (leads_line {r = entered before} {s = entered (before ++ e ∷ [])} (decimal k) (worker_word e.worker ∷ decimal e.now ∷ event_words e.event ++ codes "->" ∷ reply_words e.reply) (entry_are_words k e (omega arith) fit.0) (entry_taken before e (omega arith) fit.0))
     (subst (λ (n : ℕ). Leads (entered (before ++ e ∷ [])) (lines_text (entry_lines (n + 1) es)) (entered (before ++ e ∷ es))) count
     (subst (λ (all : List Entry). Leads (entered (before ++ e ∷ [])) (lines_text (entry_lines (length (before ++ e ∷ []) + 1) es)) (entered all)) (append_assoc before (e ∷ []) es)
     (entries_lead (before ++ e ∷ []) es (omega arith) fit.1)))
@@ -94,7 +95,7 @@ entries_lead before (e ∷ es) few fit =
 -- ---- threads
 
 -- threads of lower numbers alone stand before
-are_below : ℕ → List ThreadLine → Bool
+abbrev are_below : ℕ → List ThreadLine → Bool
 are_below low ls = list_all (λ m. nat_lt m.id low) ls
 
 -- they are below a higher number too
@@ -241,7 +242,7 @@ module _ (o : OutcomeValue) (fits : OutcomeFits o) where
   trace_leads =
       subst (λ (text : List ℕ). Leads no_lines text (told_of o)) (sym text_cut)
       (leads_on (leads_line {r = no_lines} {s = entered []} (codes "ule-trace") (codes "1" ∷ []) refl refl)
-      (leads_on (entries_lead [] o.entries fits.count fits.entries) ends_lead))
+      (leads_on (entries_lead [] o.entries (omega (arith, fits.count)) fits.entries) ends_lead))
 
   -- what is read of them
   trace_back : read_bytes (trace_text o) ≡ Ok (told_of o)
