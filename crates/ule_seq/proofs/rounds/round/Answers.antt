@@ -1,34 +1,22 @@
 -- A round is the turns of all workers.
 use Rattle.std.proofs.Common.{◌≡◌, length, sym, ◌∙◌, ap, subst, arith}
+use Rattle.ule_model.specs.Rounds.{Play}
 use Rattle.ule_rounds.proofs.RoundsLaws.{turns, turns_more}
+use Rattle.ule_seq.specs.Outcomes.{HasNoted}
 use Rattle.ule_seq.specs.Playing.{IsPlay}
 use Rattle.ule_seq.specs.Turns.{is_finished}
-use Rattle.ule_seq.proofs.PlayLaws.{finished_still, play_count}
+use Rattle.ule_seq.proofs.PlayLaws.{finished_still, play_count, turn_has_room, turn_noted}
 use Rattle.ule_seq.proofs.rounds.round.Goals as goal
-use Rattle.ule_seq.proofs.rounds.round.Goals.{then-not-finished, else-not-finished}
+use Rattle.ule_seq.proofs.rounds.round.Goals.{then-not-is_finished, else-not-is_finished}
 
-pub loop-worker-preserved : goal.loop-worker-preserved
-loop-worker-preserved c = record {
-  played = λ p play. subst (IsPlay c.args.s.now c.turn.new.self) (sym (turns_more c.loop-worker.worker p))
-      (c.turn.ensures.turned (turns c.loop-worker.worker p) (c.loop-worker.invariant.played p play));
-  ended = λ still p play. elim c.if-not-finished.branch [
-    | then-not-finished w ↦ cc
-    | else-not-finished w ↦
-        let here = c.loop-worker.invariant.played p play in
-        let told = c.turn.ensures.told (turns c.loop-worker.worker p) here in
-        turns_more c.loop-worker.worker p ∙
-        finished_still (turns c.loop-worker.worker p) c.loop-worker.worker (ap is_finished (sym told) ∙ grind arith) ∙
-        c.loop-worker.invariant.ended (sym w.moved-is ∙ still) p play
-  ];
-  plays = c.turn.ensures.plays;
-}
+pub turn-requires-clause-plays : goal.turn-requires-clause-plays
+turn-requires-clause-plays c =
+    let p = c.requires.0 in
+    (turns c.loop-worker.worker p, (c.loop-worker.invariant.played p c.requires.1 c.requires.2).0)
 
-pub returns-clause-played : goal.returns-clause-played
-returns-clause-played c p play =
-    let all : c.loop-worker.worker ≡ length p.courses = omega (arith, play_count c.args.s.now c.args.player.now p play) in
-    subst (λ n. IsPlay c.args.s.now c.loop-worker.player (turns n p)) all (c.loop-worker.invariant.played p play)
-
-pub returns-clause-ended : goal.returns-clause-ended
-returns-clause-ended c still p play =
-    let all : c.loop-worker.worker ≡ length p.courses = omega (arith, play_count c.args.s.now c.args.player.now p play) in
-    subst (λ n. turns n p ≡ p) all (c.loop-worker.invariant.ended still p play)
+pub note-requires : goal.note-requires
+note-requires c =
+    let p = c.requires.0 in
+    let here = c.loop-worker.invariant.played p c.requires.1 c.requires.2 in
+    turn_has_room c.args.s.now c.turn.new.self (turns c.loop-worker.worker p) c.loop-worker.worker c.turn.result c.loop-worker.noted
+    (c.turn.ensures.turned (turns c.loop-worker.worker p) here.0) (c.turn.ensures.told (turns c.loop-worker.worker p) here.0) here.1
