@@ -559,9 +559,9 @@ finished_still p worker told = by_step (option_and_then next_step (slice_get p.c
 
 -- ---- the entries
 
--- the entries after a turn are those before it and the one that it tells
-pub turn_notes : (p : Play) (worker : ℕ) → (turn p worker).entries ≡ p.entries ++ made_by (turn_told p worker)
-turn_notes p worker = by_step (option_and_then next_step (slice_get p.courses worker))
+-- the entries after a turn are those before it and the one that it made
+pub turn_entries : (p : Play) (worker : ℕ) (told : Turn) → told ≡ turn_told p worker → (turn p worker).entries ≡ p.entries ++ made_by told
+turn_entries p worker told tells = by_step (option_and_then next_step (slice_get p.courses worker)) ∙ ap (λ (t : Turn). p.entries ++ made_by t) (sym tells)
   where
     by_test : (e : Event) (after : program.Course) (t holder : ℕ) (b : Bool) →
         (if b then performed worker e after p else p).entries ≡ p.entries ++ made_by (made_unless (entry_of p worker e) (if b then None else Some (Lost t holder)))
@@ -591,9 +591,8 @@ turn_has_room s v p worker told o play tells noted =
     omega (
       arith,
       entries_within s (turn p worker) play.reached,
-      ap (λ (es : List Entry). length es) (turn_notes p worker),
-      length-append p.entries (made_by (turn_told p worker)),
-      ap (λ (t : Turn). length (made_by t)) tells,
+      ap (λ (es : List Entry). length es) (turn_entries p worker told tells),
+      length-append p.entries (made_by told),
       ap (λ (es : List Entry). length es) noted.entries,
       noted.room,
     )
@@ -604,7 +603,7 @@ pub turn_noted : (p : Play) (worker : ℕ) (told : Turn) (o new : OutcomeValue) 
 turn_noted p worker told o new tells noted room made = record {
   entries =
       ap (λ (x : OutcomeValue). x.entries) made ∙ ap (λ (es : List Entry). es ++ made_by told) noted.entries ∙
-      ap (λ (t : Turn). p.entries ++ made_by t) tells ∙ sym (turn_notes p worker);
+      sym (turn_entries p worker told tells);
   room = omega (arith, noted.room, room, ap (λ (x : OutcomeValue). length x.entries) made, ap (λ (x : OutcomeValue). x.room) made, length-append o.entries (made_by told));
   bare = record {
     threads = ap (λ (x : OutcomeValue). x.threads) made ∙ noted.bare.threads;

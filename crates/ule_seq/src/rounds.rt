@@ -26,15 +26,16 @@ fn note(noted: &mut Outcome, turn: &Turn)
 /// had a further item.
 fn round(player: &mut Player, s: &Setup, noted: &mut Outcome) -> bool
     requires { (p : Play) × IsPlay s.now player.old p × HasNoted p noted.old }
-    ensures played { (p : Play) → IsPlay s.now player.old p → HasNoted p noted.old →
-        IsPlay s.now player.new (round p) × HasNoted (round p) noted.new }
+    ensures played { (p : Play) → IsPlay s.now player.old p → IsPlay s.now player.new (round p) }
+    ensures entries { (p : Play) → IsPlay s.now player.old p → HasNoted p noted.old → HasNoted (round p) noted.new }
     ensures ended { result ≡ false → (p : Play) → IsPlay s.now player.old p → round p ≡ p }
 {
     let mut moved = false;
     for worker in 0..s.cpus {
         let turn = player.turn(s, worker);
         note(noted, &turn);
-        if !turn.is_finished() {
+        let finished = turn.is_finished();
+        if !finished {
             moved = true;
         }
     }
@@ -44,8 +45,8 @@ fn round(player: &mut Player, s: &Setup, noted: &mut Outcome) -> bool
 /// All rounds, until every worker is at the end of its script.
 fn run(player: &mut Player, s: &Setup, noted: &mut Outcome)
     requires { (p : Play) × IsPlay s.now player.old p × HasNoted p noted.old }
-    ensures { (p : Play) → IsPlay s.now player.old p → HasNoted p noted.old →
-        IsPlay s.now player.new (rounds 65536 p) × HasNoted (rounds 65536 p) noted.new }
+    ensures played { (p : Play) → IsPlay s.now player.old p → IsPlay s.now player.new (rounds 65536 p) }
+    ensures entries { (p : Play) → IsPlay s.now player.old p → HasNoted p noted.old → HasNoted (rounds 65536 p) noted.new }
 {
     for _round in 0..GREATEST_ROUNDS {
         if !round(player, s, noted) {

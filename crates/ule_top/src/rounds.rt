@@ -88,7 +88,8 @@ fn play_round<K: Sink>(player: &mut Player, s: &Setup, pen: &mut Pen, out: &mut 
     for worker in 0..s.cpus {
         let turn = player.turn(s, worker);
         write_made(pen, player.entries(), &turn, out);
-        if !turn.is_finished() {
+        let finished = turn.is_finished();
+        if !finished {
             moved = true;
         }
     }

@@ -8,6 +8,7 @@ use Rattle.ule_seq.proofs.rounds.round.Given as goal
 
 abbrev pub invariant-loop-worker : goal.invariant-loop-worker
 invariant-loop-worker l = record {
-  played : (p : Play) → IsPlay l.s l.initial.player p → HasNoted p l.initial.noted → IsPlay l.s l.player (turns l.worker p) × HasNoted (turns l.worker p) l.noted;
+  played : (p : Play) → IsPlay l.s l.initial.player p → IsPlay l.s l.player (turns l.worker p);
+  entries : (p : Play) → IsPlay l.s l.initial.player p → HasNoted p l.initial.noted → HasNoted (turns l.worker p) l.noted;
   ended : l.moved ≡ false → (p : Play) → IsPlay l.s l.initial.player p → turns l.worker p ≡ p;
 }
