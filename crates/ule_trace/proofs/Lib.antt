@@ -1,6 +1,5 @@
 pub mod Progress
 pub mod PenLaws
-pub mod Rest
 pub mod Digits
 pub mod EventRows
 pub mod ReplyRows
