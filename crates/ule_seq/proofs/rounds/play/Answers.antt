@@ -14,4 +14,4 @@ pub returns : goal.returns
 returns c =
     let noted = c.run.ensures.entries (opening c.args.s.now) c.in_ok-player.ensures.opens (opening_noted c.args.s.now c.in_ok-noted.noted c.in_ok-noted.ensures) in
     outcome_of_play c.args.s.now c.run.new.player c.run.new.noted c.finals.new.out (c.run.ensures.played (opening c.args.s.now) c.in_ok-player.ensures.opens) noted.entries
-    (rw (c.world.ensures, c.now.ensures) c.finals.ensures)
+    (rw (← c.world.ensures, ← c.now.ensures) c.finals.ensures)

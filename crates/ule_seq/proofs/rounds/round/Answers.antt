@@ -9,31 +9,31 @@ use Rattle.ule_seq.proofs.PlayLaws.{finished_still, play_count, turn_has_room, t
 use Rattle.ule_seq.proofs.rounds.round.Goals as goal
 use Rattle.ule_seq.proofs.rounds.round.Goals.{then-not-finished, else-not-finished}
 
-pub turn-requires-clause-plays : goal.turn-requires-clause-plays
-turn-requires-clause-plays c =
+pub turn-turn-requires-clause-plays : goal.turn-turn-requires-clause-plays
+turn-turn-requires-clause-plays c =
     (turns c.loop-worker.worker c.requires.0, c.loop-worker.invariant.played c.requires.0 c.requires.1)
 
 pub note-requires : goal.note-requires
 note-requires c =
     let q = turns c.loop-worker.worker c.requires.0 in
     let here = c.loop-worker.invariant.played c.requires.0 c.requires.1 in
-    turn_has_room c.args.s.now c.turn.new.self q c.loop-worker.worker c.turn.result c.loop-worker.noted
-    (c.turn.ensures.turned q here) (c.turn.ensures.told q here) (c.loop-worker.invariant.entries c.requires.0 c.requires.1 c.requires.2)
+    turn_has_room c.args.s.now c.turn-turn.new.self q c.loop-worker.worker c.turn-turn.result c.loop-worker.noted
+    (c.turn-turn.ensures.turned q here) (c.turn-turn.ensures.told q here) (c.loop-worker.invariant.entries c.requires.0 c.requires.1 c.requires.2)
 
 pub loop-worker-preserved : goal.loop-worker-preserved
 loop-worker-preserved c = record {
-  played = λ p play. subst (IsPlay c.args.s.now c.turn.new.self) (sym (turns_more c.loop-worker.worker p))
-      (c.turn.ensures.turned (turns c.loop-worker.worker p) (c.loop-worker.invariant.played p play));
+  played = λ p play. subst (IsPlay c.args.s.now c.turn-turn.new.self) (sym (turns_more c.loop-worker.worker p))
+      (c.turn-turn.ensures.turned (turns c.loop-worker.worker p) (c.loop-worker.invariant.played p play));
   entries = λ p play noted.
       let q = turns c.loop-worker.worker p in
-      let told = c.turn.ensures.told q (c.loop-worker.invariant.played p play) in
+      let told = c.turn-turn.ensures.told q (c.loop-worker.invariant.played p play) in
       subst (λ (r : Play). HasNoted r c.note.new.noted) (sym (turns_more c.loop-worker.worker p))
-      (turn_noted q c.loop-worker.worker c.turn.result c.loop-worker.noted c.note.new.noted told (c.loop-worker.invariant.entries p play noted) c.note.requires c.note.ensures);
+      (turn_noted q c.loop-worker.worker c.turn-turn.result c.loop-worker.noted c.note.new.noted told (c.loop-worker.invariant.entries p play noted) c.note.requires c.note.ensures);
   ended = λ still p play. elim c.if-not-finished.branch [
     | then-not-finished w ↦ cc
     | else-not-finished w ↦
         let q = turns c.loop-worker.worker p in
-        let told = c.turn.ensures.told q (c.loop-worker.invariant.played p play) in
+        let told = c.turn-turn.ensures.told q (c.loop-worker.invariant.played p play) in
         turns_more c.loop-worker.worker p ∙
         finished_still q c.loop-worker.worker (ap is_finished (sym told) ∙ grind arith) ∙
         c.loop-worker.invariant.ended (sym w.moved-is ∙ still) p play
