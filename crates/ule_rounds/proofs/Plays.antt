@@ -42,12 +42,11 @@ each_after_set Q xs i x v got here others j y found =
 
 -- ---- a number of all workers
 
--- where one course is changed, the sum of a number of all changes by that of this one
-pub sum_set : (f : Course → ℕ) (courses : List Course) (worker : ℕ) (course reached : Course) → slice_get courses worker ≡ Some course →
-    sum_by f (slice_set courses worker reached) + f course ≡ sum_by f courses + f reached
-sum_set f courses worker course reached got =
-    ap (λ (n : ℕ). sum_by f (slice_set courses worker reached) + n) (sym (ap f (get_or_from_slice_get courses worker course course got))) ∙
-    sum_by-set f courses worker reached course (slice_get_within courses worker course got)
+-- where one of a list is changed, the sum of a number of all changes by that of this one
+pub sum_set : {X : Type 0} (f : X → ℕ) (xs : List X) (i : ℕ) (x v : X) → slice_get xs i ≡ Some x → sum_by f (slice_set xs i v) + f x ≡ sum_by f xs + f v
+sum_set f xs i x v got =
+    ap (λ (n : ℕ). sum_by f (slice_set xs i v) + n) (sym (ap f (get_or_from_slice_get xs i x x got))) ∙
+    sum_by-set f xs i v x (slice_get_within xs i x got)
 
 -- where that of each is 0, the sum is
 pub sum_none : (f : Course → ℕ) (courses : List Course) → ((worker : ℕ) (course : Course) → slice_get courses worker ≡ Some course → f course ≡ 0) → sum_by f courses ≡ 0
