@@ -58,14 +58,15 @@ pub record HasGoneOn (s : Setup) (n : ℕ) (p q : Play) : Type 0 where
 abbrev pub GoesOrIs : Setup → ℕ → Play → Play → Type 0 → Type 0
 GoesOrIs s n p q still = (gone : HasGoneOn s n p q) × ((n + 1 ≤ gone.items) ⊎ still)
 
+-- a play went on to itself
+at_first : (s : Setup) (n : ℕ) (p : Play) → IsPlayed s n p → HasGoneOn s n p p
+at_first s n p r = record { items = n; played = r; more = omega arith; entries = omega arith; now = omega arith; goes = omega arith }
+
 -- a turn performs an item, or changes nothing, since its worker is at its end or its turn is lost
 pub turn_goes : (s : Setup) (n : ℕ) (p : Play) (worker : ℕ) → IsPlayed s n p → GoesOrIs s n p (turn p worker) ((turn p worker ≡ p) × IsIdle p worker)
 turn_goes s n p worker r =
-    turn_cases (λ q. GoesOrIs s n p q ((q ≡ p) × IsIdle p worker)) p worker (λ finished. (same, inr (refl, inl finished))) goes
+    turn_cases (λ q. GoesOrIs s n p q ((q ≡ p) × IsIdle p worker)) p worker (λ finished. (at_first s n p r, inr (refl, inl finished))) goes
   where
-    same : HasGoneOn s n p p
-    same = record { items = n; played = r; more = omega arith; entries = omega arith; now = omega arith; goes = omega arith }
-
     goes : (course after : Course) (i : Item) → slice_get p.courses worker ≡ Some course → next_step course ≡ Some (i, after) →
         GoesOrIs s n p (after_item worker i after p) ((after_item worker i after p ≡ p) × IsIdle p worker)
     goes course after (item.Advance k) got next = (
@@ -95,42 +96,48 @@ turn_goes s n p worker r =
               },
               inl (omega arith),
             )
-        if_ready false is = (same, inr (refl, inr (record { course = course; after = after; event = e; got = got; next = next; ready = is })))
+        if_ready false is = (at_first s n p r, inr (refl, inr (record { course = course; after = after; event = e; got = got; next = next; ready = is })))
 
 -- ---- a round
 
--- the turns of so many workers perform an item, or change nothing, since none of those workers performs one
-pub turns_go : (s : Setup) (n k : ℕ) (p : Play) → IsPlayed s n p → GoesOrIs s n p (turns k p) ((turns k p ≡ p) × ((worker : ℕ) → worker < k → IsIdle p worker))
-turns_go s n zero p r =
-    (record { items = n; played = r; more = omega arith; entries = omega arith; now = omega arith; goes = omega arith }, inr (refl, λ worker below. absurd (omega arith)))
-turns_go s n (suc k) p r =
-    subst (λ q. GoesOrIs s n p q ((q ≡ p) × ((worker : ℕ) → worker < suc k → IsIdle p worker))) (sym last)
-    (
-      record {
-        items = second.0.items;
-        played = second.0.played;
-        more = omega (arith, first.0.more, second.0.more);
-        entries = omega (arith, first.0.entries, second.0.entries);
-        now = omega (arith, first.0.now, second.0.now);
-        goes = omega (arith, first.0.goes, second.0.goes);
-      },
-      ⊎_elim (λ (further : n + 1 ≤ first.0.items). inl (omega (arith, further, second.0.more))) (λ (same : (turns k p ≡ p) × ((worker : ℕ) → worker < k → IsIdle p worker).
-      ⊎_elim (λ (further : first.0.items + 1 ≤ second.0.items). inl (omega (arith, further, first.0.more))) (λ (still : (turn (turns k p) k ≡ turns k p) × IsIdle (turns k p) k).
-      inr (still.0 ∙ same.0, λ worker below.
-          ⊎_elim (λ (under : worker < k). same.1 worker under)
-          (λ (at : k ≤ worker). let is : k ≡ worker = omega arith in subst (IsIdle p) is (subst (λ q. IsIdle q k) same.0 still.1))
-          (cases_lt worker k)))
-      second.1)) first.1,
-    )
+-- none of so many workers performs an item, and so nothing changes
+abbrev AreIdle : ℕ → Play → Play → Type 0
+AreIdle k p q = (q ≡ p) × ((worker : ℕ) → worker < k → IsIdle p worker)
+
+-- a turn behind those of so many workers
+turn_behind : (s : Setup) (n k : ℕ) (p q : Play) → GoesOrIs s n p q (AreIdle k p q) → GoesOrIs s n p (turn q k) (AreIdle (suc k) p (turn q k))
+turn_behind s n k p q first = (
+  record {
+    items = second.0.items;
+    played = second.0.played;
+    more = omega (arith, first.0.more, second.0.more);
+    entries = omega (arith, first.0.entries, second.0.entries);
+    now = omega (arith, first.0.now, second.0.now);
+    goes = omega (arith, first.0.goes, second.0.goes);
+  },
+  ⊎_elim (λ (further : n + 1 ≤ first.0.items). inl (omega (arith, further, second.0.more)))
+      (λ (same : AreIdle k p q).
+      ⊎_elim (λ (further : first.0.items + 1 ≤ second.0.items). inl (omega (arith, further, first.0.more)))
+      (λ (still : (turn q k ≡ q) × IsIdle q k).
+      inr (
+        still.0 ∙ same.0,
+        λ worker below.
+            ⊎_elim (λ (under : worker < k). same.1 worker under)
+            (λ (at : k ≤ worker). let is : k ≡ worker = omega arith in subst (IsIdle p) is (subst (λ u. IsIdle u k) same.0 still.1))
+            (cases_lt worker k),
+      ))
+      second.1) first.1,
+)
   where
-    last : turns (suc k) p ≡ turn (turns k p) k
-    last = let more : suc k ≡ k + 1 = omega arith in ap (λ j. turns j p) more ∙ turns_more k p
+    second : GoesOrIs s first.0.items q (turn q k) ((turn q k ≡ q) × IsIdle q k)
+    second = turn_goes s first.0.items q k first.0.played
 
-    first : GoesOrIs s n p (turns k p) ((turns k p ≡ p) × ((worker : ℕ) → worker < k → IsIdle p worker))
-    first = turns_go s n k p r
-
-    second : GoesOrIs s first.0.items (turns k p) (turn (turns k p) k) ((turn (turns k p) k ≡ turns k p) × IsIdle (turns k p) k)
-    second = turn_goes s first.0.items (turns k p) k first.0.played
+-- the turns of so many workers perform an item, or change nothing, since none of those workers performs one
+pub turns_go : (s : Setup) (n k : ℕ) (p : Play) → IsPlayed s n p → GoesOrIs s n p (turns k p) (AreIdle k p (turns k p))
+turns_go s n zero p r = (at_first s n p r, inr (refl, λ worker below. absurd (omega arith)))
+turns_go s n (suc k) p r =
+    let last : turns (suc k) p ≡ turn (turns k p) k = (let more : suc k ≡ k + 1 = omega arith in ap (λ j. turns j p) more ∙ turns_more k p) in
+    subst (λ q. GoesOrIs s n p q (AreIdle (suc k) p q)) (sym last) (turn_behind s n k p (turns k p) (turns_go s n k p r))
 
 -- ---- no turn is lost for good
 
@@ -185,7 +192,7 @@ round_goes s n p r =
     let went = turns_go s n (length p.courses) p r in (
       went.0,
       ⊎_elim (λ (further : n + 1 ≤ went.0.items). inl further)
-          (λ (still : (turns (length p.courses) p ≡ p) × ((worker : ℕ) → worker < length p.courses → IsIdle p worker)). inr (idle_finished s n p r still.1)) went.1,
+          (λ (still : AreIdle (length p.courses) p (turns (length p.courses) p)). inr (idle_finished s n p r still.1)) went.1,
     )
 
 -- ---- rounds
