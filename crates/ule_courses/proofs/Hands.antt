@@ -189,13 +189,3 @@ handled_thread w worker any handled = refl
 handled_thread w worker empty handled = refl
 handled_thread w worker (unborn t) handled = handled.1
 handled_thread w worker (has t) handled = subst (λ o. is_own worker o ≡ true) (sym handled) (eq-eqb worker worker refl)
-
--- a thread that is sought in vain is in another worker's hand
-pub sought_held : (holder : ℕ → Option ℕ) (worker : ℕ) (sought : Option ℕ) → is_no_others worker (option_and_then holder sought) ≡ false →
-    (t : ℕ) × (h : ℕ) × (holder t ≡ Some h)
-sought_held holder worker None lost = absurd (true≢false lost)
-sought_held holder worker (Some t) lost = at_holder (holder t) refl lost
-  where
-    at_holder : (o : Option ℕ) → holder t ≡ o → is_no_others worker o ≡ false → (u : ℕ) × (h : ℕ) × (holder u ≡ Some h)
-    at_holder None is lost = absurd (true≢false lost)
-    at_holder (Some h) is lost = (t, h, is)
