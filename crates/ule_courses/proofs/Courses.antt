@@ -5,7 +5,6 @@ use Rattle.std.proofs.lemmas.Bool.{and_parts}
 use Rattle.std.proofs.lemmas.List.Sums.{sum_by-cons}
 use Rattle.std.proofs.lemmas.Option.{none-some, some_pair_parts}
 use Rattle.ule_types.specs.Commands.{amount_of, forked_by, greatest_of, is_among, is_command}
-use Rattle.ule_prio.specs.Class.{is_within}
 use Rattle.ule_types.specs.Needs.{FitsHand, handling, hatched_by, sought_by}
 use Rattle.ule_types.specs.Words.{change_of}
 use Rattle.ule_types.specs.declared.command.Command.{Command}

@@ -11,7 +11,7 @@ use Rattle.ule_types.specs.declared.event.Event.TheVariants.{Bed, Bury, Drop, Ex
 use Rattle.ule_program.specs.Courses.{Course}
 use Rattle.ule_program.specs.Laws.{hand_by_word}
 use Rattle.ule_model.specs.Conditions.{HasEmptyHand, IsHandled, IsPossible}
-use Rattle.ule_model.specs.Events.{Handling, any, empty, handling, has, has_handled, holder_of, is_no_others, is_own, is_unborn_thread, unborn}
+use Rattle.ule_model.specs.Events.{Handling, any, empty, handling, has, has_handled, holder_of, is_own, is_unborn_thread, unborn}
 use Rattle.ule_model.specs.Frames.{thread_in_hand}
 use Rattle.ule_model.specs.Places.{hand_of, is_hand_of, is_number}
 use Rattle.ule_model.specs.Step.{step}

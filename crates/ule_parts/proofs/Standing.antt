@@ -39,7 +39,6 @@ use Rattle.ule_members.proofs.Setups.{setup_scripts}
 use Rattle.ule_courses.proofs.Hands.{FindsUnborn, hand_follows}
 use Rattle.ule_courses.proofs.Replies.{step_replies}
 use Rattle.ule_micro.specs.declared.entry.Entry.{Entry}
-use Rattle.ule_micro.specs.declared.entry.HeldLocks.{HeldLocks}
 use Rattle.ule_micro.specs.declared.todo.Todo.TheVariants as todo
 use Rattle.ule_micro.specs.Histories.{laid_under}
 use Rattle.ule_micro.specs.Laws.{KeepsStanding}

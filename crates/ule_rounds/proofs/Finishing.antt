@@ -1,6 +1,5 @@
 -- Each round performs an item where a worker has a further one, until all workers are at their ends.
 use Rattle.std.proofs.Common.{◌≡◌, ℕ, zero, suc, ◌+◌, ◌<◌, ◌≤◌, ◌⊎◌, Bool, true, false, length, slice_get, is_some, Option, Some, None, inl, inr, if◌then◌else◌, option_and_then, refl, sym, ◌∙◌, ap, subst, ⊎_elim, arith}
-use Rattle.std.specs.List.{range_with_len}
 use Rattle.std.proofs.lemmas.Bool.{cases_lt, true≢false}
 use Rattle.std.proofs.lemmas.List.{length_push}
 use Rattle.std.proofs.lemmas.Option.{same_Some}
@@ -10,7 +9,7 @@ use Rattle.ule_types.specs.declared.event.Item.{Item}
 use Rattle.ule_types.specs.declared.event.Item.TheVariants as item
 use Rattle.ule_types.specs.declared.event.Reply.{Reply}
 use Rattle.ule_types.specs.declared.setup.Setup.{Setup}
-use Rattle.ule_model.specs.Events.{Locking, queue, queues, chain, limbo, place_of, holder_of, is_no_others, is_ready, locking, sought_in}
+use Rattle.ule_model.specs.Events.{Locking, place_of, holder_of, is_no_others, is_ready, locking, sought_in}
 use Rattle.ule_model.specs.WorldValue.{if_thread}
 use Rattle.ule_model.specs.World.{World}
 use Rattle.ule_program.specs.Courses.{Course, next_step}

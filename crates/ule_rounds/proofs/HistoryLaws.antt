@@ -1,11 +1,10 @@
 -- The history of rounds is legal and whole, and rounds go on until all scripts are done, since they are a legal play of values.
-use Rattle.std.proofs.Common.{◌≡◌, ℕ, zero, suc, ◌+◌, ◌<◌, ◌≤◌, length, List, slice_get, take, Option, Some, None, inl, inr, option_and_then, refl, sym, ap, ◌∙◌, subst, ⊎_elim, arith}
+use Rattle.std.proofs.Common.{◌≡◌, ℕ, zero, suc, ◌+◌, ◌<◌, ◌≤◌, length, slice_get, take, Option, Some, None, inl, inr, option_and_then, refl, sym, ap, ◌∙◌, subst, ⊎_elim, arith}
 use Rattle.std.proofs.lemmas.Bool.{cases_lt}
 use Rattle.std.proofs.lemmas.Option.{same_Some}
 use Rattle.ule_types.specs.declared.event.Event.{Event}
 use Rattle.ule_types.specs.declared.event.Reply.{Reply}
 use Rattle.ule_types.specs.declared.setup.Setup.{Setup}
-use Rattle.ule_program.specs.Courses.{Course}
 use Rattle.ule_model.specs.CalendarPromise.{HasCalendarPromise}
 use Rattle.ule_model.specs.Events.{holder_of}
 use Rattle.ule_model.specs.History.{GoesOn, HasEmptyHands, IsHistoryOf, KeepsRecords, RoundsGoOn}
@@ -15,7 +14,7 @@ use Rattle.ule_model.specs.Rounds.{Play, greatest_rounds, opening, play_of, roun
 use Rattle.ule_model.specs.Start.{world_at_start}
 use Rattle.ule_model.specs.Throughout.{HoldsThroughout}
 use Rattle.ule_model.specs.WellMade.{IsWellMadeWorld}
-use Rattle.ule_model.specs.World.{Member, World, thread_of}
+use Rattle.ule_model.specs.World.{Member, thread_of}
 use Rattle.ule_members.proofs.Membership.{Has, all_from_has, thread_of_has}
 use Rattle.ule_members.proofs.Setups.{setup_end}
 use Rattle.ule_micro.specs.Courses.{WorkerCourse}
@@ -26,7 +25,7 @@ use Rattle.ule_parts.specs.Scheduler.{sched_means}
 use Rattle.ule_parts.specs.Workers.{Worker}
 use Rattle.ule_parts.proofs.Lawful.{is_lawful}
 use Rattle.ule_parts.proofs.Legality.{all_advanced_at_end, plays_are_legal}
-use Rattle.ule_rounds.specs.RoundPlay.{IsPlayOfRounds, RoundsArePlays}
+use Rattle.ule_rounds.specs.RoundPlay.{RoundsArePlays}
 use Rattle.ule_rounds.proofs.Finishing.{HasGoneOn, held_not_empty, round_goes, rounds_finish, rounds_played}
 use Rattle.ule_rounds.proofs.Keeping.{in_hand, items_few}
 use Rattle.ule_rounds.proofs.RoundPlays.{IsAtItsEnd, IsPlayed, IsSettled, as_many, comes_to_end, orders, played_opening, reached, settles, there_is, world_is}

@@ -1,6 +1,6 @@
 -- What is known of a worker's next item in rounds, by the legal play of values that they are.
-use Rattle.std.proofs.Common.{◌≡◌, ◌≢◌, ◌⊎◌, ℕ, zero, suc, ◌+◌, ◌<◌, ◌≤◌, true, List, [], ◌∷◌, length, length-set, map, set, slice_get, slice_index_or, is_some, Some, None, sym, refl, ap, ◌∙◌, subst, ⊎_elim, arith}
-use Rattle.std.proofs.lemmas.Bool.{false≢true, true≢false}
+use Rattle.std.proofs.Common.{◌≡◌, ◌≢◌, ℕ, zero, suc, ◌+◌, ◌≤◌, true, List, [], ◌∷◌, length, length-set, map, set, slice_get, slice_index_or, is_some, Some, None, sym, refl, ap, ◌∙◌, subst, ⊎_elim, arith}
+use Rattle.std.proofs.lemmas.Bool.{false≢true}
 use Rattle.std.proofs.lemmas.List.Sums.{sum_by-cons}
 use Rattle.std.proofs.lemmas.Option.{none-some}
 use Rattle.ule_types.specs.declared.event.Event.{Event}
@@ -22,7 +22,6 @@ use Rattle.ule_model.specs.World.{World}
 use Rattle.ule_model.specs.WorldValue.{WorldValue, held_by, if_thread}
 use Rattle.ule_courses.proofs.Hands.{held_in_hand}
 use Rattle.ule_micro.specs.Courses.{WorkerCourse}
-use Rattle.ule_micro.specs.Laws.{IsEmpty}
 use Rattle.ule_micro.specs.Means.{budgets}
 use Rattle.ule_micro.specs.Standings as standing
 use Rattle.ule_micro.proofs.Courses.{IsCourse, advances_little, all_are_courses, in_budget}
@@ -31,7 +30,7 @@ use Rattle.ule_micro.proofs.Numbers.{play_counted}
 use Rattle.ule_parts.specs.Histories.{scheduler_with}
 use Rattle.ule_parts.specs.Plays.{list_of}
 use Rattle.ule_parts.specs.Scheduler.{budget_of, sched_means}
-use Rattle.ule_parts.specs.Workers.{IsItem, Worker, declared_ids_of, left_at}
+use Rattle.ule_parts.specs.Workers.{IsItem, Worker, left_at}
 use Rattle.ule_parts.proofs.Lawful.{is_lawful}
 use Rattle.ule_parts.proofs.Locks.{hand_some}
 use Rattle.ule_parts.proofs.Worlds.{IsReached}
@@ -47,8 +46,14 @@ items_within b k [] each = let same : k + 0 ≡ k = omega arith in omega (arith,
 items_within b k (c ∷ cs) each =
     let first : k + 0 ≡ k = omega arith in
     let rest : k + suc (length cs) ≡ suc k + length cs = omega arith in
-    omega (arith, each 0 c refl, ap b first, ap (budgets b) rest, sum_by-cons (λ (d : WorkerCourse Worker Event Reply). d.items) c cs,
-    items_within b (suc k) cs (λ w d at. (let next : k + suc w ≡ suc k + w = omega arith in subst (λ i. d.items ≤ b i) next (each (suc w) d at))))
+    omega (
+      arith,
+      each 0 c refl,
+      ap b first,
+      ap (budgets b) rest,
+      sum_by-cons (λ (d : WorkerCourse Worker Event Reply). d.items) c cs,
+      items_within b (suc k) cs (λ w d at. (let next : k + suc w ≡ suc k + w = omega arith in subst (λ i. d.items ≤ b i) next (each (suc w) d at))),
+    )
 
 -- where a worker has an item, one is left of its command
 item_left_at : (own : Own) (i : Item) → IsItem own (standing.has (todo_item i)) → 1 ≤ left_at own (standing.has (todo_item i))
@@ -87,8 +92,12 @@ module _ (s : Setup) (n : ℕ) (p : Play) (r : IsPlayed s n p) where
       → ((w : ℕ) (c : WorkerCourse Worker Event Reply) → slice_get cs w ≡ Some c → c.items ≤ budget_of s w) → items_of cs ≤ greatest_rounds
   within cs many each =
       let same : 0 + length cs ≡ length (sched_means s).owns = omega (arith, many, (play_counted (sched_means s) (list_of s.scripts) (is_lawful s) (orders s) r.legal).workers) in
-      omega (arith, items_within (budget_of s) 0 cs (λ w c at. (let first : w ≡ 0 + w = omega arith in subst (λ i. c.items ≤ budget_of s i) first (each w c at))), ap (budgets (budget_of s)) same,
-      (is_lawful s).small.small)
+      omega (
+        arith,
+        items_within (budget_of s) 0 cs (λ w c at. (let first : w ≡ 0 + w = omega arith in subst (λ i. c.items ≤ budget_of s i) first (each w c at))),
+        ap (budgets (budget_of s)) same,
+        (is_lawful s).small.small,
+      )
 
   pub items_few : n ≤ greatest_rounds
   items_few = subst (λ k. k ≤ greatest_rounds) r.items (within r.courses refl (λ w c at. in_budget (sched_means s) (list_of s.scripts) (is_lawful s) (orders s) r.legal w c at))
@@ -122,8 +131,12 @@ module _ (s : Setup) (n : ℕ) (p : Play) (r : IsPlayed s n p) (w : ℕ) (course
 
     -- so a worker with a further item leaves room for it
     pub item_left : n + 1 ≤ greatest_rounds
-    item_left = omega (arith, within s n p settled.played (set settled.played.courses w more) (length-set settled.played.courses w more) each,
-        sum_set (λ (d : WorkerCourse Worker Event Reply). d.items) settled.played.courses w c more settled.found, settled.played.items)
+    item_left = omega (
+      arith,
+      within s n p settled.played (set settled.played.courses w more) (length-set settled.played.courses w more) each,
+      sum_set (λ (d : WorkerCourse Worker Event Reply). d.items) settled.played.courses w c more settled.found,
+      settled.played.items,
+    )
       where
         more : WorkerCourse Worker Event Reply
         more = record c { items = c.items + 1 }
