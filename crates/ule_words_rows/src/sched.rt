@@ -1,5 +1,5 @@
 //! The scheduler's own parts: thread 0 becomes the current thread of CPU 0, and falls asleep.
-ghost use Rattle.std.specs.Prelude.{◌≡◌, ℕ, ◌+◌, ◌∷◌, [], List, Some, None, true, IfOk, IfSome};
+ghost use Rattle.std.specs.Prelude.{◌≡◌, ℕ, ◌+◌, ◌∷◌, [], List, Option, Some, None, true, IfOk, IfSome};
 ghost use Rattle.ule_types.specs.declared.command.Command.{Command};
 ghost use Rattle.ule_types.specs.declared.command.Command.TheVariants.{Sleep, Yield};
 ghost use Rattle.ule_types.specs.declared.event.Reply.TheVariants.{Dropped};
