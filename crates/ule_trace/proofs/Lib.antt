@@ -8,3 +8,10 @@ pub mod FinalRows
 pub mod Lines
 pub mod Parted
 pub mod ReadingRows
+pub mod WordsBack
+pub mod FieldsBack
+pub mod PlacesBack
+pub mod EventsBack
+pub mod RepliesBack
+pub mod LinesBack
+pub mod TraceBack

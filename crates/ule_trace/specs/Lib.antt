@@ -15,3 +15,5 @@ pub mod ReplyForm
 pub mod LineForm
 pub mod Reading
 pub mod ReadingView
+pub mod Ranges
+pub mod Laws

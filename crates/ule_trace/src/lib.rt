@@ -16,6 +16,7 @@ mod fault;
 mod field;
 mod finals;
 pub mod held;
+pub mod laws;
 mod line_form;
 mod parts;
 mod place;
