@@ -15,7 +15,7 @@ use Rattle.ule_program.specs.Courses.{Course}
 use Rattle.ule_model.specs.Start.{starting_time}
 use Rattle.ule_model.specs.Step.{step}
 use Rattle.ule_members.proofs.Within.{all_both}
-use Rattle.ule_rounds.proofs.Plays.{each_after_set}
+use Rattle.ule_check.proofs.Openings.{each_after_set}
 use Rattle.ule_check.specs.Ending.{cpu_fault, ending_faults, thread_fault}
 use Rattle.ule_check.specs.Judge.{Due, Judge, behind, due_at, due_of, faults_of, first_fault, keeps_time}
 use Rattle.ule_check.specs.Judged.{illegal_or, judged_entry, judged_from}

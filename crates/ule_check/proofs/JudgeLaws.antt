@@ -21,7 +21,7 @@ use Rattle.ule_model.specs.Step.{step}
 use Rattle.ule_model.specs.WorldValue.{Shows}
 use Rattle.ule_members.proofs.Lists.{slice_get-set_other, slice_get-set_same}
 use Rattle.ule_members.proofs.Setups.{setup_scripts}
-use Rattle.ule_rounds.proofs.Plays.{each_after_set}
+use Rattle.ule_check.proofs.Openings.{each_after_set}
 use Rattle.ule_check.specs.Judge.{Due, Judge, behind, due_at, due_of, event_fault, faults_of, first_fault, hand_fault, keeps_time, reply_fault, time_fault, with_times}
 use Rattle.ule_check.specs.JudgeValue.{AreSeats, HasHeard, HasJudged, IsJudge, IsSeat, IsTimely, WentOn, entry_fault, goes_on, noted_in}
 use Rattle.ule_check.specs.Seats.{due_by, due_in, time_ahead, time_behind}

@@ -6,6 +6,8 @@ pub mod Ahead
 pub mod Complete
 pub mod WholeLaws
 pub mod NotedTimes
+pub mod Openings
+pub mod Forks
 pub mod Kept
 pub mod OnTheWay
 pub mod Sound

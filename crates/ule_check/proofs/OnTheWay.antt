@@ -8,7 +8,7 @@ use Rattle.ule_model.specs.Legal.{Performs, Timed, advances}
 use Rattle.ule_program.specs.Courses.{Course}
 use Rattle.ule_model.specs.Step.{step}
 use Rattle.ule_members.proofs.Lists.{slice_get-set_same}
-use Rattle.ule_rounds.proofs.Plays.{all_left}
+use Rattle.ule_check.proofs.Openings.{all_left}
 use Rattle.ule_check.specs.Judge.{Due, Judge, due_of, with_time, with_times}
 use Rattle.ule_check.proofs.Dues.{IsDue, KeptByAdvances, due_holds}
 use Rattle.ule_check.proofs.Kept.{IsKept, IsPlaced, kept_advanced, kept_performed, left_advanced, placed, possible}

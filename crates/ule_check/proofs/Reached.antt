@@ -4,7 +4,7 @@ use Rattle.std.proofs.lemmas.Option.{none-some}
 use Rattle.ule_types.specs.declared.setup.Setup.{Setup}
 use Rattle.ule_program.specs.Courses.{Course}
 use Rattle.ule_model.specs.Rounds.{greatest_rounds}
-use Rattle.ule_rounds.proofs.Plays.{all_left, opening_left}
+use Rattle.ule_check.proofs.Openings.{all_left, opening_left}
 use Rattle.ule_check.specs.Judge.{Due, Judge, due_at, due_of}
 use Rattle.ule_check.specs.JudgeValue.{IsReached, goes_on, starts}
 use Rattle.ule_check.proofs.Kept.{IsKept, kept_at_start}

@@ -20,7 +20,8 @@ use Rattle.ule_model.specs.Step.{step}
 use Rattle.ule_members.proofs.Lists.{slice_get-set_other, slice_get-set_same}
 use Rattle.ule_members.proofs.Within.{all_along}
 use Rattle.ule_courses.proofs.Hands.{handled_thread}
-use Rattle.ule_rounds.proofs.Plays.{all_left, opening_count, opening_is}
+use Rattle.ule_rounds.proofs.Plays.{opening_count, opening_is}
+use Rattle.ule_check.proofs.Openings.{all_left}
 use Rattle.ule_check.specs.Ending.{cpu_fault, end_fault, ending_faults, missing_from, thread_fault}
 use Rattle.ule_check.specs.Judge.{Due, Judge, behind, due_of, event_fault, faults_of, first_fault, hand_fault, judge_at_start, keeps_time, reply_fault, time_fault, with_time}
 use Rattle.ule_check.specs.Judged.{judged_entry, judged_from}

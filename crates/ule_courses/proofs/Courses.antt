@@ -5,7 +5,6 @@ use Rattle.std.proofs.lemmas.Bool.{and_parts}
 use Rattle.std.proofs.lemmas.List.Sums.{sum_by-cons}
 use Rattle.std.proofs.lemmas.Option.{none-some, some_pair_parts}
 use Rattle.ule_types.specs.Commands.{amount_of, forked_by, greatest_of, is_among, is_command}
-use Rattle.ule_prio.specs.Class.{is_within}
 use Rattle.ule_types.specs.Needs.{FitsHand, handling, hatched_by, sought_by}
 use Rattle.ule_types.specs.Words.{change_of}
 use Rattle.ule_types.specs.declared.command.Command.{Command}
@@ -104,11 +103,6 @@ ended_from P kept (c ∷ cs) own holds next = at_item (item_at own.stage) refl n
     at_item None is none further = further (kept c cs own is holds) none
     at_item (Some j) is some further = absurd (none-some (j, course_of (once_given own) (c ∷ cs)) (sym some))
 
--- a worker at a stage with an item has a next item
-pub item_goes_on : (script : List Command) (own : Own) (i : Item) → item_at own.stage ≡ Some i → next_from script own ≡ Some (i, course_of (once_given own) script)
-item_goes_on [] own i is = ap (λ o. stepped [] o (once_given own)) is
-item_goes_on (c ∷ cs) own i is = ap (λ o. or_else (stepped (c ∷ cs) o (once_given own)) (next_from cs (begun c (once_given own)))) is
-
 -- ---- what a course keeps
 
 -- the greatest number of items that a worker still has
@@ -139,13 +133,12 @@ to_fork script own = hatching own.stage ++ flat_map forked_by script
 abbrev pub forks_ahead : Course → List ℕ
 forks_ahead course = to_fork course.script (told_at course)
 
--- a worker of a topology with valid commands before it that has come to where it stands by now, with so many items and so much time left, this
--- hand, and these threads to fork
-pub record IsOrderly (ids : List ℕ) (worker : ℕ) (t : Tree) (now left amount : ℕ) (hand : Option ℕ) (ahead : List ℕ) (script : List Command) (own : Own) : Type 0 where
+-- a worker of a topology with valid commands before it that has come to where it stands by now, with so many items left, this hand, and these
+-- threads to fork
+pub record IsOrderly (ids : List ℕ) (worker : ℕ) (t : Tree) (now left : ℕ) (hand : Option ℕ) (ahead : List ℕ) (script : List Command) (own : Own) : Type 0 where
   pub valid : list_all (is_command ids t.cpus) script ≡ true
   pub leads : LeadsTo (is_among ids) worker t now (most own) (time_at own.stage) (hatching own.stage) hand own
   pub few : left_from t.cpus script own ≤ left
-  pub time : time_from script own ≡ amount
   pub forks : to_fork script own ≡ ahead
 
 -- where a worker has come to by now, with this hand
@@ -172,7 +165,7 @@ told_leads ids worker t now hand own come time hatches held = record {
 -- a course of a worker that is orderly once it is told
 abbrev pub HasOrder : List ℕ → ℕ → Tree → ℕ → Course → Type 0
 HasOrder ids worker t now course =
-    IsOrderly ids worker t now (left_of t.cpus course) (time_of course) (held_at course) (forks_ahead course) course.script (told_at course)
+    IsOrderly ids worker t now (left_of t.cpus course) (held_at course) (forks_ahead course) course.script (told_at course)
 
 -- an orderly course is so at any later time
 pub order_later : (ids : List ℕ) (worker : ℕ) (t : Tree) (now later : ℕ) (course : Course) → now ≤ later → HasOrder ids worker t now course → HasOrder ids worker t later course
@@ -190,21 +183,19 @@ order_later ids worker t now later course past orderly = record {
     by_now = stage_later (told_at course).stage now later past orderly.leads.by_now;
   };
   few = orderly.few;
-  time = orderly.time;
   forks = orderly.forks;
 }
 
 -- where the next item of an orderly course is found
 abbrev pub IsNextItem : List ℕ → ℕ → Tree → ℕ → Course → Item → Course → Type 0
-IsNextItem ids worker t now course i after = IsFound (IsOrderly ids worker t now (left_of t.cpus course) (time_of course) (held_at course) (forks_ahead course)) i after
+IsNextItem ids worker t now course i after = IsFound (IsOrderly ids worker t now (left_of t.cpus course) (held_at course) (forks_ahead course)) i after
 
 module _ (ids : List ℕ) (worker : ℕ) (t : Tree) (seat : IsSeat worker t) (now : ℕ) where
   -- a command that is begun keeps a worker orderly
-  pub orderly_begun : (left amount : ℕ) (hand : Option ℕ) (ahead : List ℕ) → KeptAtBegin (IsOrderly ids worker t now left amount hand ahead)
-  orderly_begun left amount hand ahead c cs own none orderly =
+  pub orderly_begun : (left : ℕ) (hand : Option ℕ) (ahead : List ℕ) → KeptAtBegin (IsOrderly ids worker t now left hand ahead)
+  orderly_begun left hand ahead c cs own none orderly =
       let ended = ended_stage own.stage none in
       let few : most own ≡ 0 = ap (λ st. most (record own { stage = st })) ended in
-      let short : time_at own.stage ≡ 0 = ap time_at ended in
       let parts = and_parts (is_command ids t.cpus c) (list_all (is_command ids t.cpus) cs) orderly.valid in
       let led : LeadsTo (is_among ids) worker t now (greatest_of c worker t.cpus) (amount_of c) (forked_by c) None (begun c (once_given own)) =
       command_leads ids worker t now c (once_given own) seat parts.0 orderly.leads.same_worker orderly.leads.same_topology in
@@ -216,40 +207,29 @@ module _ (ids : List ℕ) (worker : ℕ) (t : Tree) (seat : IsSeat worker t) (no
         leads = subst (λ h. LeadsTo (is_among ids) worker t now (most (begun c (once_given own))) (time_at (begun c (once_given own)).stage) (hatching (begun c (once_given own)).stage) h
             (begun c (once_given own))) same (come_with ids worker t now (greatest_of c worker t.cpus) (amount_of c) (forked_by c) None (begun c (once_given own)) led);
         few = omega (arith, orderly.few, led.few, few, first, all, sum_by-cons (λ d. greatest_of d worker t.cpus) c cs);
-        time = omega (arith, short, orderly.time, led.time, sum_by-cons amount_of c cs);
         forks = ap (λ us. us ++ flat_map forked_by cs) led.hatches ∙ sym (ap (λ st. hatching st ++ flat_map forked_by (c ∷ cs)) ended) ∙ orderly.forks;
       }
 
   -- the next item of an orderly course is found where the worker is orderly
   pub next_is : (course : Course) (i : Item) (after : Course) → HasOrder ids worker t now course → next_step course ≡ Some (i, after) → IsNextItem ids worker t now course i after
   next_is course i after orderly next =
-      next_found (IsOrderly ids worker t now (left_of t.cpus course) (time_of course) (held_at course) (forks_ahead course))
-      (orderly_begun (left_of t.cpus course) (time_of course) (held_at course) (forks_ahead course)) course i after orderly next
+      next_found (IsOrderly ids worker t now (left_of t.cpus course) (held_at course) (forks_ahead course))
+      (orderly_begun (left_of t.cpus course) (held_at course) (forks_ahead course)) course i after orderly next
 
-  -- a course without a next item adds no time
-  pub ended_time : (course : Course) → HasOrder ids worker t now course → next_step course ≡ None → time_of course ≡ 0
-  ended_time course orderly none =
-      let end = ended_from (IsOrderly ids worker t now (left_of t.cpus course) (time_of course) (held_at course) (forks_ahead course))
-      (orderly_begun (left_of t.cpus course) (time_of course) (held_at course) (forks_ahead course)) course.script (told_at course) orderly
-      (sym (next_in_is course.script course.own course.last) ∙ none) in
-      let short : time_at end.own.stage ≡ 0 = ap time_at end.ended in
-      omega (arith, end.holds.time, short)
-
--- a course that goes on from another: it is orderly, with an item less, so much time less, these threads to fork less, and this hand
-pub record GoesOnAs (ids : List ℕ) (worker : ℕ) (t : Tree) (now k : ℕ) (forked : List ℕ) (hand : Option ℕ) (course reached : Course) : Type 0 where
+-- a course that goes on from another: it is orderly, with an item less, these threads to fork less, and this hand
+pub record GoesOnAs (ids : List ℕ) (worker : ℕ) (t : Tree) (now : ℕ) (forked : List ℕ) (hand : Option ℕ) (course reached : Course) : Type 0 where
   pub orderly : HasOrder ids worker t now reached
   pub left : left_of t.cpus reached + 1 ≤ left_of t.cpus course
-  pub time : k + time_of reached ≡ time_of course
   pub forks : forked ++ forks_ahead reached ≡ forks_ahead course
   pub held : held_at reached ≡ hand
 
 module _ (ids : List ℕ) (worker : ℕ) (t : Tree) (now : ℕ) where
   -- a worker that has come to where a course stands once it is told, with fewer items than were left, has gone on to it
-  went_on : (course reached : Course) (k : ℕ) (forked : List ℕ) (held hand : Option ℕ) (own : Own) (n : ℕ) →
-      IsOrderly ids worker t now (left_of t.cpus course) (time_of course) held (forks_ahead course) reached.script own →
-      LeadsTo (is_among ids) worker t now n 0 [] hand (told_at reached) → 1 + n ≤ most own → k ≡ time_at own.stage → forked ≡ hatching own.stage →
-      GoesOnAs ids worker t now k forked hand course reached
-  went_on course reached k forked held hand own n orderly led few time forks =
+  went_on : (course reached : Course) (forked : List ℕ) (held hand : Option ℕ) (own : Own) (n : ℕ) →
+      IsOrderly ids worker t now (left_of t.cpus course) held (forks_ahead course) reached.script own →
+      LeadsTo (is_among ids) worker t now n 0 [] hand (told_at reached) → 1 + n ≤ most own → forked ≡ hatching own.stage →
+      GoesOnAs ids worker t now forked hand course reached
+  went_on course reached forked held hand own n orderly led few forks =
       let before : greatest_in t.cpus own.worker reached.script ≡ greatest_in t.cpus worker reached.script = ap (λ w. greatest_in t.cpus w reached.script) orderly.leads.same_worker in
       let after : greatest_in t.cpus (told_at reached).worker reached.script ≡ greatest_in t.cpus worker reached.script =
       ap (λ w. greatest_in t.cpus w reached.script) led.same_worker in
@@ -259,11 +239,9 @@ module _ (ids : List ℕ) (worker : ℕ) (t : Tree) (now : ℕ) where
           leads = subst (λ h. LeadsTo (is_among ids) worker t now (most (told_at reached)) (time_at (told_at reached).stage) (hatching (told_at reached).stage) h (told_at reached))
               (sym led.hand) (come_with ids worker t now n 0 [] hand (told_at reached) led);
           few = omega arith;
-          time = refl;
           forks = refl;
         };
         left = omega (arith, few, led.few, before, after, orderly.few);
-        time = omega (arith, time, led.time, orderly.time);
         forks = ap (λ us. forked ++ (us ++ flat_map forked_by reached.script)) led.hatches ∙ ap (λ us. us ++ flat_map forked_by reached.script) forks ∙ orderly.forks;
         held = led.hand;
       }
@@ -271,9 +249,9 @@ module _ (ids : List ℕ) (worker : ℕ) (t : Tree) (now : ℕ) where
 module _ (ids : List ℕ) (worker : ℕ) (t : Tree) (seat : IsSeat worker t) (now : ℕ) where
   -- a worker that is told the reply to its next event goes on
   told_from : (course : Course) (script : List Command) (own : Own) (st : Stage) (e : Event) (r : Reply) →
-      IsOrderly ids worker t now (left_of t.cpus course) (time_of course) (held_at course) (forks_ahead course) script (record own { stage = st }) →
+      IsOrderly ids worker t now (left_of t.cpus course) (held_at course) (forks_ahead course) script (record own { stage = st }) →
       item_at st ≡ Some (item.Event e) → IsReplyTo (is_among ids) t.cpus now e r →
-      GoesOnAs ids worker t now 0 (hatched_by e) (hand_by_word (handling e) (change_of e r) (held_at course)) course
+      GoesOnAs ids worker t now (hatched_by e) (hand_by_word (handling e) (change_of e r) (held_at course)) course
       (record { script = script; own = once_given (record own { stage = st }); last = Some (r, now) })
   told_from course script own Ended e r orderly is says = absurd (none-some (item.Event e) is)
   told_from course script own (Advances k) e r orderly is says = absurd (advance_no_event k e is)
@@ -285,31 +263,30 @@ module _ (ids : List ℕ) (worker : ℕ) (t : Tree) (seat : IsSeat worker t) (no
       reply_at (is_among ids) worker t seat now own (Gives f next) f r refl
       (at_itself (is_among ids) worker t now (most (record own { stage = Gives f next })) 0 (hatched_by f) (held_at course) (record own { stage = Gives f next }) orderly.leads)
       (subst (λ x. IsReplyTo (is_among ids) t.cpus now x r) back says) in
-      subst (λ x. GoesOnAs ids worker t now 0 (hatched_by x) (hand_by_word (handling x) (change_of x r) (held_at course)) course reached) same
-      (went_on ids worker t now course reached 0 (hatched_by f) (held_at course) (hand_by_word (handling f) (change_of f r) (held_at course)) (record own { stage = Gives f next })
+      subst (λ x. GoesOnAs ids worker t now (hatched_by x) (hand_by_word (handling x) (change_of x r) (held_at course)) course reached) same
+      (went_on ids worker t now course reached (hatched_by f) (held_at course) (hand_by_word (handling f) (change_of f r) (held_at course)) (record own { stage = Gives f next })
       (most (told_at reached)) orderly
       (told_leads ids worker t now (hand_by_word (handling f) (change_of f r) (held_at course)) (told_at reached) told.come
       (after_goes_on next r now (record own { stage = Gives f next })).1 told.hatches
       (told.hand ∙ ap (hand_by_word (handling f) (change_of f r)) orderly.leads.hand))
-      (omega (arith, told.fewer)) refl refl)
+      (omega (arith, told.fewer)) refl)
 
   -- a course that is told the reply to its next event goes on
   pub course_told : (course : Course) (e : Event) (after : Course) (r : Reply) → IsNextItem ids worker t now course (item.Event e) after →
       IsReplyTo (is_among ids) t.cpus now e r →
-      GoesOnAs ids worker t now 0 (hatched_by e) (hand_by_word (handling e) (change_of e r) (held_at course)) course (record after { last = Some (r, now) })
+      GoesOnAs ids worker t now (hatched_by e) (hand_by_word (handling e) (change_of e r) (held_at course)) course (record after { last = Some (r, now) })
   course_told course e after r next says =
-      subst (λ a. GoesOnAs ids worker t now 0 (hatched_by e) (hand_by_word (handling e) (change_of e r) (held_at course)) course (record a { last = Some (r, now) })) (sym next.gone)
+      subst (λ a. GoesOnAs ids worker t now (hatched_by e) (hand_by_word (handling e) (change_of e r) (held_at course)) course (record a { last = Some (r, now) })) (sym next.gone)
       (told_from course next.script next.own next.own.stage e r next.holds next.item says)
 
   -- a worker that has its next advance of time goes on
   advanced_from : (course : Course) (script : List Command) (own : Own) (st : Stage) (k : ℕ) →
-      IsOrderly ids worker t now (left_of t.cpus course) (time_of course) (held_at course) (forks_ahead course) script (record own { stage = st }) →
-      item_at st ≡ Some (item.Advance k) → GoesOnAs ids worker t now k [] (held_at course) course (course_of (once_given (record own { stage = st })) script)
+      IsOrderly ids worker t now (left_of t.cpus course) (held_at course) (forks_ahead course) script (record own { stage = st }) →
+      item_at st ≡ Some (item.Advance k) → GoesOnAs ids worker t now [] (held_at course) course (course_of (once_given (record own { stage = st })) script)
   advanced_from course script own Ended k orderly is = absurd (none-some (item.Advance k) is)
   advanced_from course script own (Gives e next) k orderly is = absurd (advance_no_event k e (sym is))
   advanced_from course script own (Advances j) k orderly is =
-      let same : k ≡ j = cc in
-      went_on ids worker t now course (course_of (record own { stage = Ended }) script) k [] (held_at course) (held_at course) (record own { stage = Advances j }) 0 orderly
+      went_on ids worker t now course (course_of (record own { stage = Ended }) script) [] (held_at course) (held_at course) (record own { stage = Advances j }) 0 orderly
       (record {
         same_worker = orderly.leads.same_worker;
         same_topology = orderly.leads.same_topology;
@@ -321,13 +298,13 @@ module _ (ids : List ℕ) (worker : ℕ) (t : Tree) (seat : IsSeat worker t) (no
         named = tt;
         by_now = tt;
       })
-      (omega arith) same refl
+      (omega arith) refl
 
   -- a course that has its next advance of time goes on, with the hand that it had
   pub course_advanced : (k : ℕ) (course after : Course) → IsNextItem ids worker t now course (item.Advance k) after →
-      GoesOnAs ids worker t now k [] (held_at course) course after
+      GoesOnAs ids worker t now [] (held_at course) course after
   course_advanced k course after next =
-      subst (λ a. GoesOnAs ids worker t now k [] (held_at course) course a) (sym next.gone) (advanced_from course next.script next.own next.own.stage k next.holds next.item)
+      subst (λ a. GoesOnAs ids worker t now [] (held_at course) course a) (sym next.gone) (advanced_from course next.script next.own next.own.stage k next.holds next.item)
 
 -- ---- what comes next
 
@@ -338,9 +315,9 @@ pub record IsAtEvent (ids : List ℕ) (cpus : ℕ) (hand : Option ℕ) (ahead : 
   pub seeks : IfSome hand (λ u. sought_by e ≡ None)
   pub forks : hatched_by e ++ flat_map forked_by script ≡ ahead
 
-module _ (ids : List ℕ) (worker : ℕ) (t : Tree) (now left amount : ℕ) (hand : Option ℕ) (ahead : List ℕ) (script : List Command) where
+module _ (ids : List ℕ) (worker : ℕ) (t : Tree) (now left : ℕ) (hand : Option ℕ) (ahead : List ℕ) (script : List Command) where
   -- an orderly worker whose item is an event
-  pub event_at : (own : Own) (st : Stage) (e : Event) → IsOrderly ids worker t now left amount hand ahead script (record own { stage = st }) →
+  pub event_at : (own : Own) (st : Stage) (e : Event) → IsOrderly ids worker t now left hand ahead script (record own { stage = st }) →
       item_at st ≡ Some (item.Event e) → IsAtEvent ids t.cpus hand ahead script e
   event_at own Ended e orderly is = absurd (none-some (item.Event e) is)
   event_at own (Advances k) e orderly is = absurd (advance_no_event k e is)
@@ -353,35 +330,17 @@ module _ (ids : List ℕ) (worker : ℕ) (t : Tree) (now left amount : ℕ) (han
         forks = orderly.forks;
       })
 
-  -- an orderly worker whose item is an advance of time
-  pub advance_at : (own : Own) (st : Stage) (k : ℕ) → IsOrderly ids worker t now left amount hand ahead script (record own { stage = st }) →
-      item_at st ≡ Some (item.Advance k) → is_within 1 1000000 k ≡ true
-  advance_at own Ended k orderly is = absurd (none-some (item.Advance k) is)
-  advance_at own (Gives e next) k orderly is = absurd (advance_no_event k e (sym is))
-  advance_at own (Advances j) k orderly is = let same : j ≡ k = cc in subst (λ n. is_within 1 1000000 n ≡ true) same orderly.leads.named
-
 -- an orderly worker that gave its event can hear a reply that the event can have
-pub hears_at : (ids : List ℕ) (worker : ℕ) (t : Tree) (now left amount : ℕ) (hand : Option ℕ) (ahead : List ℕ) (script : List Command) (own : Own) (st : Stage) (e : Event) (r : Reply) →
-    IsOrderly ids worker t now left amount hand ahead script (record own { stage = st }) → item_at st ≡ Some (item.Event e) → IsReplyTo (is_among ids) t.cpus now e r →
+pub hears_at : (ids : List ℕ) (worker : ℕ) (t : Tree) (now left : ℕ) (hand : Option ℕ) (ahead : List ℕ) (script : List Command) (own : Own) (st : Stage) (e : Event) (r : Reply) →
+    IsOrderly ids worker t now left hand ahead script (record own { stage = st }) → item_at st ≡ Some (item.Event e) → IsReplyTo (is_among ids) t.cpus now e r →
     AllowsAt (once_given (record own { stage = st })) (after_giving st) r now
-hears_at ids worker t now left amount hand ahead script own Ended e r orderly is says = absurd (none-some (item.Event e) is)
-hears_at ids worker t now left amount hand ahead script own (Advances k) e r orderly is says = absurd (advance_no_event k e is)
-hears_at ids worker t now left amount hand ahead script own (Gives f next) e r orderly is says =
+hears_at ids worker t now left hand ahead script own Ended e r orderly is says = absurd (none-some (item.Event e) is)
+hears_at ids worker t now left hand ahead script own (Advances k) e r orderly is says = absurd (advance_no_event k e is)
+hears_at ids worker t now left hand ahead script own (Gives f next) e r orderly is says =
     let back : e ≡ f = cc in
     allows_any (is_among ids) own.worker own.topology.cpus next r now
     (allowed_at (is_among ids) worker t now (most (record own { stage = Gives f next })) 0 (hatched_by f) hand own f next r orderly.leads
     (subst (λ x. IsReplyTo (is_among ids) t.cpus now x r) back says))
-
--- a course that has a thread in hand has a next item
-pub held_goes_on : (u : ℕ) (course : Course) → held_at course ≡ Some u → next_step course ≡ None → ⊥
-held_goes_on u course held none = at_item (item_at (told_at course).stage) refl
-  where
-    from : next_from course.script (told_at course) ≡ None
-    from = sym (next_in_is course.script course.own course.last) ∙ none
-
-    at_item : (o : Option Item) → item_at (told_at course).stage ≡ o → ⊥
-    at_item None is = none-some u (sym (ap in_hand (ended_stage (told_at course).stage is)) ∙ held)
-    at_item (Some i) is = none-some (i, course_of (once_given (told_at course)) course.script) (sym from ∙ item_goes_on course.script (told_at course) i is)
 
 -- ---- a worker's entries, one step more
 

@@ -11,7 +11,7 @@ use Rattle.ule_types.specs.declared.event.Event.TheVariants.{Bed, Bury, Drop, Ex
 use Rattle.ule_program.specs.Courses.{Course}
 use Rattle.ule_program.specs.Laws.{hand_by_word}
 use Rattle.ule_model.specs.Conditions.{HasEmptyHand, IsHandled, IsPossible}
-use Rattle.ule_model.specs.Events.{Handling, any, empty, handling, has, has_handled, holder_of, is_no_others, is_own, is_unborn_thread, unborn}
+use Rattle.ule_model.specs.Events.{Handling, any, empty, handling, has, has_handled, holder_of, is_own, is_unborn_thread, unborn}
 use Rattle.ule_model.specs.Frames.{thread_in_hand}
 use Rattle.ule_model.specs.Places.{hand_of, is_hand_of, is_number}
 use Rattle.ule_model.specs.Step.{step}
@@ -189,13 +189,3 @@ handled_thread w worker any handled = refl
 handled_thread w worker empty handled = refl
 handled_thread w worker (unborn t) handled = handled.1
 handled_thread w worker (has t) handled = subst (λ o. is_own worker o ≡ true) (sym handled) (eq-eqb worker worker refl)
-
--- a thread that is sought in vain is in another worker's hand
-pub sought_held : (holder : ℕ → Option ℕ) (worker : ℕ) (sought : Option ℕ) → is_no_others worker (option_and_then holder sought) ≡ false →
-    (t : ℕ) × (h : ℕ) × (holder t ≡ Some h)
-sought_held holder worker None lost = absurd (true≢false lost)
-sought_held holder worker (Some t) lost = at_holder (holder t) refl lost
-  where
-    at_holder : (o : Option ℕ) → holder t ≡ o → is_no_others worker o ≡ false → (u : ℕ) × (h : ℕ) × (holder u ≡ Some h)
-    at_holder None is lost = absurd (true≢false lost)
-    at_holder (Some h) is lost = (t, h, is)

@@ -1,5 +1,5 @@
 -- Each legal play of the scheduler's values is a legal history of worlds.
-use Rattle.std.proofs.Common.{◌≡◌, ℕ, suc, ◌+◌, ◌<◌, ◌≤◌, List, [], ◌∷◌, drop, slice_get, Some, None, refl, sym, ap, ◌∙◌, subst, arith}
+use Rattle.std.proofs.Common.{◌≡◌, ℕ, zero, suc, ◌+◌, ◌<◌, ◌≤◌, List, [], ◌∷◌, drop, length, slice_get, take, Some, None, refl, sym, ap, ◌∙◌, subst, arith}
 use Rattle.std.proofs.lemmas.List.Sums.{sum_by-cons}
 use Rattle.ule_types.specs.declared.command.Command.{Command}
 use Rattle.ule_types.specs.declared.event.Event.{Event}
@@ -24,7 +24,7 @@ use Rattle.ule_parts.proofs.Lawful.{is_lawful, start_shown}
 use Rattle.ule_parts.proofs.Leading.{play_leads}
 use Rattle.ule_parts.proofs.Orders.{many_owns}
 use Rattle.ule_parts.proofs.Playing.{IsCourseOf, IsTimed, next_at, next_of_rest, play_timed}
-use Rattle.ule_parts.proofs.Times.{performs_time}
+use Rattle.ule_parts.proofs.Times.{ended_time, performs_time}
 use Rattle.ule_parts.proofs.Worlds.{of_worlds}
 
 -- every history in order whose entries were asked for is one of worlds
@@ -39,6 +39,19 @@ all_within lists [] each = omega arith
 all_within [] (c ∷ cs) each = let a = each 0 c refl in let b = all_within [] cs (λ w d at. each (suc w) d at) in omega arith
 all_within (list ∷ lists) (c ∷ cs) each = let a = each 0 c refl in let b = all_within lists cs (λ w d at. each (suc w) d at) in
     let more : amount_in_all (list ∷ lists) ≡ amount_in list + amount_in_all lists = sum_by-cons amount_in list lists in omega arith
+
+-- it is what the lists of these workers add, where each worker's is what its own does
+all_spent : (lists : List (List Command)) (cs : List (WorkerCourse Worker Event Reply))
+    → ((w : ℕ) (c : WorkerCourse Worker Event Reply) → slice_get cs w ≡ Some c → c.advanced ≡ amount_in (list_of lists w))
+    → all_advanced cs ≡ amount_in_all (take (length cs) lists)
+all_spent lists [] each = refl
+all_spent [] (c ∷ cs) each = omega (arith, each 0 c refl, all_spent [] cs (λ w d at. each (suc w) d at), nothing (length cs))
+  where
+    nothing : (n : ℕ) → amount_in_all (take n []) ≡ 0
+    nothing zero = refl
+    nothing (suc n) = refl
+all_spent (list ∷ lists) (c ∷ cs) each =
+    omega (arith, each 0 c refl, all_spent lists cs (λ w d at. each (suc w) d at), sum_by-cons amount_in list (take (length cs) lists))
 
 module _ (s : Setup) (lists : List (List Command))
     (orders : AreOrders (sched_means s) (list_of lists)) {h : List (Entry Event Reply)} {vs : List LockValue} {cs : List (WorkerCourse Worker Event Reply)}
@@ -79,6 +92,12 @@ module _ (s : Setup) (lists : List (List Command))
   finished : AreAtTheirEnds lists cs → (w : ℕ) (c : WorkerCourse Worker Event Reply) → slice_get cs w ≡ Some c → (k : IsCourseOf s lists timed.timed w c) → next_step k.course ≡ None
   finished ends w c at k = let end = ends w c at in k.next ∙ (ap (next_at (drop c.begun (list_of lists w)) c.own.program) end.0 ∙ ap (λ script. next_of_rest script c.own.program)
       (drop_none (list_of lists w) c.begun end.1))
+
+  -- at their ends workers advanced what their lists add
+  pub all_advanced_at_end : AreAtTheirEnds lists cs → all_advanced cs ≡ amount_in_all (take (length cs) lists)
+  all_advanced_at_end ends = all_spent lists cs (λ w c at. (let k = timed.courses w c at in
+      let start : time_of (opening_of s lists w) ≡ amount_in (list_of lists w) = omega arith in
+      omega (arith, performs_time k.performs, start, ended_time k.course (finished ends w c at k))))
 
   played_legally : IsPlayedLegally s lists h vs cs
   unfolding begins

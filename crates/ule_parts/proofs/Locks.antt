@@ -1,5 +1,5 @@
 -- The locks of an event, found by the values and by the world; the worker's hand; and what an act under them is.
-use Rattle.std.proofs.Common.{◌≡◌, ◌≢◌, ℕ, ◌+◌, ◌%◌, ◌<◌, ◌≤◌, ◌==◌, ◌&&◌, not, true, false, nat_lt, List, [], ◌∷◌, length, map, refl, sym, ap, ◌∙◌, subst, arith, mod-lt, lt-ltb, le-ltb, true≢false, ⊎_elim, slice_get, slice_set, Option, Some, None, IfSome, IsSome, IsTrue, is_some, option_and_then}
+use Rattle.std.proofs.Common.{◌≡◌, ◌≢◌, ℕ, ◌+◌, ◌%◌, ◌<◌, ◌≤◌, ◌==◌, ◌&&◌, not, true, false, nat_lt, List, [], ◌∷◌, length, map, refl, sym, ap, ◌∙◌, subst, arith, mod-lt, lt-ltb, le-ltb, true≢false, ⊎_elim, slice_get, slice_set, Option, Some, None, IfSome, IsSome, IsTrue, is_some, if◌then◌else◌, option_and_then}
 use Rattle.std.specs.List.{AllByRecursion}
 use Rattle.std.specs.Option.{option_map, option_to_list}
 use Rattle.std.specs.Prelude.{max, min}
@@ -12,19 +12,20 @@ use Rattle.ule_types.specs.declared.event.Event.TheVariants.{Tick, Switch, Drop,
 use Rattle.ule_types.specs.declared.event.Reply.{Reply}
 use Rattle.ule_types.specs.declared.setup.Setup.{Setup}
 use Rattle.ule_model.specs.Conditions.{HasEmptyHand, IsHandled, IsPossible}
-use Rattle.ule_model.specs.Events.{Locking, queue, queues, chain, limbo, place_of, locking, Handling, any, empty, unborn, has, handling, lock_numbers, locks_of, are_cpus, sought_in, is_no_others, holder_of, is_unborn_thread}
+use Rattle.ule_model.specs.Events.{Locking, queue, queues, chain, limbo, place_of, locking, Handling, any, empty, unborn, has, handling, lock_numbers, locks_of, are_cpus, names_cpus, sought_by, sought_in, is_no_others, is_ready, holder_of, is_unborn_thread}
 use Rattle.ule_model.specs.Frames.{thread_in_hand, thread_under}
 use Rattle.ule_model.specs.LockValue.{LockValue, has_under}
 use Rattle.ule_model.specs.Places.{hand_of, is_under, lock_of}
 use Rattle.ule_model.specs.Step.{PairStepped, Stepped, lock_step, pair_step, step}
 use Rattle.ule_model.specs.World.{Member, World, thread_of}
 use Rattle.ule_model.specs.WorldValue.{IsHandOf, Shows, WorldValue, held_by, if_thread, put_back, put_back_pair}
-use Rattle.ule_members.proofs.Reach.{no_hand_under, number_from_test}
-use Rattle.ule_members.proofs.PlaceFinds.{thread_at_is, thread_at_stands}
+use Rattle.ule_members.proofs.Reach.{is_number_itself, no_hand_under, number_from_test}
+use Rattle.ule_members.proofs.Within.{within_thread}
+use Rattle.ule_members.proofs.PlaceFinds.{thread_at_is, thread_at_stands, thread_at_within}
 use Rattle.ule_laws.proofs.SeekLaws.{has_stands, lock_found}
 use Rattle.ule_laws.proofs.StepFrom.{IsAtEvent, ShowsWithReply, two_locks}
 use Rattle.ule_laws.proofs.StepLaws.{HasLock, IsPair, event_lock, sought_stands, step_shows}
-use Rattle.ule_laws.proofs.WorldLaws.{at_some}
+use Rattle.ule_laws.proofs.WorldLaws.{HasValue, at_some, value_at}
 use Rattle.ule_laws.proofs.WorldSteps.{made_is_step, pair_made_is_step}
 use Rattle.ule_courses.proofs.Hands.{found_held, held_in_hand}
 use Rattle.ule_micro.specs.declared.entry.Entry.{Entry}
@@ -33,7 +34,7 @@ use Rattle.ule_micro.specs.declared.entry.HeldLocks.TheVariants.{One, Two}
 use Rattle.ule_micro.specs.Histories.{AreLocksFor, laid_under, values_under}
 use Rattle.ule_micro.specs.Laws.{AreInRisingOrder}
 use Rattle.ule_micro.specs.Standings.{Acted}
-use Rattle.ule_micro.proofs.Effects.{stands_value, under_one, under_two}
+use Rattle.ule_micro.proofs.Effects.{stands_here, stands_value, under_one, under_two}
 use Rattle.ule_micro.proofs.Lists.{get_else, get_here}
 use Rattle.ule_parts.specs.Acts.{AreAt, act_on, act_under_two, acted_under_two, lock_list, names_lower_first, needs_of}
 use Rattle.ule_parts.specs.Workers.{HandFits}
@@ -157,26 +158,45 @@ module _ (s : Setup) where
       subst (HasLocks x (place_of t)) (sym is)
       (thread_lock v x t l m.0 shows (thread_at_is (is_under l) t m.0 x.members shows.made m.1) (number_from_test l (lock_of m.0.place) (thread_at_stands (is_under l) t m.0 x.members m.1)))
 
--- the locks of an event that is possible
-pub locks_of_possible : (v : WorldValue) (x : World) (worker : ℕ) (e : Event) (now : ℕ) → Shows v x → IsPossible x worker e now → (held : HeldLocks) × HasLocks x (locking e) held
-locks_of_possible v x worker e now shows can = by (locking e) refl
+-- finds locks: the locks of an event, by the world and by the values
+pub record FindsLocks (s : Setup) (v : WorldValue) (x : World) (k : Locking) : Type 0 where
+  pub held : HeldLocks
+  pub has : HasLocks x k held
+  pub are : AreLocksFor (sched_means s) v.values held (needs_of k)
+
+-- an event of which a sought thread is in no other worker's hand finds its locks
+pub locks_of_ready : (s : Setup) (v : WorldValue) (x : World) (worker : ℕ) (e : Event) → Shows v x → IsTrue (names_cpus (length x.lines) e)
+    → IfSome (sought_by e) (λ t. IsSome (thread_of t x.members)) → is_ready x worker e ≡ true → IsHandled x worker (handling e) → FindsLocks s v x (locking e)
+locks_of_ready s v x worker e shows cpus declared ready hand = by (locking e) refl
   where
-    at : (k : Locking) → locking e ≡ k → (held : HeldLocks) × HasLocks x k held → (held : HeldLocks) × HasLocks x (locking e) held
-    at k is found = (found.0, subst (λ i. HasLocks x i found.0) (sym is) found.1)
-
     names : (k : Locking) → locking e ≡ k → IsTrue (are_cpus (length x.lines) k)
-    names k is = subst (λ i. IsTrue (are_cpus (length x.lines) i)) is can.cpus
+    names k is = subst (λ i. IsTrue (are_cpus (length x.lines) i)) is cpus
 
-    by : (k : Locking) → locking e ≡ k → (held : HeldLocks) × HasLocks x (locking e) held
-    by (queue c) is = at (queue c) is (One c, queue_lock x c shows.cpus (names (queue c) is))
-    by (queues a b) is = at (queues a b) is (Two (min a b) (max a b), queue_locks x a b shows.cpus (names (queues a b) is))
-    by (chain channel) is = at (chain channel) is (One (16 + channel % 8), chain_lock x channel)
-    by limbo is = at limbo is (One 24, limbo_lock x)
+    at : (k : Locking) → locking e ≡ k → FindsLocks s v x k → FindsLocks s v x (locking e)
+    at k is found = subst (FindsLocks s v x) (sym is) found
+
+    by : (k : Locking) → locking e ≡ k → FindsLocks s v x (locking e)
+    by (queue c) is = at (queue c) is (record { held = One c; has = queue_lock x c shows.cpus (names (queue c) is); are = refl })
+    by (queues a b) is = at (queues a b) is (record { held = Two (min a b) (max a b); has = queue_locks x a b shows.cpus (names (queues a b) is); are = refl })
+    by (chain channel) is = at (chain channel) is (record { held = One (16 + channel % 8); has = chain_lock x channel; are = refl })
+    by limbo is = at limbo is (record { held = One 24; has = limbo_lock x; are = refl })
     by (place_of t) is =
-        let s = sought_stands v x worker t shows (subst (λ k. IfSome (sought_in k) (λ u. IsSome (thread_of u x.members))) is can.declared)
-        (subst (λ k. is_no_others worker (option_and_then (holder_of x.members) (sought_in k)) ≡ true) is can.ready)
-        (subst (IsHandled x worker) (seeker_empty e t is) can.hand) in
-        at (place_of t) is (One s.lock, thread_lock v x t s.lock s.member shows s.found s.place)
+        let z = sought_stands v x worker t shows (subst (λ k. IfSome (sought_in k) (λ u. IsSome (thread_of u x.members))) is declared)
+        (subst (λ k. is_no_others worker (option_and_then (holder_of x.members) (sought_in k)) ≡ true) is ready)
+        (subst (IsHandled x worker) (seeker_empty e t is) hand) in
+        let there : HasValue v x z.lock = value_at v x z.lock shows z.within in
+        let under : is_some (thread_under z.lock t x.members) ≡ true =
+        ap (λ o. is_some o) (thread_at_within (is_under z.lock) t z.member x.members (within_thread t x.members z.member shows.made z.found))
+        ∙ ap (λ b. is_some (if◌then◌else◌ b (Some z.member) None)) (is_number_itself z.lock (lock_of z.member.place) z.place) in
+        at (place_of t) is (record {
+          held = One z.lock;
+          has = thread_lock v x t z.lock z.member shows z.found z.place;
+          are = (z.lock, refl, stands_here (sched_means s) v.values z.lock t there.value there.found ∙ (has_stands x z.lock t there.value shows.made shows.cpus there.stands ∙ under));
+        })
+
+-- the locks of an event that is possible
+pub locks_of_possible : (s : Setup) (v : WorldValue) (x : World) (worker : ℕ) (e : Event) (now : ℕ) → Shows v x → IsPossible x worker e now → FindsLocks s v x (locking e)
+locks_of_possible s v x worker e now shows can = locks_of_ready s v x worker e shows can.cpus can.declared can.ready can.hand
 
 -- ---- the values under locks
 

@@ -48,7 +48,7 @@ use Rattle.ule_parts.specs.Acts.{AreAt, act_on, lock_list, needs_of, word_change
 use Rattle.ule_parts.specs.Workers.{declared_ids_of}
 use Rattle.ule_parts.specs.Scheduler.{MayAct, sched_means}
 use Rattle.ule_parts.proofs.Numbers.{found_numbered, numbered_found, numbered_held}
-use Rattle.ule_parts.proofs.Locks.{HasLocks, IsActed, acted_shows, are_placed, as_many, hand_some, held_one, held_two, locks_of_possible, some_of}
+use Rattle.ule_parts.proofs.Locks.{FindsLocks, IsActed, acted_shows, are_placed, as_many, hand_some, held_one, held_two, locks_of_possible, some_of}
 use Rattle.ule_parts.proofs.Noted.{IsUnderOneOf, listed, reached_place}
 
 -- ---- what a word change says of its event
@@ -188,22 +188,22 @@ module _ (s : Setup) (w : ℕ) (e : Event) (now : ℕ) (hand : Option ThreadReco
   abbrev reply : Reply
   reply = (step may.world w e now).1
 
-  locks : (k : HeldLocks) × HasLocks may.world (locking e) k
-  locks = locks_of_possible may.value may.world w e now may.shows may.possible
+  locks : FindsLocks s may.value may.world (locking e)
+  locks = locks_of_possible s may.value may.world w e now may.shows may.possible
 
-  under : AreAt may.value.values (lock_list locks.0) guarded
-  under = subst (λ ls. AreAt may.value.values ls guarded) locks.1.numbers may.guarded_are
+  under : AreAt may.value.values (lock_list locks.held) guarded
+  under = subst (λ ls. AreAt may.value.values ls guarded) locks.has.numbers may.guarded_are
 
   -- what the event makes of the values and of the hand
   abbrev made : Acted (Option ThreadRecord) LockValue Reply
   made = act_on s.settings w e now hand guarded
 
-  acted : IsActed may.value may.world w e now locks.0 made
-  acted = acted_shows s may.value may.world w e now locks.0 guarded hand may.shows may.possible locks.1.numbers under may.hand_is (may.shows.settings ∙ may.is_world.settings)
+  acted : IsActed may.value may.world w e now locks.held made
+  acted = acted_shows s may.value may.world w e now locks.held guarded hand may.shows may.possible locks.has.numbers under may.hand_is (may.shows.settings ∙ may.is_world.settings)
 
   -- the whole scheduler after it
   abbrev after : WorldValue
-  after = record { settings = may.value.settings; values = laid_under locks.0 may.value.values made.values; hands = slice_set may.value.hands w made.hand }
+  after = record { settings = may.value.settings; values = laid_under locks.held may.value.values made.values; hands = slice_set may.value.hands w made.hand }
 
   made_well : IsWellMadeWorld may.world
   made_well = may.is_world.made
@@ -230,8 +230,8 @@ module _ (s : Setup) (w : ℕ) (e : Event) (now : ℕ) (hand : Option ThreadReco
     touched : IsTouched x w e now before next
     number : before.thread.id ≡ t
     names : lock_of next.place ≡ word_after (change_of e reply) before
-    were : map (λ u. has_under u t) guarded ≡ at_locks locks.0 (lock_of before.place)
-    are : map (λ u. has_under u t) made.values ≡ at_locks locks.0 (lock_of next.place)
+    were : map (λ u. has_under u t) guarded ≡ at_locks locks.held (lock_of before.place)
+    are : map (λ u. has_under u t) made.values ≡ at_locks locks.held (lock_of next.place)
 
   if_some_is : (b : Bool) (m : Member) → is_some (if b then Some m else None) ≡ b
   if_some_is true m = refl
@@ -260,8 +260,8 @@ module _ (s : Setup) (w : ℕ) (e : Event) (now : ℕ) (hand : Option ThreadReco
         touched = next.1.1;
         number = within.number;
         names = words_found x w e now t (change_of e reply) x.members x'.members touched moved there.0 next.0 there.1 next.1.0;
-        were = placed_by may.value x t there.0 (lock_list locks.0) guarded may.shows under within;
-        are = placed_by after x' t next.0 (lock_list locks.0) made.values acted.shows acted.laid (within_thread t x'.members next.0 acted.shows.made next.1.0);
+        were = placed_by may.value x t there.0 (lock_list locks.held) guarded may.shows under within;
+        are = placed_by after x' t next.0 (lock_list locks.held) made.values acted.shows acted.laid (within_thread t x'.members next.0 acted.shows.made next.1.0);
       }
 
   -- the hand after the event, by the change of a word
@@ -273,15 +273,15 @@ module _ (s : Setup) (w : ℕ) (e : Event) (now : ℕ) (hand : Option ThreadReco
 
   -- the values after, by the word
   values_by : (t : ℕ) (dec : is_among (declared_ids_of s) t ≡ true) (c : Option words.WordChange) → change_of e reply ≡ c
-      → map (λ u. has_under u t) made.values ≡ at_locks locks.0 (word_after c (seen t dec).before)
-  values_by t dec c is = (seen t dec).are ∙ ap (at_locks locks.0) (word_is t dec c is)
+      → map (λ u. has_under u t) made.values ≡ at_locks locks.held (word_after c (seen t dec).before)
+  values_by t dec c is = (seen t dec).are ∙ ap (at_locks locks.held) (word_is t dec c is)
 
   -- another thread than the one whose word changes stays
   stays : (t : ℕ) (dec : is_among (declared_ids_of s) t ≡ true) (c : Option words.WordChange) → change_of e reply ≡ c → word_after c (seen t dec).before ≡ lock_of (seen t dec).before.place
       → in_hand_after c t (is_some (thread_in_hand w t x.members)) ≡ is_some (thread_in_hand w t x.members)
       → (map (λ u. has_under u t) made.values ≡ map (λ u. has_under u t) guarded) × (is_some (if_thread t made.hand) ≡ is_some (if_thread t hand))
   stays t dec c is word_stays hand_stays =
-      (values_by t dec c is ∙ (ap (at_locks locks.0) word_stays ∙ sym (seen t dec).were), hand_after t ∙ (own t c is ∙ (hand_stays ∙ sym (hand_before t))))
+      (values_by t dec c is ∙ (ap (at_locks locks.held) word_stays ∙ sym (seen t dec).were), hand_after t ∙ (own t c is ∙ (hand_stays ∙ sym (hand_before t))))
 
   other_number : (t v : ℕ) (dec : is_among (declared_ids_of s) t ≡ true) → t ≢ v → is_numbered v (seen t dec).before ≡ false
   other_number t v dec far = ne_eqb (seen t dec).before.thread.id v (λ same. far (sym (seen t dec).number ∙ same))
@@ -290,9 +290,9 @@ module _ (s : Setup) (w : ℕ) (e : Event) (now : ℕ) (hand : Option ThreadReco
   own_number t dec = eq-eqb (seen t dec).before.thread.id t (seen t dec).number
 
   -- a thread whose place lies under one of the locks stands among the values
-  stood : (t : ℕ) (dec : is_among (declared_ids_of s) t ≡ true) (k : ℕ) → lock_of (seen t dec).before.place ≡ Some k → is_lock_among locks.0 k ≡ true
+  stood : (t : ℕ) (dec : is_among (declared_ids_of s) t ≡ true) (k : ℕ) → lock_of (seen t dec).before.place ≡ Some k → is_lock_among locks.held k ≡ true
       → has_true (map (λ u. has_under u t) guarded) ≡ true
-  stood t dec k lock among = ap has_true ((seen t dec).were ∙ ap (at_locks locks.0) lock) ∙ has_at locks.0 k among
+  stood t dec k lock among = ap has_true ((seen t dec).were ∙ ap (at_locks locks.held) lock) ∙ has_at locks.held k among
 
   -- a thread that is taken was under one of the locks
   was_under : (t : ℕ) (dec : is_among (declared_ids_of s) t ≡ true) → change_of e reply ≡ Some (words.block t) → has_true (map (λ u. has_under u t) guarded) ≡ true
@@ -312,18 +312,18 @@ module _ (s : Setup) (w : ℕ) (e : Event) (now : ℕ) (hand : Option ThreadReco
         where
           by_hand : holder_of x'.members t ≡ Some w → (seen t dec).before ≡ (seen t dec).next → hand_of (seen t dec).before.place ≡ Some w
           by_hand has_it eq = ap (λ (m : Member). hand_of m.place) eq ∙ (sym (ap (option_and_then (λ (m : Member). hand_of m.place)) (seen t dec).found_after) ∙ has_it)
-      by (reached from to through) = ⊎_elim (λ (at : IsUnderOneOf locks.0 (seen t dec).before.place). stood t dec at.0 at.2 at.1)
-          (λ (own_it : hand_of (seen t dec).before.place ≡ Some w). absurd (not_own own_it)) (reached_place x w e locks.0 (seen t dec).before.place locks.1.numbers from)
+      by (reached from to through) = ⊎_elim (λ (at : IsUnderOneOf locks.held (seen t dec).before.place). stood t dec at.0 at.2 at.1)
+          (λ (own_it : hand_of (seen t dec).before.place ≡ Some w). absurd (not_own own_it)) (reached_place x w e locks.held (seen t dec).before.place locks.has.numbers from)
 
   -- a thread whose word is to name a lock
   put : (t k : ℕ) → change_of e reply ≡ Some (words.point t k) → IsPut x e reply t k
   put t k at = putter_has x e reply t k at
 
-  put_among : (t k : ℕ) → change_of e reply ≡ Some (words.point t k) → is_lock_among locks.0 k ≡ true
-  put_among t k at = listed locks.0 k (ap (λ ls. is_among ls k) (sym locks.1.numbers) ∙ (put t k at).among)
+  put_among : (t k : ℕ) → change_of e reply ≡ Some (words.point t k) → is_lock_among locks.held k ≡ true
+  put_among t k at = listed locks.held k (ap (λ ls. is_among ls k) (sym locks.has.numbers) ∙ (put t k at).among)
 
-  same_held : (t k : ℕ) → change_of e reply ≡ Some (words.point t k) → held ≡ locks.0
-  same_held t k at = held_same s x.members held locks.0 guarded (locking e) locks.1.numbers (put t k at).fixed its
+  same_held : (t k : ℕ) → change_of e reply ≡ Some (words.point t k) → held ≡ locks.held
+  same_held t k at = held_same s x.members held locks.held guarded (locking e) locks.has.numbers (put t k at).fixed its
 
   -- it was in hand or under one of the locks
   was_there : (t k : ℕ) (dec : is_among (declared_ids_of s) t ≡ true) → change_of e reply ≡ Some (words.point t k)
@@ -335,10 +335,10 @@ module _ (s : Setup) (w : ℕ) (e : Event) (now : ℕ) (hand : Option ThreadReco
 
       by : IsTouched x w e now (seen t dec).before (seen t dec).next → (is_some (if_thread t hand) ≡ true) ⊎ (has_true (map (λ u. has_under u t) guarded) ≡ true)
       by (left same) = inr (stood t dec k (ap (λ (m : Member). lock_of m.place) same ∙ named) (put_among t k at))
-      by (reached from to through) = ⊎_elim (λ (under_it : IsUnderOneOf locks.0 (seen t dec).before.place). inr (stood t dec under_it.0 under_it.2 under_it.1))
+      by (reached from to through) = ⊎_elim (λ (under_it : IsUnderOneOf locks.held (seen t dec).before.place). inr (stood t dec under_it.0 under_it.2 under_it.1))
           (λ (own_it : hand_of (seen t dec).before.place ≡ Some w).
           inl (hand_before t ∙ held_in_hand w t x.members (ap (option_and_then (λ (m : Member). hand_of m.place)) (seen t dec).found ∙ own_it)))
-          (reached_place x w e locks.0 (seen t dec).before.place locks.1.numbers from)
+          (reached_place x w e locks.held (seen t dec).before.place locks.has.numbers from)
 
   -- a thread whose word is to be blocked is declared
   taken_declared : (t : ℕ) → change_of e reply ≡ Some (words.block t) → is_among (declared_ids_of s) t ≡ true
@@ -358,7 +358,7 @@ module _ (s : Setup) (w : ℕ) (e : Event) (now : ℕ) (hand : Option ThreadReco
   IsMoved c = Moves (sched_means s) held hand guarded (word_change_of c) made.hand made.values
 
   as_before : length made.values ≡ length guarded
-  as_before = as_many (laid_under locks.0 may.value.values made.values) (lock_list locks.0) made.values acted.laid ∙ sym (as_many may.value.values (lock_list locks.0) guarded under)
+  as_before = as_many (laid_under locks.held may.value.values made.values) (lock_list locks.held) made.values acted.laid ∙ sym (as_many may.value.values (lock_list locks.held) guarded under)
 
   block_is : (t v : ℕ) → ◌≡◌ {A = Option WordChange} (Some (Block v)) (Some (Block t)) → v ≡ t
   block_is t v is = let y : Block v ≡ Block t = same_Some (Block v) (Block t) is in cc
@@ -385,8 +385,8 @@ module _ (s : Setup) (w : ℕ) (e : Event) (now : ℕ) (hand : Option ThreadReco
         (cond-false (t == v) true (is_some (thread_in_hand w t x.members)) (ne_eqb t v apart));
     blocks = λ t change. let same = block_is t v change in let at : change_of e reply ≡ Some (words.block t) = is ∙ ap (λ i. Some (words.block i)) same in let dec = taken_declared t at in (
       was_under t dec at,
-      ap has_true (values_by t dec (Some (words.block t)) at ∙ ap (at_locks locks.0) (cond-true (is_numbered t (seen t dec).before) None (lock_of (seen t dec).before.place)
-          (own_number t dec))) ∙ none_at locks.0,
+      ap has_true (values_by t dec (Some (words.block t)) at ∙ ap (at_locks locks.held) (cond-true (is_numbered t (seen t dec).before) None (lock_of (seen t dec).before.place)
+          (own_number t dec))) ∙ none_at locks.held,
       hand_after t ∙ (own t (Some (words.block t)) at ∙ cond-true (t == t) true (is_some (thread_in_hand w t x.members)) (eq-eqb t t refl)),
     );
     points = λ t k change. absurd (block_point t v k change);
@@ -402,8 +402,8 @@ module _ (s : Setup) (w : ℕ) (e : Event) (now : ℕ) (hand : Option ThreadReco
         let dec = put_declared t k at in (
           was_there t k dec at,
           ap (λ h. is_lock_among h k) (same_held t k at) ∙ put_among t k at,
-          values_by t dec (Some (words.point t k)) at ∙ (ap (at_locks locks.0) (cond-true (is_numbered t (seen t dec).before) (Some k) (lock_of (seen t dec).before.place) (own_number t dec))
-              ∙ (at_is locks.0 k ∙ ap (λ h. at_lock h k) (sym (same_held t k at)))),
+          values_by t dec (Some (words.point t k)) at ∙ (ap (at_locks locks.held) (cond-true (is_numbered t (seen t dec).before) (Some k) (lock_of (seen t dec).before.place) (own_number t dec))
+              ∙ (at_is locks.held k ∙ ap (λ h. at_lock h k) (sym (same_held t k at)))),
           hand_after t ∙ (own t (Some (words.point t k)) at ∙ cond-true (t == t) false (is_some (thread_in_hand w t x.members)) (eq-eqb t t refl)),
         );
   }

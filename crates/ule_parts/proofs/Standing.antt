@@ -39,7 +39,6 @@ use Rattle.ule_members.proofs.Setups.{setup_scripts}
 use Rattle.ule_courses.proofs.Hands.{FindsUnborn, hand_follows}
 use Rattle.ule_courses.proofs.Replies.{step_replies}
 use Rattle.ule_micro.specs.declared.entry.Entry.{Entry}
-use Rattle.ule_micro.specs.declared.entry.HeldLocks.{HeldLocks}
 use Rattle.ule_micro.specs.declared.todo.Todo.TheVariants as todo
 use Rattle.ule_micro.specs.Histories.{laid_under}
 use Rattle.ule_micro.specs.Laws.{KeepsStanding}
@@ -48,7 +47,7 @@ use Rattle.ule_micro.specs.Standings as standing
 use Rattle.ule_parts.specs.Acts.{AreAt, act_on, todo_of}
 use Rattle.ule_parts.specs.Workers.{AsksFor, HandFits, IsItem, IsValid, Stands, StandsAt, Worker, threads_forked, forks_of, threads_hatched, declared_ids_of, latest_in, left_at, own_at, owns_from}
 use Rattle.ule_parts.specs.Scheduler.{MayAct, sched_means}
-use Rattle.ule_parts.proofs.Locks.{HasLocks, IsActed, acted_shows, hand_some, locks_of_possible}
+use Rattle.ule_parts.proofs.Locks.{FindsLocks, IsActed, acted_shows, hand_some, locks_of_possible}
 
 -- an empty hand, where no thread is found in it
 hand_none : (hand : Option ThreadRecord) → ((t : ℕ) → is_some (if_thread t hand) ≡ false) → hand ≡ None
@@ -211,12 +210,12 @@ module _ (s : Setup) where
     made_well = may.is_world.made
 
     -- the locks of the event, and what the act is
-    locks : (held : HeldLocks) × HasLocks may.world (locking x.event) held
-    locks = locks_of_possible may.value may.world x.worker x.event x.now may.shows may.possible
+    locks : FindsLocks s may.value may.world (locking x.event)
+    locks = locks_of_possible s may.value may.world x.worker x.event x.now may.shows may.possible
 
-    acted : IsActed may.value may.world x.worker x.event x.now locks.0 made
-    acted = acted_shows s may.value may.world x.worker x.event x.now locks.0 guarded o.hand may.shows may.possible locks.1.numbers
-        (subst (λ ls. AreAt may.value.values ls guarded) locks.1.numbers may.guarded_are) may.hand_is (may.shows.settings ∙ may.is_world.settings)
+    acted : IsActed may.value may.world x.worker x.event x.now locks.held made
+    acted = acted_shows s may.value may.world x.worker x.event x.now locks.held guarded o.hand may.shows may.possible locks.has.numbers
+        (subst (λ ls. AreAt may.value.values ls guarded) locks.has.numbers may.guarded_are) may.hand_is (may.shows.settings ∙ may.is_world.settings)
 
     reply_is : x.reply ≡ (step may.world x.worker x.event x.now).1
     reply_is = replied ∙ acted.reply
@@ -243,7 +242,7 @@ module _ (s : Setup) where
 
     hand_after : (t : ℕ) → is_some (if_thread t made.hand) ≡ is_number t (in_hand reached.stage)
     hand_after t =
-        let v' : WorldValue = record { settings = may.value.settings; values = laid_under locks.0 may.value.values made.values; hands = slice_set may.value.hands x.worker made.hand } in
+        let v' : WorldValue = record { settings = may.value.settings; values = laid_under locks.held may.value.values made.values; hands = slice_set may.value.hands x.worker made.hand } in
         let low : x.worker < length may.value.hands = subst (λ n. x.worker < n) (sym may.shows.workers) may.possible.worker_is in
         ap (λ (k : Option ThreadRecord). is_some (if_thread t k)) (sym (get_or-set_same may.value.hands x.worker made.hand None low))
         ∙ (hand_some v' after x.worker (held_by v' x.worker) acted.shows (acted.shows.hands x.worker) t

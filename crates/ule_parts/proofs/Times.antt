@@ -1,5 +1,5 @@
 -- The time that a worker's list adds is what it added so far and what it still adds.
-use Rattle.std.proofs.Common.{◌≡◌, ℕ, ◌+◌, List, Some, refl, ap, arith}
+use Rattle.std.proofs.Common.{◌≡◌, ℕ, ◌+◌, List, Some, None, refl, sym, ap, ◌∙◌, arith}
 use Rattle.std.proofs.lemmas.List.Sums.{sum_by-cons}
 use Rattle.std.proofs.lemmas.Option.{none-some}
 use Rattle.ule_types.specs.Commands.{amount_of}
@@ -16,16 +16,24 @@ use Rattle.ule_program.specs.declared.stage.Stage.{Stage}
 use Rattle.ule_program.specs.declared.stage.Stage.TheVariants.{Ended, Advances, Gives}
 use Rattle.ule_program.proofs.Leading.{ended_stage}
 use Rattle.ule_program.proofs.Following.{after_goes_on, begun_adds}
-use Rattle.ule_courses.proofs.Courses.{IsFound, KeptAtBegin, next_found, time_from, time_of}
+use Rattle.ule_courses.proofs.Courses.{HasRunOut, IsFound, KeptAtBegin, ended_from, next_found, next_in_is, time_from, time_of, told_at}
 
--- what is left to add at a course, where its next item is found
+-- what is left to add at a course stays so when the next command is begun
+kept : (course : Course) → KeptAtBegin (λ script own. time_from script own ≡ time_of course)
+kept course c cs own none was =
+    let ended : time_at own.stage ≡ 0 = ap time_at (ended_stage own.stage none) in
+    omega (arith, was, ended, (begun_adds c (once_given own)).1, sum_by-cons amount_of c cs)
+
+-- so it is where its next item is found
 found : (course after : Course) (i : Item) → next_step course ≡ Some (i, after) → IsFound (λ script own. time_from script own ≡ time_of course) i after
-found course after i next = next_found (λ script own. time_from script own ≡ time_of course) kept course i after refl next
-  where
-    kept : KeptAtBegin (λ script own. time_from script own ≡ time_of course)
-    kept c cs own none was =
-        let ended : time_at own.stage ≡ 0 = ap time_at (ended_stage own.stage none) in
-        omega (arith, was, ended, (begun_adds c (once_given own)).1, sum_by-cons amount_of c cs)
+found course after i next = next_found (λ script own. time_from script own ≡ time_of course) (kept course) course i after refl next
+
+-- a course without a next item adds no time
+pub ended_time : (course : Course) → next_step course ≡ None → time_of course ≡ 0
+ended_time course none =
+    let end : HasRunOut (λ script own. time_from script own ≡ time_of course) =
+    ended_from (λ script own. time_from script own ≡ time_of course) (kept course) course.script (told_at course) refl (sym (next_in_is course.script course.own course.last) ∙ none) in
+    omega (arith, end.holds, ap time_at end.ended)
 
 -- an advance's stage adds its amount, and the stage after it none
 advance_adds : (st : Stage) (k : ℕ) → item_at st ≡ Some (item.Advance k) → (time_at st ≡ k) × (time_at (after_giving st) ≡ 0)

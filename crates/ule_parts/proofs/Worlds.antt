@@ -1,5 +1,5 @@
 -- After every history in order whose entries were asked for, an event that is asked for may be performed.
-use Rattle.std.proofs.Common.{◌≡◌, ◌≢◌, ◌⊎◌, ℕ, ◌^◌, ◌<◌, ◌≤◌, true, false, ◌==◌, ◌++◌, List, [], ◌∷◌, flat_map, length, refl, sym, ap, ◌∙◌, subst, inl, inr, ⊎_elim, arith, slice_get, slice_set, Option, Some, None, IfSome, IsTrue}
+use Rattle.std.proofs.Common.{◌≡◌, ◌≢◌, ◌⊎◌, ℕ, ◌^◌, ◌<◌, ◌≤◌, true, false, ◌==◌, ◌++◌, List, [], ◌∷◌, flat_map, length, refl, sym, ap, ◌∙◌, subst, inl, inr, ⊎_elim, arith, slice_get, slice_set, Option, Some, None, IfSome, IsSome, IsTrue}
 use Rattle.std.specs.List.{AllByRecursion}
 use Rattle.std.proofs.lemmas.Bool.{false≢true, false_from_ne_true, cases_eq, eqb-true, both_ways, or_cases}
 use Rattle.std.proofs.lemmas.Option.{IfSome_then}
@@ -12,13 +12,13 @@ use Rattle.ule_types.specs.declared.event.Event.TheVariants.{Tick, Switch, Drop,
 use Rattle.ule_types.specs.declared.event.Reply.{Reply}
 use Rattle.ule_types.specs.declared.setup.Setup.{Setup}
 use Rattle.ule_types.proofs.Repeats.{among_back, among_front, among_of_one, among_passes, distinct_of_two}
-use Rattle.ule_model.specs.Conditions.{IsPossible}
-use Rattle.ule_model.specs.Events.{handling, Handling, unborn, locking, names_cpus, sought_by}
+use Rattle.ule_model.specs.Conditions.{IsHandled, IsPossible}
+use Rattle.ule_model.specs.Events.{handling, Handling, unborn, is_ready, locking, names_cpus, sought_by}
 use Rattle.ule_model.specs.Frames.{LeavesRest}
 use Rattle.ule_model.specs.LockValue.{LockValue}
 use Rattle.ule_model.specs.Start.{starting_time, world_at_start}
 use Rattle.ule_model.specs.Step.{step}
-use Rattle.ule_model.specs.World.{Member, World}
+use Rattle.ule_model.specs.World.{Member, World, thread_of}
 use Rattle.ule_model.specs.WorldValue.{Shows, held_by, IsHandOf}
 use Rattle.ule_members.proofs.CalendarStarts.{start_calm}
 use Rattle.ule_members.proofs.CalendarStretches.{IsTickOfSome, promise_kept}
@@ -44,7 +44,7 @@ use Rattle.ule_parts.specs.Acts.{AreAt, act_on, needs_of}
 use Rattle.ule_parts.specs.Histories.{IsHistoryOfWorlds, entries_in_order, scheduler_with}
 use Rattle.ule_parts.specs.Workers.{AsksFor, HandFits, threads_forked, forks_of, threads_hatched, declared_ids_of}
 use Rattle.ule_parts.specs.Scheduler.{IsWorldOf, MayAct, sched_means}
-use Rattle.ule_parts.proofs.Locks.{HasLocks, acted_shows, are_under, handled, locks_are}
+use Rattle.ule_parts.proofs.Locks.{FindsLocks, HasLocks, acted_shows, are_under, handled, locks_are, locks_of_ready}
 use Rattle.ule_parts.proofs.Replays.{IsReplay, replay_more, replay_starts}
 use Rattle.ule_parts.proofs.Numbers.{found_numbered}
 use Rattle.ule_parts.proofs.Noted.{IsNoted, noted_after, noted_at_start, noted_in_time}
@@ -84,44 +84,58 @@ module _ (s : Setup) where
     pub noted : AllByRecursion (IsNoted h) world.members
     pub unborn : (w t : ℕ) → is_among (forks_of s w) t ≡ true → is_among (threads_hatched (own_entries w h)) t ≡ false → IsStillUnborn t world.members
 
-  -- an event that is asked for is possible
-  module _ (h : List (Entry Event Reply)) (y : ValuesAndHands (Option ThreadRecord) LockValue) (r : IsReached h y) (w : ℕ) (e : Event) (now : ℕ) (hand : Option ThreadRecord) (held : HeldLocks)
-      (at : slice_get y.hands w ≡ Some hand) (asked : AsksFor s w (own_entries w h) hand e) (locks : AreLocksFor (sched_means s) y.values held (needs_of (locking e)))
-      (rules : IsNoEarlierThanShared h w held now) (small : now < 2 ^ 36) where
-    hand_is : held_by (scheduler_with s y) w ≡ hand
+  -- an event that is asked for
+  module _ (h : List (Entry Event Reply)) (y : ValuesAndHands (Option ThreadRecord) LockValue) (r : IsReached h y) (w : ℕ) (e : Event) (hand : Option ThreadRecord)
+      (at : slice_get y.hands w ≡ Some hand) (asked : AsksFor s w (own_entries w h) hand e) where
+    pub hand_is : held_by (scheduler_with s y) w ≡ hand
     hand_is = index_get y.hands w None hand at
-
-    its : HasLocks r.world (locking e) held
-    its = locks_are s (scheduler_with s y) r.world (locking e) held r.shows (subst (λ c. IsTrue (names_cpus c e)) (sym r.is_world.lines) asked.names.0) locks
 
     still : (t : ℕ) (k : Handling) → HandFits s w (own_entries w h) hand k → k ≡ unborn t → IsStillUnborn t r.world.members
     still t k fits is = let z = subst (HandFits s w (own_entries w h) hand) is fits in r.unborn w t z.1 z.2
 
-    possible : IsPossible r.world w e now
-    possible = record {
-      worker_is = subst (λ c. w < c) (sym r.is_world.lines) asked.below;
-      cpus = subst (λ c. IsTrue (names_cpus c e)) (sym r.is_world.lines) asked.names.0;
-      declared = IfSome_then (sought_by e) asked.names.1 (λ t among. found_numbered t (declared_ids_of s) r.world.members r.is_world.numbers among);
-      ready = its.ready w;
-      hand = handled (scheduler_with s y) r.world w hand r.shows (subst (λ o. IsHandOf r.world w o) hand_is (r.shows.hands w)) s (own_entries w h) (handling e) asked.fits
-          (λ t is. still t (handling e) asked.fits is);
-      numbers = asked.names.2;
-      begun = rules.begun;
-      bounded = small;
-      in_time = noted_in_time h r.world w e held now its.numbers rules r.noted;
-    }
+    cpus : IsTrue (names_cpus (length r.world.lines) e)
+    cpus = subst (λ c. IsTrue (names_cpus c e)) (sym r.is_world.lines) asked.names.0
 
-    -- so it may be performed
-    may : (guarded : List LockValue) → values_under held y.values ≡ Some guarded → MayAct s w e now hand guarded
-    may guarded under = record {
-      value = scheduler_with s y;
-      world = r.world;
-      shows = r.shows;
-      is_world = r.is_world;
-      possible = possible;
-      hand_is = hand_is;
-      guarded_are = subst (λ ls. AreAt y.values ls guarded) (sym its.numbers) (are_under held y.values guarded under);
-    }
+    declared : IfSome (sought_by e) (λ t. IsSome (thread_of t r.world.members))
+    declared = IfSome_then (sought_by e) asked.names.1 (λ t among. found_numbered t (declared_ids_of s) r.world.members r.is_world.numbers among)
+
+    its_hand : IsHandled r.world w (handling e)
+    its_hand = handled (scheduler_with s y) r.world w hand r.shows (subst (λ o. IsHandOf r.world w o) hand_is (r.shows.hands w)) s (own_entries w h) (handling e) asked.fits
+        (λ t is. still t (handling e) asked.fits is)
+
+    -- finds its locks, where the thread that it seeks is in no other worker's hand
+    pub finds_locks : is_ready r.world w e ≡ true → FindsLocks s (scheduler_with s y) r.world (locking e)
+    finds_locks ready = locks_of_ready s (scheduler_with s y) r.world w e r.shows cpus declared ready its_hand
+
+    module _ (now : ℕ) (held : HeldLocks) (locks : AreLocksFor (sched_means s) y.values held (needs_of (locking e))) (rules : IsNoEarlierThanShared h w held now) (small : now < 2 ^ 36) where
+      its : HasLocks r.world (locking e) held
+      its = locks_are s (scheduler_with s y) r.world (locking e) held r.shows cpus locks
+
+      -- and is possible
+      pub possible : IsPossible r.world w e now
+      possible = record {
+        worker_is = subst (λ c. w < c) (sym r.is_world.lines) asked.below;
+        cpus = cpus;
+        declared = declared;
+        ready = its.ready w;
+        hand = its_hand;
+        numbers = asked.names.2;
+        begun = rules.begun;
+        bounded = small;
+        in_time = noted_in_time h r.world w e held now its.numbers rules r.noted;
+      }
+
+      -- so it may be performed
+      pub may : (guarded : List LockValue) → values_under held y.values ≡ Some guarded → MayAct s w e now hand guarded
+      may guarded under = record {
+        value = scheduler_with s y;
+        world = r.world;
+        shows = r.shows;
+        is_world = r.is_world;
+        possible = possible;
+        hand_is = hand_is;
+        guarded_are = subst (λ ls. AreAt y.values ls guarded) (sym its.numbers) (are_under held y.values guarded under);
+      }
 
   -- the world after a step
   pub is_world_after : (x : World) (w : ℕ) (e : Event) (now : ℕ) → IsWorldOf s x → IsPossible x w e now → IsWorldOf s (step x w e now).0
@@ -145,9 +159,9 @@ module _ (s : Setup) where
       → IsReached (x ∷ h) (record { values = after.values; hands = slice_set z.hands x.worker after.hand })
   more h z r x hand after at asked follows rules =
       let small : x.now < 2 ^ 36 = follows.may.possible.bounded in
-      let l : HasLocks r.world (locking x.event) x.locks = its h z r x.worker x.event x.now hand x.locks at asked follows.locks rules small in
-      let can = possible h z r x.worker x.event x.now hand x.locks at asked follows.locks rules small in
-      let is = hand_is h z r x.worker x.event x.now hand x.locks at asked follows.locks rules small in
+      let l : HasLocks r.world (locking x.event) x.locks = its h z r x.worker x.event hand at asked x.now x.locks follows.locks rules small in
+      let can = possible h z r x.worker x.event hand at asked x.now x.locks follows.locks rules small in
+      let is = hand_is h z r x.worker x.event hand at asked in
       let done = acted_shows s (scheduler_with s z) r.world x.worker x.event x.now x.locks follows.guarded hand r.shows can l.numbers
       (are_under x.locks z.values follows.guarded follows.under) is refl in
       let act = effect_on x.locks z.values (act_on s.settings x.worker x.event x.now hand follows.guarded) in
@@ -229,7 +243,7 @@ module _ (s : Setup) where
 
   -- after every history in order an event that is asked for may be performed
   pub readies : Shows (scheduler_with s (values_and_hands_at_start (sched_means s))) (world_at_start s) → ReadiesEvents (sched_means s)
-  readies shows h y w e now hand held guarded leads at asks locks under rules small = may h y (reached_by shows h y leads) w e now hand held at asks locks rules small guarded under
+  readies shows h y w e now hand held guarded leads at asks locks under rules small = may h y (reached_by shows h y leads) w e hand at asks now held locks rules small guarded under
 
   -- every such history is one of worlds
   pub of_worlds : Shows (scheduler_with s (values_and_hands_at_start (sched_means s))) (world_at_start s) → (h : List (Entry Event Reply)) (y : ValuesAndHands (Option ThreadRecord) LockValue)

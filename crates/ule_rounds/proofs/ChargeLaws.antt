@@ -14,7 +14,7 @@ use Rattle.ule_rounds.specs.Charges.{CommandsKeepToTheirCharges, GivesItems, act
 use Rattle.ule_courses.proofs.Courses.{GoesOnAs, HasOrder, course_advanced, course_told, held_at, left_of, next_is, order_later}
 
 -- a worker that has ended what it began opens a list of valid commands with an orderly course
-opens_orderly : (ids : List ℕ) (own : Own) (now : ℕ) (list : List Command) → list_all (is_command ids own.topology.cpus) list ≡ true →
+pub opens_orderly : (ids : List ℕ) (own : Own) (now : ℕ) (list : List Command) → list_all (is_command ids own.topology.cpus) list ≡ true →
     HasOrder ids own.worker own.topology now (course_of (stops own) list)
 opens_orderly ids own now list valid = record {
   valid = valid;
@@ -30,7 +30,6 @@ opens_orderly ids own now list valid = record {
     by_now = tt;
   };
   few = omega arith;
-  time = refl;
   forks = refl;
 }
 
@@ -39,7 +38,7 @@ gives_few : (ids : List ℕ) (worker : ℕ) (t : Tree) (now : ℕ) (course : Cou
     GivesItems (is_among ids) t.cpus now course items → HasOrder ids worker t now course → length items ≤ left_of t.cpus course
 gives_few ids worker t _ _ _ seat (stays now course) orderly = omega arith
 gives_few ids worker t _ _ _ seat (advances now k course after items next rest) orderly =
-    let went : GoesOnAs ids worker t now k [] (held_at course) course after =
+    let went : GoesOnAs ids worker t now [] (held_at course) course after =
     course_advanced ids worker t seat now k course after (next_is ids worker t seat now course (item.Advance k) after orderly next) in
     omega (arith, went.left, gives_few ids worker t now after items seat rest went.orderly)
 gives_few ids worker t _ _ _ seat (acts now later course after e r items next past says rest) orderly =

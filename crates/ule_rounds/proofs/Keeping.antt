@@ -1,352 +1,170 @@
--- What every play of a setup keeps, and what its next event needs.
-use Rattle.std.proofs.Common.{◌≡◌, ℕ, ◌+◌, ◌*◌, ◌^◌, ◌<◌, ◌≤◌, ◌&&◌, ◌||◌, Bool, true, false, nat_le, List, [], ◌∷◌, flat_map, length, slice_get, take, Some, IfSome, IsSome, IsTrue, is_some, if◌then◌else◌, option_and_then, refl, sym, ◌∙◌, ap, subst, arith}
-use Rattle.std.specs.List.{AllByRecursion}
-use Rattle.std.proofs.lemmas.Bool.{and_parts, cond_both, false≢true, leb-true}
-use Rattle.std.proofs.lemmas.List.{length-set, length_push}
-use Rattle.std.proofs.lemmas.Option.{IfSome_then, slice_get_within}
-use Rattle.ule_score.specs.Bounds.{KeepsBounds}
-use Rattle.ule_score.specs.Changes.{HasSlice, IsBy}
-use Rattle.ule_types.proofs.Repeats.{among_front}
-use Rattle.ule_types.specs.Commands.{forked_by, is_among}
-use Rattle.ule_types.specs.Words.{change_of}
-use Rattle.ule_types.specs.Rules.{declared_ids}
+-- What is known of a worker's next item in rounds, by the legal play of values that they are.
+use Rattle.std.proofs.Common.{◌≡◌, ◌≢◌, ℕ, zero, suc, ◌+◌, ◌≤◌, true, List, [], ◌∷◌, length, length-set, map, set, slice_get, slice_index_or, is_some, Some, None, sym, refl, ap, ◌∙◌, subst, ⊎_elim, arith}
+use Rattle.std.proofs.lemmas.Bool.{false≢true}
+use Rattle.std.proofs.lemmas.List.Sums.{sum_by-cons}
+use Rattle.std.proofs.lemmas.Option.{none-some}
 use Rattle.ule_types.specs.declared.event.Event.{Event}
 use Rattle.ule_types.specs.declared.event.Item.{Item}
 use Rattle.ule_types.specs.declared.event.Item.TheVariants as item
+use Rattle.ule_types.specs.declared.event.Reply.{Reply}
 use Rattle.ule_types.specs.declared.setup.Setup.{Setup}
-use Rattle.ule_model.specs.Conditions.{IsPossible}
-use Rattle.ule_model.specs.Ends.{end_time}
-use Rattle.ule_model.specs.Events.{handling, is_reached, is_ready, names_cpus, sought_by}
-use Rattle.ule_model.specs.Frames.{LeavesRest, thread_in_hand}
-use Rattle.ule_model.specs.History.{KeepsRecords}
-use Rattle.ule_model.specs.Legal.{after_entry, replayed}
-use Rattle.ule_model.specs.Places.{is_hand_of, is_number}
 use Rattle.ule_program.specs.Courses.{Course, next_step}
-use Rattle.ule_program.specs.Hearing.{CanHear, IsReplyTo, IsSeat}
-use Rattle.ule_program.specs.Laws.{hand_by_word}
-use Rattle.ule_program.proofs.GroupLaws.{topology_seat}
-use Rattle.ule_model.specs.Rounds.{Play, after_item, entry_of, greatest_rounds, opening, performed, turn}
-use Rattle.ule_model.specs.Shows.{numbers_of}
-use Rattle.ule_model.specs.Start.{starting_time, world_at_start}
+use Rattle.ule_program.specs.Hearing.{CanHear}
+use Rattle.ule_program.specs.Program.{item_at, most_at}
+use Rattle.ule_program.specs.declared.own.Own.{Own}
+use Rattle.ule_program.specs.declared.stage.Stage.{Stage}
+use Rattle.ule_program.specs.declared.stage.Stage.TheVariants.{Advances, Ended, Gives}
+use Rattle.ule_model.specs.Conditions.{IsPossible}
+use Rattle.ule_model.specs.Events.{holder_of, is_ready}
+use Rattle.ule_model.specs.Rounds.{Play, after_item, greatest_rounds, performed}
 use Rattle.ule_model.specs.Step.{step}
-use Rattle.ule_model.specs.WellMade.{IsWellMadeWorld}
-use Rattle.ule_model.specs.World.{Member, is_numbered, thread_of}
-use Rattle.ule_members.proofs.Numbered.{step_bounds, step_by_now, step_numbers}
-use Rattle.ule_members.proofs.Parents.{step_parents}
-use Rattle.ule_members.proofs.Steps.{step_leaves_rest}
-use Rattle.ule_members.proofs.Steps.{step_is_made}
-use Rattle.ule_members.proofs.Within.{all_along}
-use Rattle.ule_courses.proofs.Bindings.{step_binds}
-use Rattle.ule_courses.proofs.Courses.{GoesOnAs, HasOrder, IsAtEvent, IsNextItem, advance_at, course_advanced, course_told, event_at, forks_ahead, hears_at, held_at, left_of, next_is, order_later, time_of}
-use Rattle.ule_courses.proofs.Hands.{DoAgree, FindsUnborn, agree_set, agree_step, finds_unborn, hand_at, hand_handled}
-use Rattle.ule_courses.proofs.LastCpus.{step_lasts}
-use Rattle.ule_courses.proofs.Histories.{replayed_push, replayed_start}
-use Rattle.ule_rounds.proofs.Plays.{all_left, all_time, each_after_set, hands_at_start, opening_count, opening_left, opening_order, sum_set, time_at_start, tree_of}
-use Rattle.ule_rounds.proofs.RoundsLaws.{turn_cases}
-use Rattle.ule_members.proofs.Setups.{setup_end, setup_scripts, setup_slice}
-use Rattle.ule_members.proofs.Unborn.{IsStillUnborn, hatched_by, unborn_stays}
-use Rattle.ule_rounds.proofs.Forks.{HasForksAhead, forks_opening, forks_set}
-use Rattle.ule_courses.proofs.Parents.{HasDeclaredParent, numbered_among, start_lasts, start_parents}
-use Rattle.ule_courses.proofs.Replies.{step_replies}
-use Rattle.ule_members.proofs.Starts.{AreFree, IsFreshRecord, IsLaid, IsPlaceAtStart, start_free, start_laid}
+use Rattle.ule_model.specs.World.{World}
+use Rattle.ule_model.specs.WorldValue.{WorldValue, held_by, if_thread}
+use Rattle.ule_courses.proofs.Hands.{held_in_hand}
+use Rattle.ule_micro.specs.Courses.{WorkerCourse}
+use Rattle.ule_micro.specs.Means.{budgets}
+use Rattle.ule_micro.specs.Standings as standing
+use Rattle.ule_micro.proofs.Courses.{IsCourse, advances_little, all_are_courses, in_budget}
+use Rattle.ule_micro.proofs.Lists.{get_set, there}
+use Rattle.ule_micro.proofs.Numbers.{play_counted}
+use Rattle.ule_parts.specs.Histories.{scheduler_with}
+use Rattle.ule_parts.specs.Plays.{list_of}
+use Rattle.ule_parts.specs.Scheduler.{budget_of, sched_means}
+use Rattle.ule_parts.specs.Workers.{IsItem, Worker, left_at}
+use Rattle.ule_parts.proofs.Lawful.{is_lawful}
+use Rattle.ule_parts.proofs.Locks.{hand_some}
+use Rattle.ule_parts.proofs.Worlds.{IsReached}
+use Rattle.ule_rounds.proofs.Plays.{sum_set}
+use Rattle.ule_rounds.proofs.RoundPlays.{IsPlayed, IsSettled, advances_turn, has_item, hears_reply, is_possible, items_of, orders, performs_turn, reached, settles, there_is, todo_item, value_and_hands, world_is}
 
--- ---- what a play keeps
+-- ---- the items
 
--- the numbers of a setup's threads
-abbrev pub ids_in : Setup → List ℕ
-ids_in s = declared_ids s.threads s.unborn
-
--- what a play of a setup keeps at every turn
-pub record IsUnderWay (s : Setup) (p : Play) : Type 0 where
-  pub workers : length p.courses ≡ s.cpus
-  pub world : replayed (world_at_start s) p.entries ≡ p.world
-  pub courses : (worker : ℕ) (course : Course) → slice_get p.courses worker ≡ Some course → HasOrder (ids_in s) worker (tree_of s) p.now course
-  pub settings : p.world.settings ≡ s.settings
-  pub lines : length p.world.lines ≡ s.cpus
-  pub ids : numbers_of p.world.members ≡ ids_in s
-  pub made : IsWellMadeWorld p.world
-  pub bounds : KeepsRecords p.world
-  pub by_now : AllByRecursion (λ m. IsBy p.now m.thread) p.world.members
-  pub bound : AllByRecursion (λ m. IfSome m.thread.bound (λ c. c < s.cpus)) p.world.members
-  pub last : AllByRecursion (λ m. m.thread.last < s.cpus) p.world.members
-  pub parents : AllByRecursion (HasDeclaredParent (ids_in s)) p.world.members
-  pub hands : DoAgree p.world.members p.courses
-  pub forks : HasForksAhead p.world.members p.courses
-  pub begun : starting_time ≤ p.now
-  pub time : p.now + all_time p.courses ≡ end_time s.scripts
-  pub bounded : p.now + 1000000 * all_left s.cpus p.courses ≤ starting_time + 1000000 * greatest_rounds
-  pub count : length p.entries + all_left s.cpus p.courses ≤ greatest_rounds
-
--- its time is within bounds
-pub time_below : (s : Setup) (p : Play) → IsUnderWay s p → p.now < 2 ^ 36
-time_below s p kept = omega (arith, kept.bounded)
-
--- a worker that has a course is one of the CPUs' workers
-pub worker_below : (s : Setup) (p : Play) (worker : ℕ) (course : Course) → IsUnderWay s p → slice_get p.courses worker ≡ Some course → worker < s.cpus
-worker_below s p worker course kept got = subst (λ n. worker < n) kept.workers (slice_get_within p.courses worker course got)
-
--- so it has its seat in the setup's topology
-pub seat_in : (s : Setup) (p : Play) (worker : ℕ) (course : Course) → IsUnderWay s p → slice_get p.courses worker ≡ Some course → IsSeat worker (tree_of s)
-seat_in s p worker course kept got = topology_seat s.cpus worker s.groups (setup_scripts s).cpus (worker_below s p worker course kept got)
-
--- ---- the opening play
-
--- threads of which none is in a hand are found in no hand
-free_hands : (h t : ℕ) (ms : List Member) → AreFree ms → is_some (thread_in_hand h t ms) ≡ false
-free_hands h t [] free = refl
-free_hands h t (m ∷ ms) free = by_test (is_numbered t m) (ap (is_number h) free.0) (free_hands h t ms free.1)
-  where
-    by_test : (b : Bool) → is_hand_of h m.place ≡ false → is_some (thread_in_hand h t ms) ≡ false →
-        is_some (if b && is_hand_of h m.place then Some m else thread_in_hand h t ms) ≡ false
-    by_test true off rest = ap (λ c. is_some (if c then Some m else thread_in_hand h t ms)) off ∙ rest
-    by_test false off rest = rest
-
--- the opening play is under way
-pub under_way_opening : (s : Setup) → IsUnderWay s (opening s)
-under_way_opening s = record {
-  workers = opening_count s;
-  world = replayed_start (world_at_start s);
-  courses = opening_order s starting_time;
-  settings = start.settings_are;
-  lines = start.count;
-  ids = start.ids_are;
-  made = start.made;
-  bounds = bounds;
-  by_now = all_along (λ (m : Member). IsFreshRecord s.cpus m.thread) (λ m. IsBy starting_time m.thread) (world_at_start s).members (λ m fresh. fresh.by_now) start.records;
-  bound = all_along (λ (m : Member). IsFreshRecord s.cpus m.thread) (λ m. IfSome m.thread.bound (λ c. c < s.cpus)) (world_at_start s).members (λ m fresh. fresh.bound) start.records;
-  last = start_lasts s;
-  parents = start_parents s (ids_in s);
-  forks = forks_opening s;
-  hands = λ h t.
-      free_hands h t (world_at_start s).members (start_free s) ∙
-      sym (ap (is_number t) (hands_at_start s 0 (take s.cpus s.scripts) h));
-  begun = omega arith;
-  time = omega (arith, time_at_start s 0 (take s.cpus s.scripts), setup_end s);
-  bounded = omega (arith, opening_left s);
-  count = omega (arith, opening_left s);
-}
-  where
-    start : IsLaid (IsPlaceAtStart s.cpus) s.cpus s.settings (ids_in s) (world_at_start s)
-    start = start_laid s
-
-    bounds : KeepsRecords (world_at_start s)
-    bounds = all_along (λ (m : Member). IsFreshRecord s.cpus m.thread) (λ m. KeepsBounds m.thread) (world_at_start s).members (λ m fresh. fresh.bounds) start.records
-
--- ---- what the next event needs
-
--- a number among those of the threads finds one
-pub found_among : (t : ℕ) (ms : List Member) → is_among (numbers_of ms) t ≡ true → IsSome (thread_of t ms)
-found_among t [] among = absurd (false≢true among)
-found_among t (m ∷ ms) among = by_test (is_numbered t m) among (found_among t ms)
-  where
-    by_test : (b : Bool) → (b || is_among (numbers_of ms) t) ≡ true → (is_among (numbers_of ms) t ≡ true → IsSome (thread_of t ms)) → IsSome (if b then Some m else thread_of t ms)
-    by_test true is rest = refl
-    by_test false is rest = rest is
-
--- where the next item of a worker is found
-pub kept_next : (s : Setup) (p : Play) (worker : ℕ) (course after : Course) (i : Item) → IsUnderWay s p → slice_get p.courses worker ≡ Some course →
-    next_step course ≡ Some (i, after) → IsNextItem (ids_in s) worker (tree_of s) p.now course i after
-kept_next s p worker course after i kept got next =
-    next_is (ids_in s) worker (tree_of s) (seat_in s p worker course kept got) p.now course i after (kept.courses worker course got) next
-
--- a worker whose next event is this
-pub record HasNext (s : Setup) (p : Play) (worker : ℕ) (course : Course) (e : Event) (after : Course) : Type 0 where
-  pub next : IsNextItem (ids_in s) worker (tree_of s) p.now course (item.Event e) after
-  pub seat : IsSeat worker (tree_of s)
-  pub event : IsAtEvent (ids_in s) s.cpus (held_at course) (forks_ahead course) next.script e
-  pub hand : hand_at p.courses worker ≡ held_at course
-  pub declared : IfSome (sought_by e) (λ t. IsSome (thread_of t p.world.members))
-  pub finds : FindsUnborn p.world.members (handling e)
-
--- what is known of a worker's next event
-pub has_next : (s : Setup) (p : Play) (worker : ℕ) (course after : Course) (e : Event) → IsUnderWay s p → slice_get p.courses worker ≡ Some course →
-    next_step course ≡ Some (item.Event e, after) → HasNext s p worker course e after
-has_next s p worker course after e kept got found = record {
-  next = next;
-  seat = seat_in s p worker course kept got;
-  event = event;
-  hand = ap (option_and_then held_at) got;
-  declared = IfSome_then (sought_by e) event.names.1 (λ t among. found_among t p.world.members (subst (λ us. is_among us t ≡ true) (sym kept.ids) among));
-  finds = finds_unborn p.world.members (handling e) hatches;
-}
-  where
-    next : IsNextItem (ids_in s) worker (tree_of s) p.now course (item.Event e) after
-    next = kept_next s p worker course after (item.Event e) kept got found
-
-    event : IsAtEvent (ids_in s) s.cpus (held_at course) (forks_ahead course) next.script e
-    event = event_at (ids_in s) worker (tree_of s) p.now (left_of s.cpus course) (time_of course) (held_at course) (forks_ahead course) next.script next.own next.own.stage e next.holds next.item
-
-    hatches : (t : ℕ) → is_among (hatched_by e) t ≡ true → IsStillUnborn t p.world.members
-    hatches t among =
-        kept.forks.unborn worker course t got (ap (λ us. is_among us t) (sym event.forks) ∙ among_front (hatched_by e) (flat_map forked_by next.script) t among)
-
--- a worker's next event, where it is ready, is possible
-pub possible : (s : Setup) (p : Play) (worker : ℕ) (course after : Course) (e : Event) → IsUnderWay s p → HasNext s p worker course e after →
-    is_ready p.world worker e ≡ true → IsPossible p.world worker e p.now
-possible s p worker course after e kept has ready = record {
-  worker_is = subst (λ n. worker < n) (sym kept.lines) has.seat.within;
-  cpus = subst (λ n. IsTrue (names_cpus n e)) (sym kept.lines) has.event.names.0;
-  declared = has.declared;
-  ready = ready;
-  hand = hand_handled p.world worker p.courses (held_at course) (handling e) kept.made.members kept.hands has.hand has.event.fits has.finds;
-  numbers = has.event.names.2;
-  begun = kept.begun;
-  bounded = time_below s p kept;
-  in_time = all_along (λ (m : Member). IsBy p.now m.thread) (λ m. is_reached p.world worker e m.place ≡ true → IsBy p.now m.thread) p.world.members (λ m by reached. by) kept.by_now;
-}
-
--- ---- a turn
-
--- time that goes on is at most a million ticks, and not none
-pub advance_within : (s : Setup) (p : Play) (worker k : ℕ) (course after : Course) → IsUnderWay s p → slice_get p.courses worker ≡ Some course →
-    next_step course ≡ Some (item.Advance k, after) → (1 ≤ k) × (k ≤ 1000000)
-advance_within s p worker k course after kept got found =
-    let next = kept_next s p worker course after (item.Advance k) kept got found in
-    let valid =
-    advance_at (ids_in s) worker (tree_of s) p.now (left_of s.cpus course) (time_of course) (held_at course) (forks_ahead course) next.script next.own next.own.stage k next.holds next.item in
-    let both = and_parts (nat_le 1 k) (nat_le k 1000000) valid in
-    (leb-true 1 k both.0, leb-true k 1000000 both.1)
-
--- a course that has its next advance of time goes on
-pub next_advanced : (s : Setup) (p : Play) (worker k : ℕ) (course after : Course) → IsUnderWay s p → slice_get p.courses worker ≡ Some course →
-    next_step course ≡ Some (item.Advance k, after) → GoesOnAs (ids_in s) worker (tree_of s) p.now k [] (held_at course) course after
-next_advanced s p worker k course after kept got found =
-    course_advanced (ids_in s) worker (tree_of s) (seat_in s p worker course kept got) p.now k course after (kept_next s p worker course after (item.Advance k) kept got found)
-
--- time that goes on leaves fewer items
-pub left_advanced : (s : Setup) (p : Play) (worker k : ℕ) (course after : Course) → IsUnderWay s p → slice_get p.courses worker ≡ Some course →
-    next_step course ≡ Some (item.Advance k, after) → all_left s.cpus (after_item worker (item.Advance k) after p).courses + 1 ≤ all_left s.cpus p.courses
-left_advanced s p worker k course after kept got found =
-    omega (arith, sum_set (left_of s.cpus) p.courses worker course after got, (next_advanced s p worker k course after kept got found).left)
-
--- what is noted of each thread by one time is by a later one
-by_later : (now later : ℕ) (ms : List Member) → now ≤ later → AllByRecursion (λ m. IsBy now m.thread) ms → AllByRecursion (λ m. IsBy later m.thread) ms
-by_later now later ms past by =
-    all_along (λ (m : Member). IsBy now m.thread) (λ m. IsBy later m.thread) ms
-    (λ m is. record { ltick = omega (arith, is.ltick); slept_at = omega (arith, is.slept_at); last_run = omega (arith, is.last_run) }) by
-
--- time that goes on keeps a play under way
-pub under_way_advanced : (s : Setup) (p : Play) (worker k : ℕ) (course after : Course) → IsUnderWay s p → slice_get p.courses worker ≡ Some course →
-    next_step course ≡ Some (item.Advance k, after) → IsUnderWay s (after_item worker (item.Advance k) after p)
-under_way_advanced s p worker k course after kept got found = record {
-  workers = length-set p.courses worker after ∙ kept.workers;
-  world = kept.world;
-  courses = each_after_set (λ w c. HasOrder (ids_in s) w (tree_of s) (p.now + k) c) p.courses worker course after got (later worker after went.orderly)
-      (λ w c other at. later w c (kept.courses w c at));
-  settings = kept.settings;
-  lines = kept.lines;
-  ids = kept.ids;
-  made = kept.made;
-  bounds = kept.bounds;
-  by_now = by_later p.now (p.now + k) p.world.members (omega arith) kept.by_now;
-  bound = kept.bound;
-  last = kept.last;
-  parents = kept.parents;
-  forks = forks_set p.courses worker course after [] got went.forks p.world.members p.world.members (λ t other unborn. unborn) kept.forks;
-  hands = agree_set p.courses worker course after p.world.members p.world.members got kept.hands (λ h t other. refl)
-      (λ t. kept.hands worker t ∙ ap (λ o. is_number t (option_and_then held_at o)) got ∙ ap (is_number t) (sym went.held));
-  begun = omega (arith, kept.begun);
-  time = omega (arith, kept.time, sum_set time_of p.courses worker course after got, went.time);
-  bounded = omega (arith, kept.bounded, left_advanced s p worker k course after kept got found, advance_within s p worker k course after kept got found);
-  count = omega (arith, kept.count, left_advanced s p worker k course after kept got found);
-}
-  where
-    went : GoesOnAs (ids_in s) worker (tree_of s) p.now k [] (held_at course) course after
-    went = next_advanced s p worker k course after kept got found
-
-    later : (w : ℕ) (c : Course) → HasOrder (ids_in s) w (tree_of s) p.now c → HasOrder (ids_in s) w (tree_of s) (p.now + k) c
-    later w c orderly = order_later (ids_in s) w (tree_of s) p.now (p.now + k) c (omega arith) orderly
-
--- the reply of a worker's next event is one that it can have
-pub next_replies : (s : Setup) (p : Play) (worker : ℕ) (course after : Course) (e : Event) → IsUnderWay s p → HasNext s p worker course e after →
-    IsReplyTo (is_among (ids_in s)) s.cpus p.now e (step p.world worker e p.now).1
-next_replies s p worker course after e kept has =
-    step_replies (ids_in s) s.cpus p.world worker p.now (record { bound = kept.bound; last = kept.last; parents = kept.parents; bounds = kept.bounds; made = kept.made.members }) e has.declared has.finds
-    (all_along (λ (m : Member). IsBy p.now m.thread) (λ m. is_reached p.world worker e m.place ≡ true → IsBy p.now m.thread) p.world.members (λ m by reached. by) kept.by_now)
-
--- the program that gave the event can hear the reply
-pub hears_reply : (s : Setup) (p : Play) (worker : ℕ) (course after : Course) (e : Event) → IsUnderWay s p → slice_get p.courses worker ≡ Some course →
-    next_step course ≡ Some (item.Event e, after) → CanHear (Some ((step p.world worker e p.now).1, p.now)) after.own
-hears_reply s p worker course after e kept got found =
-    let has : HasNext s p worker course e after = has_next s p worker course after e kept got found in
-    subst (λ (c : Course). CanHear (Some ((step p.world worker e p.now).1, p.now)) c.own) (sym has.next.gone)
-    (hears_at (ids_in s) worker (tree_of s) p.now (left_of s.cpus course) (time_of course) (held_at course) (forks_ahead course) has.next.script has.next.own has.next.own.stage e
-    (step p.world worker e p.now).1 has.next.holds has.next.item (next_replies s p worker course after e kept has))
-
--- the course that is told the reply of its next event goes on
-pub next_told : (s : Setup) (p : Play) (worker : ℕ) (course after : Course) (e : Event) → IsUnderWay s p → HasNext s p worker course e after →
-    GoesOnAs (ids_in s) worker (tree_of s) p.now 0 (hatched_by e) (hand_by_word (handling e) (change_of e (step p.world worker e p.now).1) (held_at course)) course
-    (record after { last = Some ((step p.world worker e p.now).1, p.now) })
-next_told s p worker course after e kept has =
-    course_told (ids_in s) worker (tree_of s) has.seat p.now course e after (step p.world worker e p.now).1 has.next
-    (next_replies s p worker course after e kept has)
-
--- an event leaves fewer items
-pub left_performed : (s : Setup) (p : Play) (worker : ℕ) (e : Event) (course after : Course) → IsUnderWay s p → slice_get p.courses worker ≡ Some course →
-    next_step course ≡ Some (item.Event e, after) → all_left s.cpus (performed worker e after p).courses + 1 ≤ all_left s.cpus p.courses
-left_performed s p worker e course after kept got found =
+-- the items that workers performed are within their budgets, where the first has this number
+items_within : (b : ℕ → ℕ) (k : ℕ) (cs : List (WorkerCourse Worker Event Reply)) → ((w : ℕ) (c : WorkerCourse Worker Event Reply) → slice_get cs w ≡ Some c → c.items ≤ b (k + w))
+    → items_of cs + budgets b k ≤ budgets b (k + length cs)
+items_within b k [] each = let same : k + 0 ≡ k = omega arith in omega (arith, ap (budgets b) same)
+items_within b k (c ∷ cs) each =
+    let first : k + 0 ≡ k = omega arith in
+    let rest : k + suc (length cs) ≡ suc k + length cs = omega arith in
     omega (
       arith,
-      sum_set (left_of s.cpus) p.courses worker course (record after { last = Some ((step p.world worker e p.now).1, p.now) }) got,
-      (next_told s p worker course after e kept (has_next s p worker course after e kept got found)).left,
+      each 0 c refl,
+      ap b first,
+      ap (budgets b) rest,
+      sum_by-cons (λ (d : WorkerCourse Worker Event Reply). d.items) c cs,
+      items_within b (suc k) cs (λ w d at. (let next : k + suc w ≡ suc k + w = omega arith in subst (λ i. d.items ≤ b i) next (each (suc w) d at))),
     )
 
--- an event that is ready keeps a play under way
-pub under_way_performed : (s : Setup) (p : Play) (worker : ℕ) (e : Event) (course after : Course) → IsUnderWay s p → slice_get p.courses worker ≡ Some course →
-    next_step course ≡ Some (item.Event e, after) → is_ready p.world worker e ≡ true → IsUnderWay s (performed worker e after p)
-under_way_performed s p worker e course after kept got found ready = record {
-  workers = length-set p.courses worker reached ∙ kept.workers;
-  world = replayed_push (world_at_start s) p.entries (entry_of p worker e) ∙ ap (λ w. after_entry w (entry_of p worker e)) kept.world;
-  courses = each_after_set (λ w c. HasOrder (ids_in s) w (tree_of s) p.now c) p.courses worker course reached got went.orderly (λ w c other at. kept.courses w c at);
-  settings = rest.settings ∙ kept.settings;
-  lines = rest.count ∙ kept.lines;
-  ids = step_numbers p.world worker e p.now kept.made can ∙ kept.ids;
-  made = made;
-  bounds = bounds;
-  by_now = step_by_now p.world worker e p.now kept.made can kept.by_now;
-  bound = step_binds (λ c. c < s.cpus) p.world worker e p.now kept.made can kept.bound;
-  last = subst (λ n. AllByRecursion (λ m. m.thread.last < n) (step p.world worker e p.now).0.members) kept.lines
-      (step_lasts p.world worker e p.now kept.made can (subst (λ n. AllByRecursion (λ m. m.thread.last < n) p.world.members) (sym kept.lines) kept.last));
-  parents = step_parents (λ u. is_among (ids_in s) u ≡ true) p.world worker e p.now kept.made can (numbered_among (ids_in s) p.world.members kept.ids) kept.parents;
-  forks = forks_set p.courses worker course reached (hatched_by e) got went.forks p.world.members (step p.world worker e p.now).0.members
-      (λ t other unborn. unborn_stays p.world worker e p.now t kept.made can few other unborn) kept.forks;
-  hands = agree_step p.world worker e p.now p.courses course reached kept.made can got kept.hands has.event.fits went.held;
-  begun = kept.begun;
-  time = omega (arith, kept.time, sum_set time_of p.courses worker course reached got, went.time);
-  bounded = omega (arith, kept.bounded, left_performed s p worker e course after kept got found);
-  count = omega (arith, kept.count, left_performed s p worker e course after kept got found, length_push p.entries (entry_of p worker e));
-}
+-- where a worker has an item, one is left of its command
+item_left_at : (own : Own) (i : Item) → IsItem own (standing.has (todo_item i)) → 1 ≤ left_at own (standing.has (todo_item i))
+item_left_at own (item.Advance k) is = omega arith
+item_left_at own (item.Event e) is = at_stage own.stage is
   where
-    has : HasNext s p worker course e after
-    has = has_next s p worker course after e kept got found
+    at_stage : (st : Stage) → item_at st ≡ Some (item.Event e) → 1 ≤ most_at st own
+    at_stage Ended is = absurd (none-some (item.Event e) is)
+    at_stage (Advances k) is = omega arith
+    at_stage (Gives f next) is = omega arith
 
-    can : IsPossible p.world worker e p.now
-    can = possible s p worker course after e kept has ready
+-- ---- hands
 
-    few : length p.world.lines ≤ 16
-    few = omega (arith, kept.lines, (setup_scripts s).cpus)
+-- a hand that has a thread is that of a worker
+hand_of_worker : (t h : ℕ) (cs : List (WorkerCourse Worker Event Reply)) → is_some (if_thread t (slice_index_or (map (λ c. c.own.hand) cs) h None)) ≡ true
+    → (c : WorkerCourse Worker Event Reply) × (slice_get cs h ≡ Some c) × (is_some (if_thread t c.own.hand) ≡ true)
+hand_of_worker t h [] has = absurd (false≢true has)
+hand_of_worker t zero (c ∷ cs) has = (c, refl, has)
+hand_of_worker t (suc h) (c ∷ cs) has = hand_of_worker t h cs has
 
-    reached : Course
-    reached = record after { last = Some ((step p.world worker e p.now).1, p.now) }
+module _ (s : Setup) (n : ℕ) (p : Play) (r : IsPlayed s n p) where
+  -- a thread in a worker's hand in the world is in that worker's hand in the play of values
+  pub in_hand : (t h : ℕ) → holder_of p.world.members t ≡ Some h → (c : WorkerCourse Worker Event Reply) × (slice_get r.courses h ≡ Some c) × (is_some (if_thread t c.own.hand) ≡ true)
+  in_hand t h held = hand_of_worker t h r.courses
+      (hand_some value come.world h (held_by value h) come.shows (come.shows.hands h) t
+      ∙ held_in_hand h t come.world.members (subst (λ (x : World). holder_of x.members t ≡ Some h) (sym (world_is s n p r)) held))
+    where
+      come : IsReached s r.history (value_and_hands s n p r)
+      come = reached s n p r
 
-    went : GoesOnAs (ids_in s) worker (tree_of s) p.now 0 (hatched_by e) (hand_by_word (handling e) (change_of e (step p.world worker e p.now).1) (held_at course)) course reached
-    went = next_told s p worker course after e kept has
+      value : WorldValue
+      value = scheduler_with s (value_and_hands s n p r)
 
-    rest : LeavesRest p.world e (step p.world worker e p.now).0
-    rest = step_leaves_rest p.world worker e p.now
+  -- all items of a play are within what all scripts are charged
+  within : (cs : List (WorkerCourse Worker Event Reply)) → length cs ≡ length r.courses
+      → ((w : ℕ) (c : WorkerCourse Worker Event Reply) → slice_get cs w ≡ Some c → c.items ≤ budget_of s w) → items_of cs ≤ greatest_rounds
+  within cs many each =
+      let same : 0 + length cs ≡ length (sched_means s).owns = omega (arith, many, (play_counted (sched_means s) (list_of s.scripts) (is_lawful s) (orders s) r.legal).workers) in
+      omega (
+        arith,
+        items_within (budget_of s) 0 cs (λ w c at. (let first : w ≡ 0 + w = omega arith in subst (λ i. c.items ≤ budget_of s i) first (each w c at))),
+        ap (budgets (budget_of s)) same,
+        (is_lawful s).small.small,
+      )
 
-    made : IsWellMadeWorld (step p.world worker e p.now).0
-    made = step_is_made p.world worker e p.now kept.made can
+  pub items_few : n ≤ greatest_rounds
+  items_few = subst (λ k. k ≤ greatest_rounds) r.items (within r.courses refl (λ w c at. in_budget (sched_means s) (list_of s.scripts) (is_lawful s) (orders s) r.legal w c at))
 
-    bounds : KeepsRecords (step p.world worker e p.now).0
-    bounds = step_bounds p.world worker e p.now kept.made can (subst HasSlice (sym kept.settings) (setup_slice s)) kept.bounds
+-- ---- a worker's next item
 
--- each turn keeps a play under way
-pub under_way_turn : (s : Setup) (p : Play) (worker : ℕ) → IsUnderWay s p → IsUnderWay s (turn p worker)
-under_way_turn s p worker kept = turn_cases (IsUnderWay s) p worker (λ finished. kept) goes
-  where
-    goes : (course after : Course) (i : Item) → slice_get p.courses worker ≡ Some course → next_step course ≡ Some (i, after) → IsUnderWay s (after_item worker i after p)
-    goes course after (item.Advance k) got next = under_way_advanced s p worker k course after kept got next
-    goes course after (item.Event e) got next =
-        cond_both (is_ready p.world worker e) (performed worker e after p) p (IsUnderWay s)
-        (λ ready. under_way_performed s p worker e course after kept got next ready) (λ lost. kept)
+module _ (s : Setup) (n : ℕ) (p : Play) (r : IsPlayed s n p) (w : ℕ) (course : Course) (got : slice_get p.courses w ≡ Some course) where
+  -- the worker goes on to its next item
+  pub settled : IsSettled s n p r.courses w
+  settled = let c = there_is s n p r w (there p.courses w course got) in settles s n p r w c.0 c.1
+
+  module _ (i : Item) (after : Course) (next : next_step course ≡ Some (i, after)) where
+    abbrev c : WorkerCourse Worker Event Reply
+    c = settled.now_at
+
+    item_is : c.standing ≡ standing.has (todo_item i)
+    item_is = (has_item s n p r.courses w settled course after i got next).0
+
+    is_course : IsCourse (sched_means s) (list_of s.scripts) settled.played.history w c
+    is_course = all_are_courses (sched_means s) (list_of s.scripts) (is_lawful s) (orders s) settled.played.legal w c settled.found
+
+    -- an item more is within its budget
+    one_more : c.items + 1 ≤ budget_of s w
+    one_more = omega (
+      arith,
+      is_course.count,
+      (orders s).charged w,
+      ap (left_at c.own.program) item_is,
+      item_left_at c.own.program i (subst (IsItem c.own.program) item_is is_course.stands.1),
+    )
+
+    -- so a worker with a further item leaves room for it
+    pub item_left : n + 1 ≤ greatest_rounds
+    item_left = omega (
+      arith,
+      within s n p settled.played (set settled.played.courses w more) (length-set settled.played.courses w more) each,
+      sum_set (λ (d : WorkerCourse Worker Event Reply). d.items) settled.played.courses w c more settled.found,
+      settled.played.items,
+    )
+      where
+        more : WorkerCourse Worker Event Reply
+        more = record c { items = c.items + 1 }
+
+        each : (v : ℕ) (d : WorkerCourse Worker Event Reply) → slice_get (set settled.played.courses w more) v ≡ Some d → d.items ≤ budget_of s v
+        each v d at = ⊎_elim
+            (λ (z : (v ≡ w) × (more ≡ d)). subst (λ u. d.items ≤ budget_of s u) (sym z.0) (subst (λ (b : WorkerCourse Worker Event Reply). b.items ≤ budget_of s w) z.1 one_more))
+            (λ (z : (v ≢ w) × (slice_get settled.played.courses v ≡ Some d)). in_budget (sched_means s) (list_of s.scripts) (is_lawful s) (orders s) settled.played.legal v d z.1)
+            (get_set settled.played.courses w v more d at)
+
+  module _ (e : Event) (after : Course) (next : next_step course ≡ Some (item.Event e, after)) (ready : is_ready p.world w e ≡ true) where
+    -- an event that is ready is possible
+    pub next_possible : IsPossible p.world w e p.now
+    next_possible = is_possible s n p w e course after got next ready r.courses settled
+
+    -- the program that gave it can hear the reply
+    pub next_hears : CanHear (Some ((step p.world w e p.now).1, p.now)) after.own
+    next_hears = hears_reply s n p w e course after got next ready r.courses settled
+
+    -- it is performed
+    pub next_performed : IsPlayed s (n + 1) (performed w e after p)
+    next_performed = performs_turn s n p w e course after got next ready r.courses settled
+
+  module _ (k : ℕ) (after : Course) (next : next_step course ≡ Some (item.Advance k, after)) where
+    -- time that goes on is at most a million ticks, and not none
+    pub advance_within : (1 ≤ k) × (k ≤ 1000000)
+    advance_within = advances_little (sched_means s) (list_of s.scripts) (is_lawful s) (orders s) settled.played.legal w settled.now_at settled.found k (item_is (item.Advance k) after next)
+
+    -- time goes on
+    pub next_advanced : IsPlayed s (n + 1) (after_item w (item.Advance k) after p)
+    next_advanced = advances_turn s n p r.courses w k settled course after got next

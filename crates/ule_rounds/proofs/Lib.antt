@@ -1,7 +1,6 @@
 pub mod ChargeLaws
 pub mod RoundsLaws
 pub mod Plays
-pub mod Forks
 pub mod Keeping
 pub mod Finishing
 pub mod RoundPlays

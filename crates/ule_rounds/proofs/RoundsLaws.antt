@@ -56,14 +56,6 @@ turn_count p worker =
 abbrev pub turns : ℕ → Play → Play
 turns n p = fold turn p (range_with_len 0 n)
 
--- a round is the turns of all workers
-pub round_is_turns : (p : Play) → round p ≡ turns (length p.courses) p
-round_is_turns p = refl
-
--- the turns of no workers change nothing
-pub turns_none : (p : Play) → turns 0 p ≡ p
-turns_none p = refl
-
 -- the numbers of some workers and one more are those numbers and then its number
 pub range_push : (n : ℕ) → range_with_len 0 (n + 1) ≡ range_with_len 0 n ++ n ∷ []
 range_push n =
@@ -85,11 +77,6 @@ turns_finished p ended [] = refl
 turns_finished p ended (w ∷ ws) = ap (λ q. fold turn q ws) (turn_finished p w (ended w)) ∙ turns_finished p ended ws
 
 -- ---- rounds
-
--- a round leaves as many courses as there were
-pub round_count : (p : Play) → length (round p).courses ≡ length p.courses
-round_count p =
-    turns_keep (λ q. length q.courses ≡ length p.courses) (λ q worker same. turn_count q worker ∙ same) (range_with_len 0 (length p.courses)) p refl
 
 -- a round of workers that are at their ends changes nothing
 pub round_finished : (p : Play) → ((worker : ℕ) → IsFinished p worker) → round p ≡ p

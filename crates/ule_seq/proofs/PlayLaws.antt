@@ -31,8 +31,10 @@ use Rattle.ule_model.specs.World.{World}
 use Rattle.ule_model.specs.WorldValue.{Shows, Steps, WorldValue, holder_in}
 use Rattle.ule_laws.proofs.TellLaws.{holder_shown}
 use Rattle.ule_rounds.proofs.HistoryLaws.{history_of_rounds}
-use Rattle.ule_rounds.proofs.Keeping.{IsUnderWay, advance_within, has_next, hears_reply, left_performed, possible, time_below, under_way_opening, under_way_turn}
-use Rattle.ule_rounds.proofs.Plays.{all_left, opening_count, opening_is}
+use Rattle.ule_rounds.proofs.Finishing.{turn_goes}
+use Rattle.ule_rounds.proofs.Keeping.{advance_within, item_left, next_hears, next_possible}
+use Rattle.ule_rounds.proofs.Plays.{opening_count, opening_is}
+use Rattle.ule_rounds.proofs.RoundPlays.{IsPlayed, played_opening, time_below}
 use Rattle.ule_members.proofs.Lists.{drop_at, slice_get-set_other, slice_get-set_same}
 use Rattle.ule_seq.specs.Outcomes.{HasFinals, HasLines, IsOutcomeOf}
 use Rattle.ule_seq.specs.Playing.{AreAhead, CanPerform, GoesOn, HaveGoneOn, IsAdvanced, IsAttempted, IsOpening, IsPerformed, IsPlay, IsReached, PlayerValue, comes_next, course_at, goes_on, later_step, opens, script_of, waiting}
@@ -146,13 +148,13 @@ pub reached_keeps : (s : Setup) (I : Play → Type 0) → I (opening s) → ((q 
 reached_keeps s I first step p (opens) = first
 reached_keeps s I first step p (goes_on q worker reached) = step q worker (reached_keeps s I first step q reached)
 
--- each play that is reached is under way
-pub reached_kept : (s : Setup) (p : Play) → IsReached s p → IsUnderWay s p
-reached_kept s = reached_keeps s (IsUnderWay s) (under_way_opening s) (under_way_turn s)
+-- each play that is reached is a legal play of values
+pub reached_played : (s : Setup) (p : Play) → IsReached s p → (n : ℕ) × IsPlayed s n p
+reached_played s = reached_keeps s (λ p. (n : ℕ) × IsPlayed s n p) (0, played_opening s) (λ p worker r. (let went = turn_goes s r.0 p worker r.1 in (went.0.items, went.0.played)))
 
 -- a play has as many courses as the setup has CPUs
 pub play_count : (s : Setup) (v : PlayerValue) (p : Play) → IsPlay s v p → length p.courses ≡ s.cpus
-play_count s v p play = (reached_kept s p play.reached).workers
+play_count s v p play = (reached_played s p play.reached).1.workers
 
 -- a player has a course for each worker
 pub courses_count : (s : Setup) (v : PlayerValue) (p : Play) → IsPlay s v p → length v.courses ≡ s.cpus
@@ -251,10 +253,6 @@ turn_found s v p worker i play found = at_course (slice_get v.courses worker) re
           next = ahead.2 ∙ ap (option_map (λ j. (j, course_at s worker c None))) is;
         }
 
--- the play at a turn is under way
-pub turn_kept : (s : Setup) (v : PlayerValue) (p : Play) (worker : ℕ) (i : Item) → IsAtTurn s v p worker i → IsUnderWay s p
-turn_kept s v p worker i at = reached_kept s p at.play.reached
-
 -- where the worker stands once the item is given
 abbrev pub given_course : Setup → ℕ → Course → program.Course
 given_course s worker c = course_at s worker c None
@@ -263,10 +261,8 @@ given_course s worker c = course_at s worker c None
 pub turn_possible : (s : Setup) (v : PlayerValue) (p : Play) (worker : ℕ) (e : Event) → IsAtTurn s v p worker (item.Event e) →
     is_ready p.world worker e ≡ true → IsPossible p.world worker e v.now
 turn_possible s v p worker e at ready =
-    let kept = turn_kept s v p worker (item.Event e) at in
-    let after = given_course s worker at.course in
-    let has = has_next s p worker at.stands after e kept at.at at.next in
-    subst (IsPossible p.world worker e) at.play.now (possible s p worker at.stands after e kept has ready)
+    let r = reached_played s p at.play.reached in
+    subst (IsPossible p.world worker e) at.play.now (next_possible s r.0 p r.1 worker at.stands at.at e (given_course s worker at.course) at.next ready)
 
 -- a player that finds an event ready can perform it
 pub can_attempt : (s : Setup) (v : PlayerValue) (p : Play) (worker : ℕ) (e : Event) → IsAtTurn s v p worker (item.Event e) →
@@ -274,30 +270,30 @@ pub can_attempt : (s : Setup) (v : PlayerValue) (p : Play) (worker : ℕ) (e : E
 can_attempt s v p worker e at found = record {
   world = p.world;
   shows = at.play.world;
-  possible = turn_possible s v p worker e at
-      (yes_is_own worker (option_and_then (holder_of p.world.members) (sought_by e)) (sym (ready_shown v.world p.world worker e at.play.world) ∙ found));
+  possible = turn_possible s v p worker e at ready;
   hears = λ c got.
       subst (λ (x : Course). CanHear (Some ((step p.world worker e v.now).1, v.now)) x.program) (same_Some at.course c (sym at.got ∙ got))
       (subst (λ n. CanHear (Some ((step p.world worker e n).1, n)) at.course.program) at.play.now
-      (hears_reply s p worker at.stands (given_course s worker at.course) e (turn_kept s v p worker (item.Event e) at) at.at at.next));
+      (next_hears s played.0 p played.1 worker at.stands at.at e (given_course s worker at.course) at.next ready));
 }
+  where
+    ready : is_ready p.world worker e ≡ true
+    ready = yes_is_own worker (option_and_then (holder_of p.world.members) (sought_by e)) (sym (ready_shown v.world p.world worker e at.play.world) ∙ found)
+
+    played : (n : ℕ) × IsPlayed s n p
+    played = reached_played s p at.play.reached
 
 -- a player has room for the entry of an event
 pub has_room : (s : Setup) (v : PlayerValue) (p : Play) (worker : ℕ) (e : Event) → IsAtTurn s v p worker (item.Event e) → 0 < v.outcome.room
-has_room s v p worker e at = omega (arith, kept.count, left_among, at.play.room, ap (λ (es : List Entry). length es) at.play.entries)
-  where
-    kept : IsUnderWay s p
-    kept = turn_kept s v p worker (item.Event e) at
-
-    left_among : all_left s.cpus (performed worker e (given_course s worker at.course) p).courses + 1 ≤ all_left s.cpus p.courses
-    left_among = left_performed s p worker e at.stands (given_course s worker at.course) kept at.at at.next
+has_room s v p worker e at =
+    let r = reached_played s p at.play.reached in
+    omega (arith, r.1.few, item_left s r.0 p r.1 worker at.stands at.at (item.Event e) (given_course s worker at.course) at.next, at.play.room, ap (λ (es : List Entry). length es) at.play.entries)
 
 -- time stays within its type
 pub advance_fits : (s : Setup) (v : PlayerValue) (p : Play) (worker k : ℕ) → IsAtTurn s v p worker (item.Advance k) → v.now + k < 2 ^ 64
 advance_fits s v p worker k at =
-    let kept = turn_kept s v p worker (item.Advance k) at in
-    let within = advance_within s p worker k at.stands (given_course s worker at.course) kept at.at at.next in
-    omega (arith, at.play.now, time_below s p kept, within.1)
+    let r = reached_played s p at.play.reached in
+    omega (arith, at.play.now, time_below s r.0 p r.1, (advance_within s r.0 p r.1 worker at.stands at.at k (given_course s worker at.course) at.next).1)
 
 -- a worker's course is found at its number
 pub course_found : (before old : PlayerValue) (worker i : ℕ) (course : Course) → before ≡ old → i ≡ worker → worker < length old.courses → course ≡ get_or before.courses i course →

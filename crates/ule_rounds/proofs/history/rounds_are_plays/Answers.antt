@@ -1,5 +1,5 @@
-use Rattle.ule_rounds.proofs.RoundPlays as plays
+use Rattle.ule_rounds.proofs.HistoryLaws.{rounds_are_plays}
 use Rattle.ule_rounds.proofs.history.rounds_are_plays.Goals as goal
 
 pub returns : goal.returns
-returns c = plays.rounds_are_plays
+returns c = rounds_are_plays

@@ -12,7 +12,8 @@ use Rattle.ule_model.specs.Start.{world_at_start}
 use Rattle.ule_model.specs.World.{Member}
 use Rattle.ule_members.proofs.Unborn.{HasForks, IsStillUnborn, setup_forks, start_unborn}
 use Rattle.ule_courses.proofs.Courses.{forks_ahead}
-use Rattle.ule_rounds.proofs.Plays.{each_after_set, opening_is}
+use Rattle.ule_rounds.proofs.Plays.{opening_is}
+use Rattle.ule_check.proofs.Openings.{each_after_set}
 
 -- the threads that workers at these courses are still to fork are unborn among these threads; no course has one twice,
 -- and no two courses have one
