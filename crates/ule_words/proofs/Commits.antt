@@ -184,6 +184,7 @@ module _ {H O G E R C : Type 0} (m : Means H O G E R C) where
         each = r.budget.each;
         now = r.budget.now;
         items = let a = r.budget.items in let b = together_set r.allowances w p.allowance (p.allowance - 1) it.left in let d = can.left in omega arith;
+        amounts = r.budget.amounts;
       };
     }
 

@@ -125,6 +125,7 @@ module _ {H O G E R C : Type 0} (m : Means H O G E R C) where
       makers = λ j x e. let a = makers j x e in let b = back.count in omega arith;
       once = λ n low high. in_one_list st.history n low (let a = r.agrees.ticket in omega arith);
       items = let a = left_over in let b = r.budget.items in omega arith;
+      amounts = r.budget.amounts;
     }
 
     slots_are : (slots : List (Option G)) → length t.homes ≡ length slots → ((k : ℕ) (y : Option G) → get_elem? t.homes k ≡ some (some y) → get_elem? slots k ≡ some y) → slots ≡ map (λ v. Some v) st.values

@@ -135,6 +135,7 @@ module _ {H O G E R C : Type 0} (m : Means H O G E R C) where
         each = λ j k e. absurd (none-some k e);
         now = refl;
         items = let a = first_budgets 0 m.owns in let b = law.small.small in let c = ap (budgets m.budget) (let y : 0 + length m.owns ≡ length m.owns = omega arith in y) in let d : budgets m.budget 0 ≡ 0 = refl in omega arith;
+        amounts = length-map m.owns (λ own. 0);
       };
     }
 

@@ -1,5 +1,5 @@
 -- What each step on the word of now keeps.
-use Rattle.std.proofs.Common.{◌≡◌, ℕ, zero, suc, ◌+◌, ◌-◌, ◌<◌, ◌≤◌, ◌%◌, ◌^◌, List, ◌∷◌, set, refl, sym, ap, ◌∙◌, subst, arith, true≢false, get_or, mod-eq_of_lt}
+use Rattle.std.proofs.Common.{◌≡◌, ℕ, zero, suc, ◌+◌, ◌-◌, ◌<◌, ◌≤◌, ◌%◌, ◌^◌, List, ◌∷◌, set, refl, sym, ap, ◌∙◌, subst, arith, true≢false, get_or, length-set, mod-eq_of_lt}
 use Rattle.std.specs.Prelude.{Option, Some, None, slice_get}
 use Rattle.std.proofs.lemmas.Option.{same_Some}
 use mathlib.Core.Option.{some}
@@ -104,7 +104,7 @@ module _ {H O G E R C : Type 0} (m : Means H O G E R C) (s : State (Option G) (V
           left = o.left;
         });
     advances = r.advances;
-    budget = record { each = r.budget.each; now = r.budget.now; items = r.budget.items };
+    budget = record { each = r.budget.each; now = r.budget.now; items = r.budget.items; amounts = r.budget.amounts };
   }
 
   reads_now : Shows m (reading (timed p n))
@@ -148,6 +148,7 @@ module _ {H O G E R C : Type 0} (m : Means H O G E R C) (s : State (Option G) (V
       each = each_more j r.advances (least, few) r.budget.each;
       now = let a = r.budget.now in omega arith;
       items = let a = r.budget.items in let b = together_set r.allowances w p.allowance less it.left in omega arith;
+      amounts = length-set st.advanced w (p.advanced + j) ∙ r.budget.amounts;
     };
   }
 

@@ -97,7 +97,7 @@ module _ {H O G E R C : Type 0} (m : Means H O G E R C) where
             left = o.left;
           });
       advances = r.advances;
-      budget = record { each = r.budget.each; now = r.budget.now; items = r.budget.items };
+      budget = record { each = r.budget.each; now = r.budget.now; items = r.budget.items; amounts = r.budget.amounts };
     }
 
     released : (l : ℕ) (v : G) (c : List (ℕ × Option G)) → value_held p.held l ≡ Some v → p.pending ≡ None → Shows m (stepped s l 0 id ((l, Some v) ∷ c) (one (releasing p l)) gives)
@@ -143,7 +143,7 @@ module _ {H O G E R C : Type 0} (m : Means H O G E R C) where
                 left = o.left;
               });
           advances = r.advances;
-          budget = record { each = r.budget.each; now = r.budget.now; items = r.budget.items };
+          budget = record { each = r.budget.each; now = r.budget.now; items = r.budget.items; amounts = r.budget.amounts };
         }
 
     -- the pending change of a thread's word was stored
@@ -167,7 +167,7 @@ module _ {H O G E R C : Type 0} (m : Means H O G E R C) where
             left = o.left;
           });
       advances = r.advances;
-      budget = record { each = r.budget.each; now = r.budget.now; items = r.budget.items };
+      budget = record { each = r.budget.each; now = r.budget.now; items = r.budget.items; amounts = r.budget.amounts };
     }
 
   -- a thread's word may be read

@@ -77,6 +77,8 @@ module _ {H O G E R C : Type 0} (m : Means H O G E R C) where
     pub once : (n : ℕ) → 0 < n → n ≤ s.ticket → IsInOneList s.history n
     -- the entries and the allowances that are left are together no more than the budgets
     pub items : together (map (λ p. p.worker.allowance) passes) + s.ticket ≤ budgets m.budget (length m.owns)
+    -- what was advanced is kept of each worker
+    pub amounts : length s.advanced ≡ length m.owns
 
   -- told: the end that the passes leave was told
   pub record Told {X : Type 0} (n : Notes X G E R) (passes : List (PassState O H G E R)) (x y : X) : Type 0 where

@@ -44,11 +44,13 @@ module _ {H G E R : Type 0} where
     pub home : (l : ℕ) (v : G) → slice_get s.values l ≡ Some v → IsKept (get_elem? homes l) v (s.locks l)
 
 module _ {H O G E R C : Type 0} (m : Means H O G E R C) where
-  -- keeps budget: now is the start and all advances, each by 1 to 1,000,000; the entries, the advances and the allowances that are left are together no more than the workers' budgets
+  -- keeps budget: now is the start and all advances, each by 1 to 1,000,000; the entries, the advances and the allowances that are left are together no more than the workers' budgets;
+  -- what was advanced is kept of each worker
   pub record KeepsBudget (s : Shared H G E R) (allowances advances : List ℕ) : Type 0 where
     pub each : (j k : ℕ) → slice_get advances j ≡ Some k → (1 ≤ k) × (k ≤ 1000000)
     pub now : s.now ≡ 20000 + together advances
     pub items : together allowances + s.ticket + length advances ≤ budgets m.budget (length m.owns)
+    pub amounts : length s.advanced ≡ length m.owns
 
   -- is worker: a worker that there is, with what it knows and the allowance that it has left
   pub record IsWorker (s : Shared H G E R) (allowances : List ℕ) (p : Worker H G E R) : Type 0 where

@@ -2,6 +2,7 @@
 //! workers that run at once perform the events of their programs in atomic steps.
 #![tactic(auto)]
 
+mod asking;
 mod close;
 mod holding;
 pub mod laws;
