@@ -17,13 +17,13 @@ use Rattle.ule_scenario.specs.Front.{FrontSoFar, IsFrontReadAs, after_front, fro
 use Rattle.ule_scenario.specs.Reading.{Reading as ScenarioReading}
 use Rattle.ule_scenario.specs.Scenario.{IsFaultFor, Spells as SpellsSetup, read_bytes as read_scenario}
 use Rattle.ule_scenario.specs.declared.reason.Refusal.{Refusal}
-use Rattle.ule_top.proofs.InputLaws.{answers_setup, answers_unread, had_as_told}
-use Rattle.ule_top.specs.Check.{Checks, HasChecked, HasDenied, InputGave, IsInput, TellsFault, bad, check_intake, check_told}
+use Rattle.ule_task.proofs.InputLaws.{answers_setup, answers_unread, had_as_told}
+use Rattle.ule_top.specs.Check.{Checks, HasChecked, HasDenied, InputGave, IsInput, TellsFault, bad, check_due, check_intake, check_told}
 use Rattle.ule_top.specs.Check.{gave, illegal, input_limit, outcome_in, scenario_in, status_of, told, trace_in, trace_told, verdict_told}
-use Rattle.ule_top.specs.Input.{Gave, GivesSetup, HasAnswered, IsToldAs, IsUnread, Reads, RefusesLonger, Tells, Told, unmade, written}
+use Rattle.ule_task.specs.Input.{Gave, GivesSetup, HasAnswered, IsToldAs, IsUnread, Reads, RefusesLonger, Tells, Told, the_one, unmade, written}
 use Rattle.ule_top.specs.VerdictLine.{bad_text, verdict_text}
-use Rattle.ule_top.specs.Writing.{HasWritten, Wrote}
-use Rattle.ule_top.specs.declared.input.Unread.{Unread}
+use Rattle.ule_task.specs.Writing.{HasWritten, Wrote}
+use Rattle.ule_task.specs.declared.input.Unread.{Unread}
 use Rattle.ule_trace.specs.Reading.{IsOutcomeOf, IsReadAs, Reading, Spells, read_bytes as read_trace}
 use Rattle.ule_trace.specs.declared.fault.TraceFault.{TraceFault}
 use Rattle.ule_trace.specs.declared.fault.TraceFault.TheVariants.{Bad, Memory}
@@ -146,8 +146,15 @@ spelled_same s text r o read spells =
 
 -- ---- the answer
 
+-- what is due for a trace was told and written
+told_so : (s0 s1 : SourceState) (k0 k1 : SinkState) (status : ℕ) (has : HasAnswered check_intake (the_one check_due) s0 s1 k0 k1 status) → status ≡ (check_due has.input has.setup).status
+told_so s0 s1 k0 k1 status has = has.told ∙ ap (λ (t : Told). t.status) has.due
+
+wrote_so : (s0 s1 : SourceState) (k0 k1 : SinkState) (status : ℕ) (has : HasAnswered check_intake (the_one check_due) s0 s1 k0 k1 status) → HasWritten k0 k1 (check_due has.input has.setup).text
+wrote_so s0 s1 k0 k1 status has = subst (λ (t : Told). HasWritten k0 k1 t.text) has.due has.wrote
+
 -- where 0 tells what is due for a trace, the trace is of a whole legal history
-checked_if : (s0 s1 : SourceState) (k0 k1 : SinkState) (has : HasAnswered check_intake s0 s1 k0 k1 0) (t : Result Reading ℕ) → read_trace (trace_in has.input) ≡ t →
+checked_if : (s0 s1 : SourceState) (k0 k1 : SinkState) (has : HasAnswered check_intake (the_one check_due) s0 s1 k0 k1 0) (t : Result Reading ℕ) → read_trace (trace_in has.input) ≡ t →
     0 ≡ (trace_told has.setup t).status →
     HasWritten k0 k1 (trace_told has.setup t).text → HasChecked s0 s1 k0 k1
 checked_if s0 s1 k0 k1 has (Err line) read zero wrote = absurd (omega arith)
@@ -164,7 +171,7 @@ checked_if s0 s1 k0 k1 has (Ok r) read zero wrote =
     }
 
 -- where 6 tells what is due for a text, it is not the trace of a whole legal history
-denied_if : (s0 s1 : SourceState) (k0 k1 : SinkState) (has : HasAnswered check_intake s0 s1 k0 k1 6) (t : Result Reading ℕ) → read_trace (trace_in has.input) ≡ t →
+denied_if : (s0 s1 : SourceState) (k0 k1 : SinkState) (has : HasAnswered check_intake (the_one check_due) s0 s1 k0 k1 6) (t : Result Reading ℕ) → read_trace (trace_in has.input) ≡ t →
     6 ≡ (trace_told has.setup t).status →
     HasWritten k0 k1 (trace_told has.setup t).text → HasDenied s0 s1 k0 k1
 denied_if s0 s1 k0 k1 has (Err line) read six wrote = record {
@@ -190,28 +197,28 @@ denied_if s0 s1 k0 k1 has (Ok r) read six wrote =
     }
 
 -- where what is due was done, the headline holds, or the trace was denied
-has_checked : (s0 s1 : SourceState) (k0 k1 : SinkState) (status : ℕ) → status ≡ 0 → HasAnswered check_intake s0 s1 k0 k1 status → HasChecked s0 s1 k0 k1
+has_checked : (s0 s1 : SourceState) (k0 k1 : SinkState) (status : ℕ) → status ≡ 0 → HasAnswered check_intake (the_one check_due) s0 s1 k0 k1 status → HasChecked s0 s1 k0 k1
 has_checked s0 s1 k0 k1 status is has =
-    let at : HasAnswered check_intake s0 s1 k0 k1 0 = subst (HasAnswered check_intake s0 s1 k0 k1) is has in
-    checked_if s0 s1 k0 k1 at (read_trace (trace_in at.input)) refl at.told at.wrote
+    let at : HasAnswered check_intake (the_one check_due) s0 s1 k0 k1 0 = subst (HasAnswered check_intake (the_one check_due) s0 s1 k0 k1) is has in
+    checked_if s0 s1 k0 k1 at (read_trace (trace_in at.input)) refl (told_so s0 s1 k0 k1 0 at) (wrote_so s0 s1 k0 k1 0 at)
 
-has_denied : (s0 s1 : SourceState) (k0 k1 : SinkState) (status : ℕ) → status ≡ 6 → HasAnswered check_intake s0 s1 k0 k1 status → HasDenied s0 s1 k0 k1
+has_denied : (s0 s1 : SourceState) (k0 k1 : SinkState) (status : ℕ) → status ≡ 6 → HasAnswered check_intake (the_one check_due) s0 s1 k0 k1 status → HasDenied s0 s1 k0 k1
 has_denied s0 s1 k0 k1 status is has =
-    let at : HasAnswered check_intake s0 s1 k0 k1 6 = subst (HasAnswered check_intake s0 s1 k0 k1) is has in
-    denied_if s0 s1 k0 k1 at (read_trace (trace_in at.input)) refl at.told at.wrote
+    let at : HasAnswered check_intake (the_one check_due) s0 s1 k0 k1 6 = subst (HasAnswered check_intake (the_one check_due) s0 s1 k0 k1) is has in
+    denied_if s0 s1 k0 k1 at (read_trace (trace_in at.input)) refl (told_so s0 s1 k0 k1 6 at) (wrote_so s0 s1 k0 k1 6 at)
 
 -- a status above 5 is that of the text that is due
-below_seven : (s0 s1 : SourceState) (k0 k1 : SinkState) (status : ℕ) → (5 < status → HasAnswered check_intake s0 s1 k0 k1 status) → status < 7
+below_seven : (s0 s1 : SourceState) (k0 k1 : SinkState) (status : ℕ) → (5 < status → HasAnswered check_intake (the_one check_due) s0 s1 k0 k1 status) → status < 7
 below_seven s0 s1 k0 k1 status above = cases (nat_lt 5 status) refl
   where
     cases : (b : Bool) → nat_lt 5 status ≡ b → status < 7
     cases false small = omega (arith, ltb-false 5 status small)
     cases true great =
         let has = above (ltb-true 5 status great) in
-        omega (arith, has.told, told_small has.setup (read_trace (trace_in has.input)))
+        omega (arith, told_so s0 s1 k0 k1 status has, told_small has.setup (read_trace (trace_in has.input)))
 
 -- what reads so and judges is `check`
-checks_if_reads : (s0 s1 : SourceState) (k0 k1 : SinkState) (status : ℕ) → Reads check_intake s0 s1 k0 k1 status → Checks s0 s1 k0 k1 status
+checks_if_reads : (s0 s1 : SourceState) (k0 k1 : SinkState) (status : ℕ) → Reads check_intake (the_one check_due) s0 s1 k0 k1 status → Checks s0 s1 k0 k1 status
 checks_if_reads s0 s1 k0 k1 status reads = record {
   known = below_seven s0 s1 k0 k1 status (λ above. reads.answered (inr above));
   done = λ is. has_checked s0 s1 k0 k1 status is (reads.answered (inl (omega arith)));
@@ -222,19 +229,19 @@ checks_if_reads s0 s1 k0 k1 status reads = record {
 -- what an input comes to is `check`
 pub checks_input : (s0 s1 : SourceState) (k0 k1 : SinkState) (status : ℕ) (input : List ℕ) → IsInput s0 s1 (Ok input) → InputGave input k0 k1 status → Checks s0 s1 k0 k1 status
 checks_input s0 s1 k0 k1 status input has (gave s gives came) =
-    checks_if_reads s0 s1 k0 k1 status (answers_setup check_intake s0 s1 k0 k1 status input s (told_known s (read_trace (trace_in input))) has gives came)
+    checks_if_reads s0 s1 k0 k1 status (answers_setup check_intake (the_one check_due) s0 s1 k0 k1 status input s (check_due input s) (told_known s (read_trace (trace_in input))) has gives refl came)
 checks_input s0 s1 k0 k1 status input has (told why is tells) =
-    checks_if_reads s0 s1 k0 k1 status (answers_unread check_intake s0 s1 k0 k1 status why refuses_longer (had_as_told check_intake s0 s1 input (Err why) has is) tells)
+    checks_if_reads s0 s1 k0 k1 status (answers_unread check_intake (the_one check_due) s0 s1 k0 k1 status why refuses_longer (had_as_told check_intake s0 s1 input (Err why) has is) tells)
 
 -- what reading no input and telling why come to is `check`
 pub checks_unread : (s0 s1 : SourceState) (k0 k1 : SinkState) (status : ℕ) (why : Unread) → IsUnread check_intake s0 s1 why → Tells why k0 k1 status → Checks s0 s1 k0 k1 status
-checks_unread s0 s1 k0 k1 status why is tells = checks_if_reads s0 s1 k0 k1 status (answers_unread check_intake s0 s1 k0 k1 status why refuses_longer is tells)
+checks_unread s0 s1 k0 k1 status why is tells = checks_if_reads s0 s1 k0 k1 status (answers_unread check_intake (the_one check_due) s0 s1 k0 k1 status why refuses_longer is tells)
 
 -- 1 is no status of `check`
 pub check_is_known : (s0 s1 : SourceState) (k0 k1 : SinkState) (status : ℕ) → Checks s0 s1 k0 k1 status → status ≡ 1 → ⊥
 check_is_known s0 s1 k0 k1 status checks is =
     let has = checks.reads.answered (inl (omega arith)) in
-    one_unknown has.setup (read_trace (trace_in has.input)) (sym is ∙ has.told)
+    one_unknown has.setup (read_trace (trace_in has.input)) (sym is ∙ told_so s0 s1 k0 k1 status has)
 
 -- ---- the parts
 

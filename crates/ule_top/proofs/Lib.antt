@@ -1,6 +1,4 @@
 pub mod TaskLaws
-pub mod WritingLaws
-pub mod InputLaws
 pub mod MakingLaws
 pub mod RunLaws
 pub mod WeaveLaws

@@ -4,9 +4,9 @@ use Rattle.std.specs.Prelude.{IfOk}
 use Rattle.ule_gen.specs.Made.{IsMade}
 use Rattle.ule_io.specs.Sink.{SinkState}
 use Rattle.ule_io.specs.Source.{SourceState}
-use Rattle.ule_top.proofs.WritingLaws.{has_written, took_front}
+use Rattle.ule_task.proofs.WritingLaws.{has_written, took_front}
 use Rattle.ule_top.specs.Making.{IsOfMade, Makes, WroteMade, unmade, written}
-use Rattle.ule_top.specs.Writing.{Wrote}
+use Rattle.ule_task.specs.Writing.{Wrote}
 use Rattle.ule_top.specs.Summary.{IsMadeAndPlayed, line_of, summary_text}
 use Rattle.ule_seq.specs.Outcomes.{IsOutcomeOf}
 use Rattle.ule_io.specs.declared.Memory.{Memory}

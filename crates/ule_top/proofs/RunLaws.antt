@@ -1,10 +1,8 @@
 -- What `run` comes to, from what reading and writing come to.
-use Rattle.std.proofs.Common.{◌≡◌, ◌<◌, ℕ, ◌+◌, ◌%◌, Bool, true, false, List, [], ◌∷◌, length, Option, Some, None, Ok, inl, inr, refl, sym, ap, subst, arith}
+use Rattle.std.proofs.Common.{◌≡◌, ℕ, ◌+◌, ◌%◌, List, [], ◌∷◌, Option, Some, None, Ok, inl, refl, sym, ap, subst, arith}
 use Rattle.std.specs.List.{AllByRecursion, cons_option, filter_map, range_with_len}
 use Rattle.std.specs.Option.{option_map}
-use Rattle.std.specs.Prelude.{nat_lt}
-use Rattle.std.proofs.lemmas.Bool.{lt-ltb, ltb-false, ltb-true}
-use Rattle.ule_io.specs.Sink.{SinkState}
+use Rattle.ule_io.specs.Sink.{Appends, SinkState}
 use Rattle.ule_io.specs.Source.{SourceState}
 use Rattle.ule_members.proofs.Membership.{all_has, has_thread_of}
 use Rattle.ule_model.specs.Ends.{outcome_of}
@@ -17,10 +15,11 @@ use Rattle.ule_rounds.proofs.HistoryLaws.{history_of_rounds}
 use Rattle.ule_score.specs.declared.place.Place.{Place}
 use Rattle.ule_score.specs.declared.place.Place.TheVariants.{Running, Queued, Asleep, Unborn, Gone, Hand}
 use Rattle.ule_seq.specs.Outcomes.{IsOutcomeOf}
-use Rattle.ule_top.proofs.InputLaws.{answers_setup, answers_unread}
-use Rattle.ule_top.specs.Input.{Gave, HasAnswered, IsUnread, Reads, RefusesLonger, Tells, IsHad}
-use Rattle.ule_top.specs.Run.{HasRun, NamesItsLock, Runs, rounds_text, run_intake}
-use Rattle.ule_top.specs.declared.input.Unread.{Unread}
+use Rattle.ule_task.proofs.ScenarioLaws.{below_six, not_usage, reads_setup, reads_unread}
+use Rattle.ule_task.specs.Input.{Gave, HasAnswered, IsHad, IsUnread, Reads, Tells}
+use Rattle.ule_task.specs.Scenario.{one_text, scenario_intake}
+use Rattle.ule_top.specs.Run.{HasRun, NamesItsLock, Runs, rounds_text}
+use Rattle.ule_task.specs.declared.input.Unread.{Unread}
 use Rattle.ule_trace.specs.Trace.{trace_text}
 use Rattle.ule_types.specs.Outcome.{OutcomeValue}
 use Rattle.ule_types.specs.declared.setup.Setup.{Setup}
@@ -66,50 +65,37 @@ words_name s history =
 
 -- ---- the answer
 
--- a scenario above the limit is refused as too long
-refuses_longer : RefusesLonger run_intake
-refuses_longer input longer = rw (lt-ltb 1048576 (length input) longer) refl
-
--- where what is due was done, the headline holds
-has_run : (s0 s1 : SourceState) (k0 k1 : SinkState) (status : ℕ) → HasAnswered run_intake s0 s1 k0 k1 status → HasRun s0 s1 k0 k1
+-- where the text that is due was written, the headline holds
+has_run : (s0 s1 : SourceState) (k0 k1 : SinkState) (status : ℕ) → HasAnswered scenario_intake (one_text rounds_text) s0 s1 k0 k1 status → HasRun s0 s1 k0 k1
 has_run s0 s1 k0 k1 status has = record {
   input = has.input;
   setup = has.setup;
   read = has.read;
   spelled = record { reading = has.given.0; read = has.given.1; gives = has.given.2 };
-  written = has.wrote.written;
+  written = subst (λ (text : List ℕ). Appends k0.taken k1.taken text) has.due.1 has.wrote.written;
   flushed = has.wrote.flushed;
   one_flush = has.wrote.one_flush;
   history = history_of_rounds has.setup;
   words = words_name has.setup (history_of_rounds has.setup);
 }
 
--- a status above 5 would be that of the trace, which is 0
-below_six : (s0 s1 : SourceState) (k0 k1 : SinkState) (status : ℕ) → (5 < status → HasAnswered run_intake s0 s1 k0 k1 status) → status < 6
-below_six s0 s1 k0 k1 status above = cases (nat_lt 5 status) refl
-  where
-    cases : (b : Bool) → nat_lt 5 status ≡ b → status < 6
-    cases false small = omega (arith, ltb-false 5 status small)
-    cases true great = let more = ltb-true 5 status great in absurd (let told = (above more).told in omega arith)
-
 -- what reads so and plays in rounds is `run`
-runs_if_reads : (s0 s1 : SourceState) (k0 k1 : SinkState) (status : ℕ) → Reads run_intake s0 s1 k0 k1 status → Runs s0 s1 k0 k1 status
+runs_if_reads : (s0 s1 : SourceState) (k0 k1 : SinkState) (status : ℕ) → Reads scenario_intake (one_text rounds_text) s0 s1 k0 k1 status → Runs s0 s1 k0 k1 status
 runs_if_reads s0 s1 k0 k1 status reads = record {
-  known = below_six s0 s1 k0 k1 status (λ above. reads.answered (inr above));
+  known = below_six (λ s text. text ≡ rounds_text s) s0 s1 k0 k1 status reads;
   done = λ is. has_run s0 s1 k0 k1 status (reads.answered (inl (omega arith)));
   reads = reads;
 }
 
 -- what reading a setup and playing it come to is `run`
-pub runs_setup : (s0 s1 : SourceState) (k0 k1 : SinkState) (status : ℕ) (s : Setup) → IsHad run_intake s0 s1 (Ok s) →
+pub runs_setup : (s0 s1 : SourceState) (k0 k1 : SinkState) (status : ℕ) (s : Setup) → IsHad scenario_intake s0 s1 (Ok s) →
     Gave (record { status = 0; text = rounds_text s }) k0 k1 status → Runs s0 s1 k0 k1 status
-runs_setup s0 s1 k0 k1 status s had gave =
-    runs_if_reads s0 s1 k0 k1 status (answers_setup run_intake s0 s1 k0 k1 status had.0 s (inl (omega arith)) had.1 had.2 gave)
+runs_setup s0 s1 k0 k1 status s had gave = runs_if_reads s0 s1 k0 k1 status (reads_setup (λ x text. text ≡ rounds_text x) s0 s1 k0 k1 status s (rounds_text s) had refl gave)
 
 -- what reading no setup and telling why come to is `run`
-pub runs_unread : (s0 s1 : SourceState) (k0 k1 : SinkState) (status : ℕ) (why : Unread) → IsUnread run_intake s0 s1 why → Tells why k0 k1 status → Runs s0 s1 k0 k1 status
-runs_unread s0 s1 k0 k1 status why is told = runs_if_reads s0 s1 k0 k1 status (answers_unread run_intake s0 s1 k0 k1 status why refuses_longer is told)
+pub runs_unread : (s0 s1 : SourceState) (k0 k1 : SinkState) (status : ℕ) (why : Unread) → IsUnread scenario_intake s0 s1 why → Tells why k0 k1 status → Runs s0 s1 k0 k1 status
+runs_unread s0 s1 k0 k1 status why is told = runs_if_reads s0 s1 k0 k1 status (reads_unread (λ s text. text ≡ rounds_text s) s0 s1 k0 k1 status why is told)
 
 -- 1 is no status of `run`
 pub run_is_known : (s0 s1 : SourceState) (k0 k1 : SinkState) (status : ℕ) → Runs s0 s1 k0 k1 status → status ≡ 1 → ⊥
-run_is_known s0 s1 k0 k1 status runs is = let told = (runs.reads.answered (inl (omega arith))).told in omega arith
+run_is_known s0 s1 k0 k1 status runs is = not_usage (λ s text. text ≡ rounds_text s) s0 s1 k0 k1 status runs.reads is

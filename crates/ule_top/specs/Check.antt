@@ -11,10 +11,10 @@ use Rattle.ule_scenario.specs.Front.{front_length}
 use Rattle.ule_scenario.specs.Reading.{Reading as ScenarioReading}
 use Rattle.ule_scenario.specs.Scenario.{Spells as SpellsSetup, read_bytes as read_scenario, refused}
 use Rattle.ule_scenario.specs.declared.reason.Refusal.{Refusal}
-use Rattle.ule_top.specs.Input.{Gave, GivesSetup, HasInput, Intake, IsToldAs, IsUnread, Reads, Tells, Told}
-use Rattle.ule_top.specs.declared.input.Unread.{Unread}
+use Rattle.ule_task.specs.Input.{Gave, GivesSetup, HasInput, Intake, IsToldAs, IsUnread, Reads, Tells, Told, the_one}
+use Rattle.ule_task.specs.declared.input.Unread.{Unread}
 use Rattle.ule_top.specs.VerdictLine.{bad_text, verdict_text}
-use Rattle.ule_top.specs.Writing.{HasWritten, Wrote}
+use Rattle.ule_task.specs.Writing.{HasWritten, Wrote}
 use Rattle.ule_trace.specs.Reading.{Reading, Spells, read_bytes as read_trace}
 use Rattle.ule_trace.specs.declared.fault.TraceFault.{TraceFault}
 use Rattle.ule_trace.specs.declared.fault.TraceFault.TheVariants.{Bad, Memory}
@@ -54,13 +54,13 @@ abbrev pub trace_told : Setup → Result Reading ℕ → Told
 trace_told s (Ok r) = verdict_told (length r.entries) (judged s (outcome_in r))
 trace_told s (Err line) = record { status = 6; text = bad_text line }
 
--- the input begins with a scenario, and what is due for the trace behind it is the verdict
+-- the input begins with a scenario
 abbrev pub check_intake : Intake
-check_intake = record {
-  limit = input_limit;
-  told = λ input. check_told input;
-  due = λ input s. trace_told s (read_trace (trace_in input));
-}
+check_intake = record { limit = input_limit; told = λ input. check_told input }
+
+-- what is due for an input that gives a setup: the verdict on the trace behind its scenario
+abbrev pub check_due : List ℕ → Setup → Told
+check_due input s = trace_told s (read_trace (trace_in input))
 
 -- the headline for `check`: the whole input is a scenario and a trace right behind it; that trace is of a whole legal history of the scenario, and of
 -- its end; the line `legal` with the number of its entries was written and flushed
@@ -96,7 +96,7 @@ pub record Checks (s0 s1 : SourceState) (k0 k1 : SinkState) (status : ℕ) : Typ
   pub known : status < 7
   pub done : status ≡ 0 → HasChecked s0 s1 k0 k1
   pub denied : status ≡ 6 → HasDenied s0 s1 k0 k1
-  pub reads : Reads check_intake s0 s1 k0 k1 status
+  pub reads : Reads check_intake (the_one check_due) s0 s1 k0 k1 status
 
 -- ---- the parts of the answer
 
@@ -112,5 +112,5 @@ TellsFault Memory k0 k1 status = (status ≡ 5) × (k1 ≡ k0)
 
 -- what an input comes to: what is due for the setup that it gives was written, or it is told why there is none
 pub data InputGave (input : List ℕ) (k0 k1 : SinkState) (status : ℕ) : Type 0 where
-  gave : (s : Setup) → GivesSetup check_intake input s → Gave (check_intake.due input s) k0 k1 status → InputGave input k0 k1 status
+  gave : (s : Setup) → GivesSetup check_intake input s → Gave (check_due input s) k0 k1 status → InputGave input k0 k1 status
   told : (why : Unread) → IsToldAs (Err why) (check_told input) → Tells why k0 k1 status → InputGave input k0 k1 status

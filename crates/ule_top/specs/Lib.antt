@@ -1,6 +1,4 @@
 pub mod Tasks
-pub mod Writing
-pub mod Input
 pub mod Making
 pub mod Run
 pub mod Weave

@@ -3,7 +3,7 @@ use Rattle.std.specs.Prelude.{◌≡◌, ◌≢◌, ℕ, List, ◌⊎◌}
 use Rattle.ule_gen.specs.Made.{IsMade}
 use Rattle.ule_io.specs.Sink.{SinkState}
 use Rattle.ule_io.specs.Source.{SourceState}
-use Rattle.ule_top.specs.Writing.{HasWritten, TookFront, Wrote}
+use Rattle.ule_task.specs.Writing.{HasWritten, TookFront, Wrote}
 use Rattle.ule_types.specs.declared.setup.Setup.{Setup}
 
 -- a text is this one of the setup that a number makes

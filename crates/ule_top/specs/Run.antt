@@ -8,27 +8,16 @@ use Rattle.ule_model.specs.Ends.{outcome_of}
 use Rattle.ule_model.specs.History.{IsHistoryOf}
 use Rattle.ule_model.specs.Places.{lock_of}
 use Rattle.ule_model.specs.Rounds.{play_of}
-use Rattle.ule_scenario.specs.Scenario.{Spells, read_bytes}
-use Rattle.ule_top.specs.Input.{Intake, Reads}
+use Rattle.ule_scenario.specs.Scenario.{Spells}
+use Rattle.ule_task.specs.Input.{Reads}
+use Rattle.ule_task.specs.Scenario.{one_text, scenario_intake, scenario_limit}
 use Rattle.ule_trace.specs.Trace.{trace_text}
 use Rattle.ule_types.specs.declared.outcome.ThreadLine.{ThreadLine}
 use Rattle.ule_types.specs.declared.setup.Setup.{Setup}
 
--- the most bytes that a scenario may have
-abbrev pub scenario_limit : ℕ
-scenario_limit = 1048576
-
 -- the trace of a setup's history of rounds
 abbrev pub rounds_text : Setup → List ℕ
 rounds_text s = trace_text (outcome_of s s.scripts (play_of s).entries)
-
--- the input is a scenario, and its trace is due
-abbrev pub run_intake : Intake
-run_intake = record {
-  limit = scenario_limit;
-  told = λ input. read_bytes input;
-  due = λ input s. record { status = 0; text = rounds_text s };
-}
 
 -- a thread's word names the lock of its place, and there is one
 abbrev pub NamesItsLock : ThreadLine → Type 0
@@ -51,4 +40,4 @@ pub record HasRun (s0 s1 : SourceState) (k0 k1 : SinkState) : Type 0 where
 pub record Runs (s0 s1 : SourceState) (k0 k1 : SinkState) (status : ℕ) : Type 0 where
   pub known : status < 6
   pub done : status ≡ 0 → HasRun s0 s1 k0 k1
-  pub reads : Reads run_intake s0 s1 k0 k1 status
+  pub reads : Reads scenario_intake (one_text rounds_text) s0 s1 k0 k1 status

@@ -3,19 +3,11 @@ use Rattle.std.specs.Prelude.{◌≡◌, ℕ, ◌<◌, true, List}
 use Rattle.ule_io.specs.Counter.{one_more}
 use Rattle.ule_io.specs.Sink.{Appends, SinkState}
 use Rattle.ule_io.specs.Source.{ReadsWhole, SourceState}
-use Rattle.ule_scenario.specs.Scenario.{Spells, read_bytes}
-use Rattle.ule_top.specs.Input.{Intake, Reads}
-use Rattle.ule_top.specs.Run.{scenario_limit}
+use Rattle.ule_scenario.specs.Scenario.{Spells}
+use Rattle.ule_task.specs.Input.{Reads}
+use Rattle.ule_task.specs.Scenario.{one_text, scenario_intake, scenario_limit}
 use Rattle.ule_types.specs.declared.setup.Setup.{Setup}
 use Rattle.ule_weave.specs.WeaveText.{IsSoundThroughout, opened, weave_text}
-
--- the input is a scenario, and its weave text is due
-abbrev pub weave_intake : Intake
-weave_intake = record {
-  limit = scenario_limit;
-  told = λ input. read_bytes input;
-  due = λ input s. record { status = 0; text = weave_text s };
-}
 
 -- the headline for `weave`: the whole input spells a setup; its weave text was written and flushed; each state that its turns come to
 -- meets lock agreement, and has a history that the setup's scripts allow, through worlds that keep the calendar promise
@@ -33,4 +25,4 @@ pub record HasWoven (s0 s1 : SourceState) (k0 k1 : SinkState) : Type 0 where
 pub record Weaves (s0 s1 : SourceState) (k0 k1 : SinkState) (status : ℕ) : Type 0 where
   pub known : status < 6
   pub done : status ≡ 0 → HasWoven s0 s1 k0 k1
-  pub reads : Reads weave_intake s0 s1 k0 k1 status
+  pub reads : Reads scenario_intake (one_text weave_text) s0 s1 k0 k1 status

@@ -2,11 +2,11 @@
 ghost use Rattle.std.specs.Prelude.{◌≡◌, ◌≤◌, ◌≢◌, length};
 ghost use Rattle.ule_check.specs.Judged.{judged};
 ghost use Rattle.ule_top.specs.Check.{Checks, InputGave, IsInput, TellsFault, status_of, trace_told, verdict_told};
-ghost use Rattle.ule_top.specs.Input.{Gave};
+ghost use Rattle.ule_task.specs.Input.{Gave};
 ghost use Rattle.ule_trace.specs.Reading.{read_bytes};
 
-use crate::input::{TOO_LONG, Unread, tell, why_refused};
-use crate::output::{DONE, ILLEGAL, NO_MEMORY, finish};
+use ule_task::{TOO_LONG, Unread, tell, why_refused};
+use ule_task::{DONE, ILLEGAL, NO_MEMORY, finish};
 use crate::verdict_line::{write_bad, write_verdict};
 use std::alloc::Global;
 use ule_check::{Verdict, verdict};

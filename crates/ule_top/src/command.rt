@@ -2,7 +2,7 @@ ghost use Rattle.std.specs.Prelude.{map, string_bytes};
 ghost use Rattle.ule_top.specs.Answers.{Answers};
 
 use crate::check::check;
-use crate::output::USAGE;
+use ule_task::USAGE;
 use crate::plain::spell_made;
 use crate::rounds::run;
 use crate::summary::summarize;

@@ -8,8 +8,6 @@ pub use example::{lost_turn_is_traced, one_yield_is_traced};
 mod check;
 mod command;
 mod example;
-mod input;
-mod output;
 mod plain;
 mod rounds;
 mod summary;

@@ -3,7 +3,7 @@ ghost use Rattle.std.specs.Prelude.{◌≤◌};
 ghost use Rattle.ule_plain.specs.Text.{plain_text};
 ghost use Rattle.ule_top.specs.Making.{WroteMade};
 
-use crate::output::{DONE, NO_MEMORY, finish};
+use ule_task::{DONE, NO_MEMORY, finish};
 use std::alloc::Global;
 use ule_gen::make;
 use ule_io::Sink;

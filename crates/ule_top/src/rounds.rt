@@ -1,9 +1,9 @@
 // The task `run`: a scenario is played in rounds, and its trace is written.
-ghost use Rattle.ule_top.specs.Input.{Gave};
+ghost use Rattle.ule_task.specs.Input.{Gave};
 ghost use Rattle.ule_top.specs.Run.{Runs, rounds_text};
 
-use crate::input::{read_setup, tell};
-use crate::output::{DONE, NO_MEMORY, finish};
+use ule_task::{read_setup, tell};
+use ule_task::{DONE, NO_MEMORY, finish};
 use std::alloc::Global;
 use ule_io::{Sink, Source};
 use ule_seq::play;

@@ -1,11 +1,11 @@
 // The task `weave`: the turns of a scenario are made one after another, and what each did and left is
 // written.
-ghost use Rattle.ule_top.specs.Input.{Gave};
+ghost use Rattle.ule_task.specs.Input.{Gave};
 ghost use Rattle.ule_top.specs.Weave.{Weaves};
 ghost use Rattle.ule_weave.specs.WeaveText.{weave_text};
 
-use crate::input::{read_setup, tell};
-use crate::output::{DONE, NO_MEMORY, finish};
+use ule_task::{read_setup, tell};
+use ule_task::{DONE, NO_MEMORY, finish};
 use std::alloc::Global;
 use ule_io::{Sink, Source};
 use ule_types::Setup;

@@ -1,6 +1,6 @@
 use Rattle.std.proofs.Common.{inl, refl}
 use Rattle.ule_io.specs.declared.reading.ReadAllFault.TheVariants.{ReadFault, TooLong}
-use Rattle.ule_top.specs.Input.{too_long}
+use Rattle.ule_task.specs.Input.{too_long}
 use Rattle.ule_top.proofs.check.read_input.Goals as goal
 
 pub returns-in-Err-TooLong : goal.returns-in-Err-TooLong

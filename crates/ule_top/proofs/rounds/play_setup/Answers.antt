@@ -1,6 +1,6 @@
 use Rattle.std.proofs.Common.{ℕ, List, subst, refl}
-use Rattle.ule_top.specs.Input.{unmade, written}
-use Rattle.ule_top.specs.Writing.{Wrote}
+use Rattle.ule_task.specs.Input.{unmade, written}
+use Rattle.ule_task.specs.Writing.{Wrote}
 use Rattle.ule_top.proofs.RunLaws.{trace_of}
 use Rattle.ule_top.proofs.rounds.play_setup.Goals as goal
 

@@ -1,6 +1,6 @@
 use Rattle.std.proofs.Common.{ℕ, List, ◌∙◌, subst}
 use Rattle.ule_top.specs.Making.{written}
-use Rattle.ule_top.specs.Writing.{Wrote}
+use Rattle.ule_task.specs.Writing.{Wrote}
 use Rattle.ule_top.proofs.MakingLaws.{line_of_setup}
 use Rattle.ule_top.proofs.summary.summarize.Goals as goal
 

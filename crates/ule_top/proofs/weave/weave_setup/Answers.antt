@@ -1,5 +1,5 @@
 use Rattle.std.proofs.Common.{refl}
-use Rattle.ule_top.specs.Input.{unmade, written}
+use Rattle.ule_task.specs.Input.{unmade, written}
 use Rattle.ule_top.proofs.weave.weave_setup.Goals as goal
 
 pub returns-in-Ok : goal.returns-in-Ok

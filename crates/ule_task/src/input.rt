@@ -4,8 +4,8 @@ ghost use Rattle.ule_scenario.specs.ReaderKept.{HasRead};
 ghost use Rattle.ule_scenario.specs.Reading.{Reading};
 ghost use Rattle.ule_scenario.specs.Scenario.{IsFaultFor, read_bytes};
 ghost use Rattle.ule_scenario.specs.declared.reason.Refusal.{Refusal};
-ghost use Rattle.ule_top.specs.Input.{IsHad, IsToldAs, Tells, refusal_text};
-ghost use Rattle.ule_top.specs.Run.{run_intake};
+ghost use Rattle.ule_task.specs.Input.{IsHad, IsToldAs, Tells, refusal_text};
+ghost use Rattle.ule_task.specs.Scenario.{scenario_intake};
 
 use crate::output::{NO_MEMORY, READ_FAULT, REFUSED, finish};
 use std::alloc::Global;
@@ -66,7 +66,7 @@ fn read_so(reader: Reader) -> Result<Setup, Unread>
 /// The setup that the whole input spells, or why there is none. The input is read to its end, unless
 /// it is longer than a scenario may be: then it is refused, and one byte more than that was taken.
 pub fn read_setup<S: Source>(alloc: Global, src: &mut S) -> Result<Setup, Unread>
-    ensures { IsHad run_intake (S.state src.old) (S.state src.new) result }
+    ensures { IsHad scenario_intake (S.state src.old) (S.state src.new) result }
 {
     let Ok(mut reader) = Reader::start(alloc) else {
         return Err(Unread::Memory);

@@ -7,9 +7,9 @@ use Rattle.ule_io.specs.Source.{Gives, ReadsWhole, SourceState}
 use Rattle.ule_scenario.specs.Reading.{Reading}
 use Rattle.ule_scenario.specs.Scenario.{IsReadAs}
 use Rattle.ule_scenario.specs.declared.reason.Refusal.{Refusal}
-use Rattle.ule_top.specs.Writing.{HasWritten, TookFront, Wrote}
-use Rattle.ule_top.specs.declared.input.Unread.{Unread}
-use Rattle.ule_top.specs.declared.input.Unread.TheVariants.{ReadFault, Refused, Memory}
+use Rattle.ule_task.specs.Writing.{HasWritten, TookFront, Wrote}
+use Rattle.ule_task.specs.declared.input.Unread.{Unread}
+use Rattle.ule_task.specs.declared.input.Unread.TheVariants.{ReadFault, Refused, Memory}
 use Rattle.ule_types.specs.declared.setup.Setup.{Setup}
 
 -- ---- how a task reads
@@ -19,11 +19,14 @@ pub record Told : Type 0 where
   pub status : ℕ
   pub text : List ℕ
 
--- how a task reads: the most bytes of its input, what is told of an input, and what is due for one that gives a setup
+-- how a task reads: the most bytes of its input, and what is told of an input
 pub record Intake : Type 0 where
   pub limit : ℕ
   pub told : List ℕ → Result Reading Refusal
-  pub due : List ℕ → Setup → Told
+
+-- what is due for a setup that an input gives, where one text with its status is
+abbrev pub the_one : (List ℕ → Setup → Told) → List ℕ → Setup → Told → Type 0
+the_one told input s due = due ≡ told input s
 
 -- an input gives this setup
 abbrev pub GivesSetup : Intake → List ℕ → Setup → Type 0
@@ -68,30 +71,32 @@ pub record IsRefused (i : Intake) (s0 s1 : SourceState) (k0 k1 : SinkState) : Ty
   pub read : ReadRefused i s0 s1 refusal
   pub wrote : HasWritten k0 k1 (refusal_text refusal)
 
--- the text that is due: that of the setup that the whole input gives, or the line of the refusal of what was read
-pub data IsDue (i : Intake) (s0 s1 : SourceState) (text : List ℕ) : Type 0 where
-  text_due : (input : List ℕ) (s : Setup) → ReadsWhole s0 s1 i.limit input → GivesSetup i input s → text ≡ (i.due input s).text → IsDue i s0 s1 text
-  refusal_due : (x : Refusal) → ReadRefused i s0 s1 x → text ≡ refusal_text x → IsDue i s0 s1 text
+-- the text that is due: one of the setup that the whole input gives, or the line of the refusal of what was read
+pub data IsDue (i : Intake) (IsDueFor : List ℕ → Setup → Told → Type 0) (s0 s1 : SourceState) (text : List ℕ) : Type 0 where
+  text_due : (input : List ℕ) (s : Setup) (due : Told) → ReadsWhole s0 s1 i.limit input → GivesSetup i input s → IsDueFor input s due → text ≡ due.text → IsDue i IsDueFor s0 s1 text
+  refusal_due : (x : Refusal) → ReadRefused i s0 s1 x → text ≡ refusal_text x → IsDue i IsDueFor s0 s1 text
 
--- what is due was done: the whole input gives a setup, the text that is due for it was written and flushed, and this is its status
-pub record HasAnswered (i : Intake) (s0 s1 : SourceState) (k0 k1 : SinkState) (status : ℕ) : Type 0 where
+-- what is due was done: the whole input gives a setup, a text that is due for it was written and flushed, and this is its status
+pub record HasAnswered (i : Intake) (IsDueFor : List ℕ → Setup → Told → Type 0) (s0 s1 : SourceState) (k0 k1 : SinkState) (status : ℕ) : Type 0 where
   pub input : List ℕ
   pub setup : Setup
+  pub answer : Told
   pub read : ReadsWhole s0 s1 i.limit input
   pub given : GivesSetup i input setup
-  pub wrote : HasWritten k0 k1 (i.due input setup).text
-  pub told : status ≡ (i.due input setup).status
+  pub due : IsDueFor input setup answer
+  pub wrote : HasWritten k0 k1 answer.text
+  pub told : status ≡ answer.status
 
 -- ---- each status with its cause
 
--- what a task comes to that reads so
-pub record Reads (i : Intake) (s0 s1 : SourceState) (k0 k1 : SinkState) (status : ℕ) : Type 0 where
+-- what a task comes to that reads so, and for which this is due
+pub record Reads (i : Intake) (IsDueFor : List ℕ → Setup → Told → Type 0) (s0 s1 : SourceState) (k0 k1 : SinkState) (status : ℕ) : Type 0 where
   -- every status but 2 to 5 is that of the text that is due
-  pub answered : (status < 2) ⊎ (5 < status) → HasAnswered i s0 s1 k0 k1 status
+  pub answered : (status < 2) ⊎ (5 < status) → HasAnswered i IsDueFor s0 s1 k0 k1 status
   pub read_fault : status ≡ 2 → Rose s0.faults s1.faults × (k1 ≡ k0)
   pub fault_within : status ≡ 2 → TookAtMost s0 s1 i.limit
   pub refused : status ≡ 3 → IsRefused i s0 s1 k0 k1
-  pub write_fault : status ≡ 4 → TookFront (IsDue i s0 s1) k0 k1
+  pub write_fault : status ≡ 4 → TookFront (IsDue i IsDueFor s0 s1) k0 k1
   pub no_memory : status ≡ 5 → k1 ≡ k0
   pub memory_within : status ≡ 5 → TookAtMost s0 s1 (i.limit + 1)
   pub ends : EndedOnceAtMost s0 s1

@@ -1,6 +1,6 @@
 // The exit statuses, and the end of a text.
 ghost use Rattle.std.specs.Prelude.{◌≢◌};
-ghost use Rattle.ule_top.specs.Writing.{Finishes};
+ghost use Rattle.ule_task.specs.Writing.{Finishes};
 
 use ule_io::{Sink, WriteFault};
 

@@ -1,14 +1,14 @@
 use Rattle.std.proofs.Common.{[], inl, refl}
 use Rattle.ule_io.specs.declared.reading.ReadAllFault.TheVariants.{ReadFault, TooLong}
-use Rattle.ule_top.proofs.InputLaws.{had_as_told}
-use Rattle.ule_top.specs.Input.{too_long}
-use Rattle.ule_top.specs.Run.{run_intake}
-use Rattle.ule_top.proofs.input.read_setup.Goals as goal
+use Rattle.ule_task.proofs.InputLaws.{had_as_told}
+use Rattle.ule_task.specs.Input.{too_long}
+use Rattle.ule_task.specs.Scenario.{scenario_intake}
+use Rattle.ule_task.proofs.input.read_setup.Goals as goal
 
 pub returns-in-Ok-feed_all : goal.returns-in-Ok-feed_all
 returns-in-Ok-feed_all g c =
     let fed = c.in-Ok-feed_all.ensures in
-    had_as_told run_intake _ _ fed.0 _ (record { read = fed.1.whole; kept = fed.1.else_kept (λ h. cc) }) (c.read_so.ensures fed.0 (fed.2 [] c.in-Ok.ensures))
+    had_as_told scenario_intake _ _ fed.0 _ (record { read = fed.1.whole; kept = fed.1.else_kept (λ h. cc) }) (c.read_so.ensures fed.0 (fed.2 [] c.in-Ok.ensures))
 
 pub returns-in-Err-TooLong : goal.returns-in-Err-TooLong
 returns-in-Err-TooLong g c =

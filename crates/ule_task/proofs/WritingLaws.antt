@@ -1,7 +1,7 @@
 -- From what writing a text comes to, the parts of an answer.
 use Rattle.std.proofs.Common.{◌≡◌, ℕ, List}
 use Rattle.ule_io.specs.Sink.{SinkState}
-use Rattle.ule_top.specs.Writing.{HasWritten, TookFront, Wrote}
+use Rattle.ule_task.specs.Writing.{HasWritten, TookFront, Wrote}
 
 -- a text that was written whole was flushed once
 pub has_written : (k0 k1 : SinkState) (text : List ℕ) (good status : ℕ) → Wrote k0 k1 text good status → status ≡ good → HasWritten k0 k1 text

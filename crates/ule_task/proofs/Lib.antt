@@ -1,0 +1,3 @@
+pub mod WritingLaws
+pub mod InputLaws
+pub mod ScenarioLaws
