@@ -1,0 +1,11 @@
+pub mod Holding
+pub mod Courses
+pub mod Goings
+pub mod Made
+pub mod Programs
+pub mod Amounts
+pub mod Places
+pub mod Lines
+pub mod Noting
+pub mod Legality
+pub mod Closing

@@ -1,0 +1,29 @@
+use Rattle.std.proofs.Common.{refl, sym, subst, length, ◌≤◌}
+use Rattle.std.proofs.lemmas.Option.{same_Some}
+use Rattle.ule_micro.specs.Means.{budgets}
+use Rattle.ule_parts.specs.Scheduler.{budget_of, sched_means}
+use Rattle.ule_parts.specs.Workers.{owns_from}
+use Rattle.ule_parts.proofs.Orders.{many_owns}
+use Rattle.ule_words.specs.Ends.{AreBack}
+use Rattle.ule_smp.proofs.Closing.{closed}
+use Rattle.ule_smp.proofs.Legality.{are_back}
+use Rattle.ule_smp.proofs.smp.Smp.close.Goals as goal
+
+-- src/close.rt:47:9
+pub close-requires-clause-there : goal.close-requires-clause-there
+close-requires-clause-there c = (c.self.inside.locks, refl)
+
+-- src/close.rt:47:9
+pub close-requires-clause-back : goal.close-requires-clause-back
+close-requires-clause-back c l is = subst (λ k. AreBack (sched_means k.parts) k.table.shared.table_id c.args.passes.list.items) (same_Some c.self.inside.locks l is)
+    (are_back c.args.self.setup c.args.self.table c.requires.done.0 c.args.passes.list.items c.requires.done.1)
+
+-- src/close.rt:47:9
+pub close-requires-clause-room : goal.close-requires-clause-room
+close-requires-clause-room c l is = subst (λ k. budgets (budget_of k.parts) (length (owns_from k.parts 0 k.parts.cpus)) ≤ c.args.out.room) (same_Some c.self.inside.locks l is)
+    (subst (λ n. budgets (budget_of c.args.self.setup) n ≤ c.args.out.room) (sym (many_owns c.args.self.setup 0 c.args.self.setup.cpus)) c.requires.room.room)
+
+-- src/close.rt:39:5
+pub returns : goal.returns
+returns c lists done = let told = c.close.ensures.told c.self.inside.locks refl in
+    closed c.args.self.setup c.args.self.table lists c.args.passes.list.items done told.state told.left c.args.out c.close.new.out c.requires.room told.out

@@ -1,0 +1,5 @@
+pub mod Runs
+pub mod Rests
+pub mod Taken
+pub mod Smp
+pub mod Ends
