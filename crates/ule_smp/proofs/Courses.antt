@@ -1,8 +1,8 @@
 -- Each move of a worker keeps that it came where it stands by its program.
-use Rattle.std.proofs.Common.{◌≡◌, ℕ, ◌+◌, List, [], ◌∷◌, slice_get, Option, Some, None, ap, refl, sym, subst, ◌∙◌}
+use Rattle.std.proofs.Common.{◌≡◌, ℕ, ◌+◌, List, ◌∷◌, slice_get, Option, Some, None, ap, refl, sym, subst, ◌∙◌}
 use Rattle.ule_micro.specs.Laws.{KeepsHands}
 use Rattle.ule_micro.specs.Means.{Means}
-use Rattle.ule_micro.specs.Standings.{Standing, asks, has, rests, standing_with}
+use Rattle.ule_micro.specs.Standings.{asks, has, rests, standing_with}
 use Rattle.ule_micro.specs.declared.entry.HeldLocks.{HeldLocks}
 use Rattle.ule_micro.specs.declared.todo.Todo.{Todo}
 use Rattle.ule_micro.specs.declared.todo.Todo.TheVariants.{Advance, Event}
@@ -10,7 +10,7 @@ use Rattle.ule_words.specs.Passes.{PassState}
 use Rattle.ule_words.specs.Programs.{StandsAt}
 use Rattle.ule_words.specs.Workers.{advancing}
 use Rattle.ule_smp.specs.Rests.{HasComeTo}
-use Rattle.ule_smp.specs.Runs.{Point, Runs, advances, answers, begins, performs, point_of, point_answered, point_performed}
+use Rattle.ule_smp.specs.Runs.{Point, Runs, advances, answers, begins, performs, point_of}
 use Rattle.ule_smp.specs.Taken.{HasPerformed}
 
 module _ {H O G E R C : Type 0} (m : Means H O G E R C) where

@@ -1,5 +1,5 @@
 -- How far a command is that a pass runs, from its begin to its end.
-use Rattle.std.proofs.Common.{◌≡◌, ℕ, ◌+◌, ◌-◌, ◌<◌, ◌≤◌, List, [], ◌∷◌, ◌++◌, Option, Some, None, ap, refl, sym, subst, ◌∙◌, arith}
+use Rattle.std.proofs.Common.{◌≡◌, ℕ, ◌+◌, ◌<◌, ◌≤◌, List, [], ◌∷◌, ◌++◌, Option, Some, None, ap, refl, sym, subst, ◌∙◌, arith}
 use Rattle.std.specs.List.{AllByRecursion}
 use Rattle.ule_micro.specs.Laws.{IsEmpty, IsLawful}
 use Rattle.ule_micro.specs.Means.{Means}
@@ -68,7 +68,7 @@ module _ {H O G E R C : Type 0} (m : Means H O G E R C) (law : IsLawful m) (c : 
       → ((given : List C) → StandsAt m given q rests → m.valid (m.number q.own) given c → StandsAt m (c ∷ given) z (asks None)) → Goes m c p None z (asks None)
   goes_begun_under l v q z taken begun few stands = subst
       (λ q. z ≡ record q { own = m.begin q.own c } → m.left z.own (asks None) ≤ m.charge (m.number q.own) c
-          → ((given : List C) → StandsAt m given q rests → m.valid (m.number q.own) given c → StandsAt m (c ∷ given) z (asks None)) → Goes m c p None z (asks None))
+      → ((given : List C) → StandsAt m given q rests → m.valid (m.number q.own) given c → StandsAt m (c ∷ given) z (asks None)) → Goes m c p None z (asks None))
       (sym taken)
       (λ begun few stands. goes_begun z ((l, v) ∷ p.worker.held) None begun few (λ given rest valid. stands given rest.come.stands (subst (λ w. m.valid w given c) (sym rest.come.number) valid)))
       begun few stands

@@ -3,8 +3,7 @@ use Rattle.std.proofs.Common.{◌≡◌, ℕ, ◌+◌, ◌<◌, ◌≤◌, List,
 use Rattle.std.specs.Prelude.{Option, nat_lt, false, if◌then◌else◌}
 use Rattle.std.proofs.lemmas.Option.{same_Some}
 use Rattle.ule_micro.specs.Histories.{entry_made}
-use Rattle.ule_micro.specs.Laws.{AreItsLocks, AreRising, IsLawful}
-use Rattle.ule_micro.specs.Means.{Means, Needs, both, fixed_by, lock_of, one, thread_sought_by}
+use Rattle.ule_micro.specs.Means.{Means}
 use Rattle.ule_micro.specs.Standings.{asks, has}
 use Rattle.ule_micro.specs.declared.entry.HeldLocks.{HeldLocks}
 use Rattle.ule_micro.specs.declared.entry.HeldLocks.TheVariants.{One, Two}
@@ -69,24 +68,23 @@ module _ {H O G E R C : Type 0} (m : Means H O G E R C) (e : E) (locks : HeldLoc
   has_performed_timed p r s z now reply d settled free held =
       let same = same_time p r now reply d held in
       let behind : z ≡ record r { worker = holding (calm r.worker) [] } = free ∙ ap {A = PassState O H G E R} (λ x. record x { worker = holding x.worker [] }) settled in record {
-    hand = (act_of m p.worker e d.now).hand;
-    entry = record { number = d.ticket; entry = entry_made p.worker.number e d.locks d.now (act_of m p.worker e d.now).reply };
-    event = refl;
-    is_reply = sym d.is_reply;
-    time = same;
-    above = d.above;
-    table = ap (λ x. x.table) behind ∙ d.table;
-    own = ap (λ x. x.own) behind ∙ d.own;
-    worker = ap (λ x. x.worker) behind ∙ ap (λ x. holding (calm x) []) d.worker;
-    stands = λ given stands. subst (λ x. StandsAt m given x (asks (Some (reply, now))) × (m.left x.own (asks (Some (reply, now))) + 1 ≤ m.left p.own (has (Event e)))) (sym behind)
-        (subst (λ n. StandsAt m given r (asks (Some (reply, n))) × (m.left r.own (asks (Some (reply, n))) + 1 ≤ m.left p.own (has (Event e)))) same (d.stands given stands));
-  }
+        hand = (act_of m p.worker e d.now).hand;
+        entry = record { number = d.ticket; entry = entry_made p.worker.number e d.locks d.now (act_of m p.worker e d.now).reply };
+        event = refl;
+        is_reply = sym d.is_reply;
+        time = same;
+        above = d.above;
+        table = ap (λ x. x.table) behind ∙ d.table;
+        own = ap (λ x. x.own) behind ∙ d.own;
+        worker = ap (λ x. x.worker) behind ∙ ap (λ x. holding (calm x) []) d.worker;
+        stands = λ given stands. subst (λ x. StandsAt m given x (asks (Some (reply, now))) × (m.left x.own (asks (Some (reply, now))) + 1 ≤ m.left p.own (has (Event e)))) (sym behind)
+            (subst (λ n. StandsAt m given r (asks (Some (reply, n))) × (m.left r.own (asks (Some (reply, n))) + 1 ≤ m.left p.own (has (Event e)))) same (d.stands given stands));
+      }
 
   -- has performed under: an event, from the locks that were taken for it to none
   pub has_performed_under : (p q r s z : PassState O H G E R) (now : ℕ) (reply : R) → q ≡ record p { worker = timed p.worker now } → HasCommitted m q e reply r → s ≡ record r { worker = calm r.worker }
       → z ≡ record s { worker = holding s.worker [] } → AreHeld locks p.worker.held → HasPerformed m p e (reply, now) z
   has_performed_under p q r s z now reply is d settled free held = has_performed_timed p r s z now reply (subst (λ x. HasCommitted m x e reply r) is d) settled free held
-
 
   -- acts so: the event was performed where it may be
   pub acts_so : (p q r : PassState O H G E R) (now : ℕ) (reply : R) → q ≡ record p { worker = timed p.worker now } → HasCommitted m q e reply r → AreHeld locks p.worker.held

@@ -9,3 +9,6 @@ pub mod Lines
 pub mod Noting
 pub mod Legality
 pub mod Closing
+pub mod Setups
+pub mod Looking
+pub mod Locking

@@ -3,3 +3,4 @@ pub mod Rests
 pub mod Taken
 pub mod Smp
 pub mod Ends
+pub mod Looks

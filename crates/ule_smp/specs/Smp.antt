@@ -1,5 +1,5 @@
 -- The shared scheduler of a setup, and the passes of its workers.
-use Rattle.std.specs.Prelude.{◌≡◌, ◌≤◌, ℕ, true, List, [], ◌∷◌, reverse, length, Option, Some, None, slice_get}
+use Rattle.std.specs.Prelude.{◌≡◌, ◌≤◌, ℕ, true, List, [], reverse, length, Option, Some, slice_get}
 use Rattle.atomic_table.specs.Seated.{TableId}
 use Rattle.ule_score.specs.declared.record.ThreadRecord.{ThreadRecord}
 use Rattle.ule_types.specs.declared.command.Command.{Command}
@@ -14,7 +14,7 @@ use Rattle.ule_seq.specs.StepStates.{place_under}
 use Rattle.ule_words.specs.Passes.{PassState}
 use Rattle.ule_words.specs.Workers.{taking}
 use Rattle.ule_smp.specs.Rests.{IsAtRest}
-use Rattle.ule_smp.specs.declared.smp.Held.{Held}
+use Rattle.ule_smp.specs.declared.hold.Held.{Held}
 
 -- smp value: what a contract sees of a shared scheduler, which is its setup and the table of its words
 pub record SmpValue : Type 0 where

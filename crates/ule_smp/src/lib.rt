@@ -5,9 +5,12 @@
 mod close;
 mod course;
 mod event;
+mod hold;
+mod look;
 mod seek;
 mod smp;
 mod taken;
 
 pub use close::Closed;
-pub use smp::{Held, Smp, SmpPass, SmpPasses};
+pub use hold::Held;
+pub use smp::{Smp, SmpPass, SmpPasses, left};

@@ -1,5 +1,6 @@
 //! A thread is locked by its word, which names the lock of its place.
 ghost use Rattle.std.specs.Prelude.{◌≡◌, ◌<◌, true, [], ◌∷◌, None};
+ghost use Rattle.ule_micro.specs.declared.locks.TheConstants.{LOCKS};
 ghost use Rattle.ule_micro.specs.declared.word.Word.TheVariants.{Lock};
 ghost use Rattle.ule_words.specs.Workers.{taking};
 
@@ -21,7 +22,8 @@ pub(crate) fn take_lock_of<R: Wait, P: Parts>(
     requires free { p.old.worker.held ≡ [] }
     requires calm { p.old.worker.pending ≡ None }
     requires declared { (P.means locks.now.parts).declared t ≡ true }
-    ensures { (v : P.Value) × (p.new ≡ record p.old { worker = taking p.old.worker result v }) × ((P.means locks.now.parts).stands_in v t ≡ true) }
+    ensures locked { (v : P.Value) × (p.new ≡ record p.old { worker = taking p.old.worker result v }) × ((P.means locks.now.parts).stands_in v t ≡ true) }
+    ensures low { result < LOCKS }
 {
     let backoff = Backoff::new();
     for _ in rt.forever() {

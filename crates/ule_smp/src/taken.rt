@@ -33,12 +33,7 @@ pub(crate) fn take_locks<R: Wait, P: Parts>(
 }
 
 /// Takes these locks in rising number.
-fn take_rising<R: Wait, P: Parts>(
-    rt: &R,
-    locks: &Locks<P>,
-    p: &mut Pass<P::Own>,
-    fixed: &HeldLocks,
-)
+fn take_rising<R: Wait, P: Parts>(rt: &R, locks: &Locks<P>, p: &mut Pass<P::Own>, fixed: &HeldLocks)
     requires table { p.old.table ≡ locks.now.table.shared.table_id }
     requires free { p.old.worker.held ≡ [] }
     requires rising { AreInRisingOrder fixed.now }

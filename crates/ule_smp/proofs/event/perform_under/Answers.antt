@@ -1,4 +1,3 @@
-use Rattle.std.proofs.Common.{◌≡◌}
 use Rattle.ule_smp.proofs.Holding.{acts_so, can_commit_under, has_performed_under}
 use Rattle.ule_smp.proofs.event.perform_under.Goals as goal
 
