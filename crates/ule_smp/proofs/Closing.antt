@@ -1,5 +1,6 @@
 -- What is told at the end of a play is its outcome.
 use Rattle.std.proofs.Common.{◌≡◌, ℕ, zero, suc, ◌+◌, ◌<◌, ◌≤◌, List, [], ◌∷◌, ◌++◌, length, slice_get, Option, Some, None, IfSome, refl, sym, ap, ◌∙◌, subst, inl, inr, ◌⊎◌, ⊎_elim, arith}
+use Rattle.std.specs.Prelude.{min}
 use Rattle.std.specs.List.{AllByRecursion}
 use Rattle.std.proofs.lemmas.Option.{none-some, same_Some}
 use Rattle.atomic_table.specs.Seated.{TableId}
@@ -32,14 +33,18 @@ use Rattle.ule_seq.specs.Notes.{sched_notes}
 use Rattle.ule_seq.specs.Outcomes.{queue_lines}
 use Rattle.ule_seq.proofs.FinalLaws.{cpu_lines_shown}
 use Rattle.ule_words.specs.declared.log.Numbered.{Numbered}
-use Rattle.ule_words.specs.Ends.{IsLeft, end_noted, entries_noted, lock_named, values_noted, words_noted}
+use Rattle.ule_words.specs.Ends.{IsLeft, Told, end_noted, entries_noted, lock_named, values_noted, words_noted}
 use Rattle.ule_smp.specs.Ends.{HasRoom, IsClosed}
-use Rattle.ule_smp.specs.Smp.{AreDone, SchedPass}
+use Rattle.ule_smp.specs.Smp.{AreDone, SchedPass, SmpValue}
 use Rattle.ule_smp.proofs.Legality.{entries_left, its_entries, legal_left, now_so, pass_there, whole_left, worlds_left}
 use Rattle.ule_smp.proofs.Lines.{AreNumbered, all_lines, lines_from, no_lines, placed_told, same_lines, told_again, with_told}
 use Rattle.ule_smp.proofs.Made.{made_stands, stands_made}
 use Rattle.ule_smp.proofs.Noting.{entries_leave_cpus, entries_leave_threads, entries_told, one_told, told_after, values_leave_entries, values_tell_cpus, values_tell_threads, words_told}
-use Rattle.ule_smp.proofs.Places.{Tells, line_left, tells}
+use Rattle.ule_smp.proofs.Places.{Tells, line_left, reached, tells}
+
+-- nothing told: no line of a thread
+abbrev nothing_told : Option ThreadLine
+nothing_told = None
 
 -- what holds of all entries holds of the one at a place
 holds_at : (P : types.Entry → Type 0) (es : List types.Entry) (k : ℕ) (e : types.Entry) → AllByRecursion P es → slice_get es k ≡ Some e → P e
@@ -62,6 +67,10 @@ module _ (s : Setup) (table : TableId) (lists : List (List Command)) (passes : L
       of_pass (p, is) = let d = done.each w p is in
           subst (IsEmpty (sched_means s)) (same_Some p.worker.hand hand (sym (left.knows w p is).hand ∙ (ap (slice_get st.hands) d.number ∙ at))) d.rest.empty
 
+  -- the world at the end, by which each thread's line is told
+  at_end : IsReached s (unstamped st.history) (as_it_stands st)
+  at_end = reached s st left.agrees left.calm hands_empty
+
   -- line at: the line of a thread at the end
   abbrev line_at : ℕ → Option ThreadLine
   line_at = line_left s st left.agrees left.calm hands_empty
@@ -77,7 +86,7 @@ module _ (s : Setup) (table : TableId) (lists : List (List Command)) (passes : L
   told_at t = one_told t (line_at t) st.values (λ u. None) (tells_at t).each (from (tells_at t).one)
     where
       from : (line_at t ≡ None) ⊎ ((l : ℕ) × (v : LockValue) × (slice_get st.values l ≡ Some v) × (line_under v t ≡ line_at t))
-          → (None {A = ThreadLine} ≡ line_at t) ⊎ ((None {A = ThreadLine} ≡ None) × ((l : ℕ) × (v : LockValue) × (slice_get st.values l ≡ Some v) × (line_under v t ≡ line_at t)))
+          → (nothing_told ≡ line_at t) ⊎ ((nothing_told ≡ None) × ((l : ℕ) × (v : LockValue) × (slice_get st.values l ≡ Some v) × (line_under v t ≡ line_at t)))
       from (inl none) = inl (sym none)
       from (inr one) = inr (refl, one)
 
@@ -115,11 +124,11 @@ module _ (s : Setup) (table : TableId) (lists : List (List Command)) (passes : L
         (entries_leave_threads s (unstamped st.history) x ∙ (bare.threads ∙ sym (no_lines 0 256)))
         ∙ same_lines (told_after st.values (λ t. None)) line_at 0 256 (λ t low high. told_at t)
 
-    told_cpus : with_values.cpus ≡ world_left.world.lines
-    told_cpus = values_tell_cpus s world_left.world world_left.is_world.lines (setup_scripts s).cpus 0 st.values with_entries (λ k. subst (λ i. IfSome (slice_get st.values k) (StandsUnder world_left.world i)) (let a : k ≡ 0 + k = omega arith in a) (world_left.shows.under k))
-        (ap length (entries_leave_cpus s (unstamped st.history) x ∙ bare.cpus))
+    told_cpus : with_values.cpus ≡ at_end.world.lines
+    told_cpus = values_tell_cpus s at_end.world at_end.is_world.lines (setup_scripts s).cpus 0 st.values with_entries (λ k. subst (λ i. IfSome (slice_get st.values k) (StandsUnder at_end.world i)) (let a : k ≡ 0 + k = omega arith in a) (at_end.shows.under k))
+        (let none : 0 ≡ min 0 s.cpus = omega arith in ap length (entries_leave_cpus s (unstamped st.history) x ∙ bare.cpus) ∙ none)
         ∙ (ap (λ ls. ls ++ queue_lines st.values) (entries_leave_cpus s (unstamped st.history) x ∙ bare.cpus)
-        ∙ cpu_lines_shown (scheduler_with s (as_it_stands st)) world_left.world world_left.shows)
+        ∙ cpu_lines_shown (scheduler_with s (as_it_stands st)) at_end.world at_end.shows)
 
     told_words : words_noted (sched_notes s) THREADS st.words with_values ≡ with_values
     told_words = words_told s st.words with_values
@@ -127,11 +136,12 @@ module _ (s : Setup) (table : TableId) (lists : List (List Command)) (passes : L
 
     -- what was told is the outcome of the history
     told_outcome : record (end_noted (sched_notes s) st x) { room = 0 } ≡ outcome_of s lists (entries_left s table lists passes done st left)
+    unfolding at_end
     told_outcome = ap (λ (o : OutcomeValue). record { entries = o.entries; threads = o.threads; cpus = o.cpus; now = st.now; room = 0 }) told_words
         ∙ (λ i. record {
           entries = told_entries i;
-          threads = (told_threads ∙ ap (λ (w : World). thread_lines w.members) (sym world_left.replays.world)) i;
-          cpus = (told_cpus ∙ ap (λ (w : World). w.lines) (sym world_left.replays.world)) i;
+          threads = (told_threads ∙ ap (λ (w : World). thread_lines w.members) (sym at_end.replays.world)) i;
+          cpus = (told_cpus ∙ ap (λ (w : World). w.lines) (sym at_end.replays.world)) i;
           now = now_so s table lists passes done st left i;
           room = 0;
         })
@@ -159,5 +169,12 @@ module _ (s : Setup) (table : TableId) (lists : List (List Command)) (passes : L
             (p.0, p.1, is.index, is.made, ap (λ l. slice_get l is.index) (its_entries s table lists passes done st left e.worker p.0 p.1) ∙ is.stands, is.number)
 
   -- the end that was told is the outcome of the play
-  pub closed : (x y : OutcomeValue) → HasRoom s x → y ≡ end_noted (sched_notes s) st x → IsClosed s lists passes y
+  closed : (x y : OutcomeValue) → HasRoom s x → y ≡ end_noted (sched_notes s) st x → IsClosed s lists passes y
   closed x y bare is = subst (IsClosed s lists passes) (sym is) (closed_so x bare)
+
+-- the same of a scheduler that is seen as this setup
+pub closed_as : (v z : SmpValue) → v ≡ z → (lists : List (List Command)) (passes : List SchedPass) → AreDone z.setup z.table lists passes → (x y : OutcomeValue) → HasRoom z.setup x
+    → Told (sched_means v.setup) (sched_notes v.setup) passes x y → IsClosed z.setup lists passes y
+closed_as v z same lists passes done x y bare told =
+    let its = subst (λ (u : SmpValue). Told (sched_means u.setup) (sched_notes u.setup) passes x y) same told in
+    closed z.setup z.table lists passes done its.state its.left x y bare its.out

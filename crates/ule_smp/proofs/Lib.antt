@@ -9,6 +9,7 @@ pub mod Lines
 pub mod Noting
 pub mod Legality
 pub mod Closing
+pub mod Starting
 pub mod Setups
 pub mod Looking
 pub mod Locking

@@ -1,5 +1,6 @@
 -- The end of a play of running threads: one whole legal history, and what stands behind it.
 use Rattle.std.specs.Prelude.{◌≡◌, ℕ, ◌+◌, ◌≤◌, List, [], Some, slice_get}
+use Rattle.atomic_table.specs.Seated.{TableId}
 use Rattle.ule_types.specs.Outcome.{OutcomeValue}
 use Rattle.ule_types.specs.declared.command.Command.{Command}
 use Rattle.ule_types.specs.declared.event.Entry as types
@@ -14,7 +15,7 @@ use Rattle.ule_parts.specs.Histories.{world_entry}
 use Rattle.ule_parts.specs.Scheduler.{budget_of}
 use Rattle.ule_micro.specs.Means.{budgets}
 use Rattle.ule_words.specs.declared.log.Numbered.{Numbered}
-use Rattle.ule_smp.specs.Smp.{SchedPass}
+use Rattle.ule_smp.specs.Smp.{AreDone, SchedPass}
 
 -- stand in: each of a pass's own entries stands in the history at its number
 abbrev pub StandIn : List types.Entry → List (ℕ × Numbered Event Reply) → Type 0
@@ -33,6 +34,15 @@ pub record IsClosed (s : Setup) (lists : List (List Command)) (passes : List Sch
   pub outcome : IsWholeOutcome s lists o
   pub own : (w : ℕ) (p : SchedPass) → slice_get passes w ≡ Some p → StandIn o.entries p.worker.mine
   pub makers : (k : ℕ) (e : types.Entry) → slice_get o.entries k ≡ Some e → (p : SchedPass) × (slice_get passes e.worker ≡ Some p) × (j : ℕ) × (x : ℕ × Numbered Event Reply) × (slice_get p.worker.mine j ≡ Some x) × (x.1.number ≡ k + 1)
+
+-- is some end: the end of passes that are done was told, of some setup and some lists of commands
+pub record IsSomeEnd (o : OutcomeValue) : Type 0 where
+  pub setup : Setup
+  pub table : TableId
+  pub lists : List (List Command)
+  pub passes : List SchedPass
+  pub done : AreDone setup table lists passes
+  pub closed : IsClosed setup lists passes o
 
 -- has room: an outcome without entries and lines, with room for all entries that the scripts' budgets admit together
 pub record HasRoom (s : Setup) (o : OutcomeValue) : Type 0 where

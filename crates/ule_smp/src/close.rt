@@ -1,7 +1,7 @@
 //! The end of a play of running threads.
 ghost use Rattle.std.specs.Prelude.{◌≡◌, List};
 ghost use Rattle.ule_types.specs.declared.command.Command.{Command};
-ghost use Rattle.ule_smp.specs.Ends.{HasRoom, IsClosed};
+ghost use Rattle.ule_smp.specs.Ends.{HasRoom, IsClosed, IsSomeEnd};
 ghost use Rattle.ule_smp.specs.Smp.{AreDone};
 
 use crate::smp::{Smp, SmpPasses};
@@ -17,16 +17,20 @@ pub struct Closed {
 
 impl Model for Closed {
     ghost use Rattle.ule_types.specs.Outcome.{OutcomeValue};
+    ghost use Rattle.ule_smp.specs.Ends.{IsSomeEnd};
 
     ghost Value = { OutcomeValue };
 
     ghost view = { λ c. c.outcome };
+
+    ghost invariant = { λ c. IsSomeEnd c.outcome };
 }
 
 impl Closed {
     /// The entries in the order of their numbers, and the final lines.
     pub fn outcome(&self) -> &Outcome
-        ensures { result.now ≡ self.now }
+        ensures same { result.now ≡ self.now }
+        ensures end { IsSomeEnd result.now }
     {
         &self.outcome
     }

@@ -9,6 +9,7 @@ mod hold;
 mod look;
 mod seek;
 mod smp;
+mod start;
 mod taken;
 
 pub use close::Closed;
