@@ -1,0 +1,3 @@
+mod Running
+mod Races
+mod RaceLaws
