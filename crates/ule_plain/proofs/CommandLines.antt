@@ -21,8 +21,8 @@ use Rattle.ule_scenario.specs.declared.name.Name.TheVariants.{Tick, Time, Yield,
 use Rattle.ule_scenario.specs.declared.token.Token.{Token}
 use Rattle.ule_trace.specs.Line.{line_text}
 use Rattle.ule_plain.proofs.Leading.{Leads, Takes, leads_line}
-use Rattle.ule_plain.proofs.NumbersBack.{IsNumber, IsNice, token_back, nice_back, decimal_is_word, nice_is_word}
-use Rattle.ule_plain.proofs.WordsBack.{is_word}
+use Rattle.ule_plain.proofs.NumbersBack.{IsNumber, IsNice, token_back, nice_back, small_is_word, nice_is_word}
+use Rattle.ule_text.proofs.Printed.{is_word}
 use Rattle.ule_plain.specs.Commands.{command_words}
 
 -- a word that is a name
@@ -229,31 +229,31 @@ pub command_is_words : (r : Reading) (c : Command) → IsValid r c → list_all 
 command_is_words r command.Tick v = refl
 command_is_words r (command.Time k) v =
     let few = leb-true k 1000000 (and_parts (nat_le 1 k) (nat_le k 1000000) v.names).1 in
-    rw (decimal_is_word k (omega arith)) refl
+    rw (small_is_word k (omega arith)) refl
 command_is_words r command.Yield v = refl
 command_is_words r command.Resched v = refl
 command_is_words r (command.Sleep channel) v =
     let few = leb-true channel 65535 (and_parts (nat_le 0 channel) (nat_le channel 65535) v.names).1 in
-    rw (decimal_is_word channel (omega arith)) refl
-command_is_words r (command.Wake t) v = let small = small_of r t v.numbers v.names in rw (decimal_is_word t (omega arith)) refl
+    rw (small_is_word channel (omega arith)) refl
+command_is_words r (command.Wake t) v = let small = small_of r t v.numbers v.names in rw (small_is_word t (omega arith)) refl
 command_is_words r (command.Lend t p) v =
     let both = and_parts (is_among (declared_ids r.threads r.unborn) t) (is_within 0 255 p) v.names in
     let small = small_of r t v.numbers both.0 in
     let low = leb-true p 255 (and_parts (nat_le 0 p) (nat_le p 255) both.1).1 in
-    rw (decimal_is_word t (omega arith), decimal_is_word p (omega arith)) refl
-command_is_words r (command.Unlend t) v = let small = small_of r t v.numbers v.names in rw (decimal_is_word t (omega arith)) refl
+    rw (small_is_word t (omega arith), small_is_word p (omega arith)) refl
+command_is_words r (command.Unlend t) v = let small = small_of r t v.numbers v.names in rw (small_is_word t (omega arith)) refl
 command_is_words r (command.Renice t n) v =
     let both = and_parts (is_among (declared_ids r.threads r.unborn) t) (is_nice n) v.names in
     let small = small_of r t v.numbers both.0 in
-    rw (decimal_is_word t (omega arith), nice_is_word n both.1) refl
-command_is_words r (command.Fork t) v = let small = small_of r t v.numbers v.names in rw (decimal_is_word t (omega arith)) refl
+    rw (small_is_word t (omega arith), nice_is_word n both.1) refl
+command_is_words r (command.Fork t) v = let small = small_of r t v.numbers v.names in rw (small_is_word t (omega arith)) refl
 command_is_words r command.Exit v = refl
 command_is_words r command.Idle v = refl
 command_is_words r command.Balance v = refl
 command_is_words r (command.Look c) v =
     let there = ltb-true c r.cpus v.names in
     let cpus = v.cpus in
-    rw (decimal_is_word c (omega arith)) refl
+    rw (small_is_word c (omega arith)) refl
 
 -- a command's line leads to the setup so far with the command
 pub command_leads : (r : Reading) (c : Command) → IsValid r c → HasRoom r c → Leads r (line_text (command_words c)) (commanded r c)

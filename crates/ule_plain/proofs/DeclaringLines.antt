@@ -23,8 +23,8 @@ use Rattle.ule_scenario.specs.declared.token.Token.{Token}
 use Rattle.ule_trace.specs.Line.{line_text}
 use Rattle.ule_plain.proofs.CommandLines.{keyword, not_above, not_past}
 use Rattle.ule_plain.proofs.Leading.{Leads, Takes, leads_line}
-use Rattle.ule_plain.proofs.NumbersBack.{IsNumber, IsNice, token_back, nice_back, decimal_is_word, nice_is_word}
-use Rattle.ule_plain.proofs.WordsBack.{is_word}
+use Rattle.ule_plain.proofs.NumbersBack.{IsNumber, IsNice, token_back, nice_back, small_is_word, nice_is_word}
+use Rattle.ule_text.proofs.Printed.{is_word}
 use Rattle.ule_plain.specs.Lines.{form_words, cpu_words, thread_words, unborn_words}
 
 -- a line may stand behind the number of CPUs, up to a place, and nothing is charged beyond the budget so far
@@ -57,7 +57,7 @@ unborn_taken r w t is small new o =
 -- a written line of an unborn thread
 pub unborn_leads : (r : Reading) (t : ℕ) → t < 256 → is_known_thread r t ≡ false → IsOpen 6 r → Leads r (line_text (unborn_words t)) (record r { place = max r.place 6; unborn = r.unborn ++ t ∷ [] })
 unfolding token_of
-unborn_leads r t small new o = leads_line (unborn_words t) (rw (decimal_is_word t (omega arith)) refl) (unborn_taken r (token_of (decimal t)) t (token_back t (omega arith)) small new o)
+unborn_leads r t small new o = leads_line (unborn_words t) (rw (small_is_word t (omega arith)) refl) (unborn_taken r (token_of (decimal t)) t (token_back t (omega arith)) small new o)
 
 -- ---- a thread
 
@@ -259,20 +259,20 @@ free_words_taken r id cpu (form.Idle p) cpus good there small new o =
 -- the words of a form are words of a written line
 form_is_words : (f : Form) → is_form f ≡ true → list_all is_word (form_words f) ≡ true
 form_is_words (form.Ts z) good = rw (nice_is_word z good) refl
-form_is_words (form.Ithd p) good = let low = range_end 0 47 p good in rw (decimal_is_word p (omega arith)) refl
-form_is_words (form.Rt p) good = let low = range_end 48 79 p good in rw (decimal_is_word p (omega arith)) refl
-form_is_words (form.Fifo p) good = let low = range_end 48 79 p good in rw (decimal_is_word p (omega arith)) refl
-form_is_words (form.Idle p) good = let low = (idle_small p good).1 in rw (decimal_is_word p (omega arith)) refl
+form_is_words (form.Ithd p) good = let low = range_end 0 47 p good in rw (small_is_word p (omega arith)) refl
+form_is_words (form.Rt p) good = let low = range_end 48 79 p good in rw (small_is_word p (omega arith)) refl
+form_is_words (form.Fifo p) good = let low = range_end 48 79 p good in rw (small_is_word p (omega arith)) refl
+form_is_words (form.Idle p) good = let low = (idle_small p good).1 in rw (small_is_word p (omega arith)) refl
 
 cpu_is_words : (c : ℕ) (bound : Bool) → c < 16 → list_all is_word (cpu_words c bound) ≡ true
-cpu_is_words c true small = rw (decimal_is_word c (omega arith)) refl
-cpu_is_words c false small = rw (decimal_is_word c (omega arith)) refl
+cpu_is_words c true small = rw (small_is_word c (omega arith)) refl
+cpu_is_words c false small = rw (small_is_word c (omega arith)) refl
 
 -- so are all of a thread
 thread_is_words : (t : ThreadSpec) → is_form t.form ≡ true → t.cpu < 16 → t.id < 256 → list_all is_word (thread_words t) ≡ true
 thread_is_words t good there small =
     and_from true (list_all is_word (decimal t.id ∷ form_words t.form ++ cpu_words t.cpu t.bound)) refl
-    (and_from (is_word (decimal t.id)) (list_all is_word (form_words t.form ++ cpu_words t.cpu t.bound)) (decimal_is_word t.id (omega arith))
+    (and_from (is_word (decimal t.id)) (list_all is_word (form_words t.form ++ cpu_words t.cpu t.bound)) (small_is_word t.id (omega arith))
     (list_all-append is_word (form_words t.form) (cpu_words t.cpu t.bound)
     ∙ and_from (list_all is_word (form_words t.form)) (list_all is_word (cpu_words t.cpu t.bound)) (form_is_words t.form good) (cpu_is_words t.cpu t.bound there)))
 

@@ -24,9 +24,9 @@ use Rattle.ule_plain.proofs.DeclaringLines.{IsOpen, not_first, not_before}
 use Rattle.ule_plain.proofs.Leading.{Leads, Takes, leads_line, means_something}
 use Rattle.ule_plain.proofs.Masks.{bits_back, some_cpu, cpus_rise, cpus_there}
 use Rattle.ule_plain.proofs.NumberLists.{written, nums_back, no_falling, rising_small, written_are_words, length_written}
-use Rattle.ule_plain.proofs.NumbersBack.{IsNumber, token_back, decimal_is_word, first_byte}
+use Rattle.ule_plain.proofs.NumbersBack.{IsNumber, token_back, small_is_word, first_byte}
 use Rattle.ule_plain.proofs.Topologies.{is_parent_number, is_in_range}
-use Rattle.ule_plain.proofs.WordsBack.{is_word}
+use Rattle.ule_text.proofs.Printed.{is_word}
 use Rattle.ule_plain.specs.Lines.{cpus_of_mask, group_words}
 
 -- ---- a parent
@@ -85,7 +85,7 @@ parent_back (Some id) small =
 -- it is a word of a written line
 parent_is_word : (parent : Option ℕ) → is_parent_number parent ≡ true → is_word (optional_word parent) ≡ true
 parent_is_word None small = refl
-parent_is_word (Some id) small = let few = leb-true id 14 small in decimal_is_word id (omega arith)
+parent_is_word (Some id) small = let few = leb-true id 14 small in small_is_word id (omega arith)
 
 -- ---- a group
 
@@ -146,7 +146,7 @@ group_is_words cpus g range =
     let both = and_parts (nat_le g.id 14 && is_parent_number g.parent) (nat_lt g.cpus (2 ^ cpus)) range in
     let front = and_parts (nat_le g.id 14) (is_parent_number g.parent) both.0 in
     let few = leb-true g.id 14 front.0 in
-    rw (decimal_is_word g.id (omega arith), parent_is_word g.parent front.1, written_are_words (cpus_of_mask g.cpus) (rising_small 0 (cpus_of_mask g.cpus) (cpus_rise g.cpus))) refl
+    rw (small_is_word g.id (omega arith), parent_is_word g.parent front.1, written_are_words (cpus_of_mask g.cpus) (rising_small 0 (cpus_of_mask g.cpus) (cpus_rise g.cpus))) refl
 
 -- so many bits of a mask are at most 16
 power_small : (cpus m : ℕ) → cpus ≤ 16 → m < 2 ^ cpus → m < 2 ^ 16

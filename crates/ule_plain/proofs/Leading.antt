@@ -16,7 +16,8 @@ use Rattle.ule_scenario.specs.declared.token.Token.{Token}
 use Rattle.ule_scenario.specs.declared.reason.Reason.{Reason}
 use Rattle.ule_scenario.specs.declared.reason.Refusal.{Refusal}
 use Rattle.ule_trace.specs.Line.{joined, line_text, lines_text}
-use Rattle.ule_plain.proofs.WordsBack.{is_word, words_back, line_unprinted, line_unbroken}
+use Rattle.ule_text.proofs.Printed.{is_word}
+use Rattle.ule_plain.proofs.WordsBack.{words_back, line_unprinted, line_unbroken}
 
 -- a text between two lines: n lines gave this setup so far
 abbrev pub between : ℕ → Reading → TextRead

@@ -8,8 +8,8 @@ use Rattle.ule_scenario.specs.Forms.{num, nums, number_fault, first_fault, cpu_f
 use Rattle.ule_scenario.specs.Tokens.{token_of}
 use Rattle.ule_scenario.specs.declared.token.Token.{Token}
 use Rattle.ule_plain.proofs.Masks.{do_rise}
-use Rattle.ule_plain.proofs.NumbersBack.{IsNumber, token_back, decimal_is_word}
-use Rattle.ule_plain.proofs.WordsBack.{is_word}
+use Rattle.ule_plain.proofs.NumbersBack.{IsNumber, token_back, small_is_word}
+use Rattle.ule_text.proofs.Printed.{is_word}
 
 -- the words of written numbers
 abbrev pub written : List ℕ → List Token
@@ -72,7 +72,7 @@ written_are_words [] small = refl
 written_are_words (n ∷ ns) small =
     let parts = and_parts (nat_le n 15) (are_small ns) small in
     let few = leb-true n 15 parts.0 in
-    and_from (is_word (decimal n)) (list_all is_word (map decimal ns)) (decimal_is_word n (omega arith)) (written_are_words ns parts.1)
+    and_from (is_word (decimal n)) (list_all is_word (map decimal ns)) (small_is_word n (omega arith)) (written_are_words ns parts.1)
 
 -- as many words as numbers
 pub length_written : (ns : List ℕ) → length (written ns) ≡ length ns

@@ -15,7 +15,7 @@ use Rattle.ule_scenario.specs.declared.token.Token.{Token}
 use Rattle.ule_trace.specs.Line.{line_text, lines_text}
 use Rattle.ule_plain.proofs.CommandLines.{keyword}
 use Rattle.ule_plain.proofs.Leading.{Leads, Takes, leads_line, leads_on, leads_nowhere, lines_cut}
-use Rattle.ule_plain.proofs.NumbersBack.{IsNumber, token_back, decimal_is_word}
+use Rattle.ule_plain.proofs.NumbersBack.{IsNumber, token_back, small_is_word}
 use Rattle.ule_plain.specs.Lines.{header_words, setting_words, jitter_words, cpus_words}
 use Rattle.ule_plain.specs.Text.{setting_lines, opening_lines}
 
@@ -64,27 +64,27 @@ header_leads = leads_line header_words refl header_taken
 
 interact_leads : (s : Settings) (n : ℕ) → 1 ≤ n → n ≤ 100 → Leads (behind_settings 1 0 s) (line_text (setting_words (codes "interact") n)) (behind_settings 2 1 (record s { interact = n }))
 unfolding token_of
-interact_leads s n low high = leads_line (setting_words (codes "interact") n) (rw (decimal_is_word n (omega arith)) refl) (interact_taken s (token_of (decimal n)) n (token_back n (omega arith)) low high)
+interact_leads s n low high = leads_line (setting_words (codes "interact") n) (rw (small_is_word n (omega arith)) refl) (interact_taken s (token_of (decimal n)) n (token_back n (omega arith)) low high)
 
 slice_leads : (s : Settings) (n : ℕ) → 6 ≤ n → n ≤ 1000 → Leads (behind_settings 2 1 s) (line_text (setting_words (codes "slice") n)) (behind_settings 2 2 (record s { slice = n }))
 unfolding token_of
-slice_leads s n low high = leads_line (setting_words (codes "slice") n) (rw (decimal_is_word n (omega arith)) refl) (slice_taken s (token_of (decimal n)) n (token_back n (omega arith)) low high)
+slice_leads s n low high = leads_line (setting_words (codes "slice") n) (rw (small_is_word n (omega arith)) refl) (slice_taken s (token_of (decimal n)) n (token_back n (omega arith)) low high)
 
 preempt_leads : (s : Settings) (n : ℕ) → n ≤ 255 → Leads (behind_settings 2 2 s) (line_text (setting_words (codes "preempt") n)) (behind_settings 2 3 (record s { preempt = n }))
 unfolding token_of
-preempt_leads s n high = leads_line (setting_words (codes "preempt") n) (rw (decimal_is_word n (omega arith)) refl) (preempt_taken s (token_of (decimal n)) n (token_back n (omega arith)) high)
+preempt_leads s n high = leads_line (setting_words (codes "preempt") n) (rw (small_is_word n (omega arith)) refl) (preempt_taken s (token_of (decimal n)) n (token_back n (omega arith)) high)
 
 steal_leads : (s : Settings) (n : ℕ) → 1 ≤ n → n ≤ 64 → Leads (behind_settings 2 3 s) (line_text (setting_words (codes "steal") n)) (behind_settings 2 4 (record s { steal = n }))
 unfolding token_of
-steal_leads s n low high = leads_line (setting_words (codes "steal") n) (rw (decimal_is_word n (omega arith)) refl) (steal_taken s (token_of (decimal n)) n (token_back n (omega arith)) low high)
+steal_leads s n low high = leads_line (setting_words (codes "steal") n) (rw (small_is_word n (omega arith)) refl) (steal_taken s (token_of (decimal n)) n (token_back n (omega arith)) low high)
 
 jitter_leads : (s : Settings) (n : ℕ) → n < 2 ^ 32 → Leads (behind_settings 2 4 s) (line_text (jitter_words n)) (record (behind_settings 3 4 s) { jitter = n })
 unfolding token_of
-jitter_leads s n small = leads_line (jitter_words n) (rw (decimal_is_word n small) refl) (jitter_taken s (token_of (decimal n)) n (token_back n small) (omega arith))
+jitter_leads s n small = leads_line (jitter_words n) (rw (small_is_word n small) refl) (jitter_taken s (token_of (decimal n)) n (token_back n small) (omega arith))
 
 cpus_leads : (s : Settings) (jitter n : ℕ) → 1 ≤ n → n ≤ 16 → Leads (record (behind_settings 3 4 s) { jitter = jitter }) (line_text (cpus_words n)) (opened s jitter n)
 unfolding token_of
-cpus_leads s jitter n low high = leads_line (cpus_words n) (rw (decimal_is_word n (omega arith)) refl) (cpus_taken s jitter (token_of (decimal n)) n (token_back n (omega arith)) low high)
+cpus_leads s jitter n low high = leads_line (cpus_words n) (rw (small_is_word n (omega arith)) refl) (cpus_taken s jitter (token_of (decimal n)) n (token_back n (omega arith)) low high)
 
 -- ---- all of them
 

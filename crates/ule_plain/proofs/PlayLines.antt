@@ -15,7 +15,7 @@ use Rattle.ule_plain.proofs.CommandLines.{keyword, not_above, not_past}
 use Rattle.ule_plain.proofs.DeclaringLines.{IsOpen, not_first, not_before}
 use Rattle.ule_plain.proofs.Leading.{Leads, Takes, leads_line, means_something}
 use Rattle.ule_plain.proofs.NumberLists.{are_small, written, nums_back, no_fault, written_are_words, length_written}
-use Rattle.ule_plain.proofs.NumbersBack.{IsNumber, token_back, decimal_is_word}
+use Rattle.ule_plain.proofs.NumbersBack.{IsNumber, token_back, small_is_word}
 use Rattle.ule_plain.specs.Lines.{script_words, weave_words, turns_words, end_words}
 
 -- ---- a script
@@ -34,7 +34,7 @@ script_taken r w n is small there rise o =
 -- a written line above a worker's commands
 pub script_leads : (r : Reading) (n : ℕ) → n ≤ 15 → n < r.cpus → r.script_from ≤ n → IsOpen 7 r → Leads r (line_text (script_words n)) (record r { place = max r.place 7; script_from = n + 1 })
 unfolding token_of
-script_leads r n small there rise o = leads_line (script_words n) (rw (decimal_is_word n (omega arith)) refl) (script_taken r (token_of (decimal n)) n (token_back n (omega arith)) small there rise o)
+script_leads r n small there rise o = leads_line (script_words n) (rw (small_is_word n (omega arith)) refl) (script_taken r (token_of (decimal n)) n (token_back n (omega arith)) small there rise o)
 
 -- ---- the section of turns
 

@@ -9,15 +9,8 @@ use Rattle.std.proofs.lemmas.List.{append-nil}
 use Rattle.std.proofs.lemmas.List.Folds.{list_all-append}
 use Rattle.ule_scenario.specs.FirstLine.{is_newline}
 use Rattle.ule_text.specs.Words.{Word, Cut, cut_at, no_cut, word_ended, with_word, words_of, is_unprinted}
+use Rattle.ule_text.proofs.Printed.{is_inner, is_word}
 use Rattle.ule_trace.specs.Line.{spaced, joined}
-
--- a printed byte that is no space
-abbrev pub is_inner : ℕ → Bool
-is_inner b = nat_le 33 b && nat_le b 126
-
--- a word of a written line has a byte, and printed ones alone that are no space
-abbrev pub is_word : Word → Bool
-is_word w = nat_lt 0 (length w) && list_all is_inner w
 
 -- a printed byte
 abbrev is_printed : ℕ → Bool
