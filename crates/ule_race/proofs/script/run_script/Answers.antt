@@ -19,7 +19,7 @@ pub run_command-requires-clause-can : goal.run_command-requires-clause-can
 run_command-requires-clause-can g c =
     let given = reverse (take c.loop-k.k (orders_of c.args.s.now c.args.worker)) in
     let can = subst (λ (z : Setup). CanRun z given c.at.result.now c.loop-k.p) (sym c.requires.setup)
-        (next_runs c.args.s.now c.args.smp.now.table c.args.worker c.loop-k.k c.loop-k.p c.at.result.now c.loop-k.invariant c.at.ensures) in
+    (next_runs c.args.s.now c.args.smp.now.table c.args.worker c.loop-k.k c.loop-k.p c.at.result.now c.loop-k.invariant c.at.ensures) in
     (given, can)
 
 pub run_command-requires-clause-left : goal.run_command-requires-clause-left

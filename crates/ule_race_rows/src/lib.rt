@@ -1,7 +1,0 @@
-//! The tests of `ule_race` and `ule_smp`: what workers that run at once answer, and gates that show
-//! that they do.
-#![tactic(auto)]
-
-pub mod meeting;
-#[cfg(test)]
-mod tests;
