@@ -1,2 +1,3 @@
 pub mod Channels
 pub mod SideRanges
+pub mod WorldRanges
