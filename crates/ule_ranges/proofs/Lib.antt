@@ -1,3 +1,5 @@
 pub mod Channels
 pub mod SideRanges
 pub mod WorldRanges
+pub mod ReplyRanges
+pub mod StepRanges
