@@ -1,5 +1,5 @@
 -- What the parts of an action keep of a side in the ranges of a trace: one lemma a part, and one induction.
-use Rattle.std.proofs.Common.{◌≡◌, ℕ, ◌<◌, ◌≤◌, ◌^◌, ◌+◌, ◌-◌, ◌/◌, ◌%◌, ◌==◌, ◌&&◌, pos, ℤ, Bool, true, false, List, [], ◌∷◌, length, map, Option, Some, None, if◌then◌else◌, refl, sym, ap, subst, arith}
+use Rattle.std.proofs.Common.{◌≡◌, ℕ, ◌<◌, ◌≤◌, ◌^◌, ◌+◌, ◌-◌, ◌*◌, ◌/◌, ◌%◌, ◌==◌, ◌&&◌, pos, ℤ, Bool, true, false, List, [], ◌∷◌, length, map, Option, Some, None, if◌then◌else◌, refl, sym, ap, subst, arith}
 use Rattle.std.specs.Prelude.{count_by, nat_le, not, IfSome}
 use Rattle.std.specs.List.{AllByRecursion}
 use Rattle.std.proofs.lemmas.Bool.{cond_both}
@@ -7,7 +7,15 @@ use Rattle.std.proofs.lemmas.List.{length-map}
 use Rattle.std.proofs.lemmas.List.Sums.{count_by-le-length}
 use Rattle.ule_prio.specs.declared.kind.Kind.{Kind}
 use Rattle.ule_prio.specs.declared.kind.Kind.TheVariants.{Real, Batch, Idle}
-use Rattle.ule_score.specs.Changes.{RecordChange, record_after, runs}
+use Rattle.ule_history.specs.CpuUseUpdate.{updated_use}
+use Rattle.ule_history.specs.HistoryUpdate.{charged_history, rested_history}
+use Rattle.ule_prio.specs.declared.class.Class.{Class}
+use Rattle.ule_prio.specs.declared.class.Class.TheVariants as class
+use Rattle.ule_prio.specs.declared.class.Class.TheVariants.{Ithd, Rt, Fifo, Ts}
+use Rattle.ule_score.specs.Bounds.{with_history, with_use}
+use Rattle.ule_score.specs.Changes.{RecordChange, changed, charged_in, child_of, forked, forks, placed, ran, rebased, rebased_in, record_after, rested, runs, sleeps, tick_length, ticked, used, woken}
+use Rattle.ule_score.specs.declared.record.Change.TheVariants.{Lend, Unlend, Renice, Inherit}
+use Rattle.ule_score.specs.declared.record.ThreadRecord.{ThreadRecord}
 use Rattle.ule_score.specs.declared.place.Place.{Place}
 use Rattle.ule_score.specs.declared.place.Place.TheVariants.{Running, Queued, Asleep, Unborn, Gone, Hand}
 use Rattle.ule_score.specs.declared.record.CpuLine.{CpuLine}
@@ -29,6 +37,60 @@ use Rattle.ule_members.proofs.PartRest.{part_kept}
 use Rattle.ule_members.proofs.Rest.{after_leaving_within}
 use Rattle.ule_trace.specs.Ranges.{CpuFits, IsThreadIfAny}
 
+-- ---- lent priorities
+
+-- the priority that is lent to a thread, if one is, and that which a change lends
+abbrev pub IsLentInRange : ThreadRecord → Type 0
+IsLentInRange r = IfSome r.lent (λ p. p < 256)
+
+abbrev pub LendsInRange : RecordChange → Type 0
+LendsInRange (changed (Lend p)) = p < 256
+LendsInRange change = Unit {0}
+
+-- a base priority computed anew leaves the lent one
+rebased_in_lent : (k : Class) (settings : Settings) (r : ThreadRecord) → (rebased_in k settings r).lent ≡ r.lent
+rebased_in_lent Ts settings r = refl
+rebased_in_lent Ithd settings r = refl
+rebased_in_lent Rt settings r = refl
+rebased_in_lent Fifo settings r = refl
+rebased_in_lent class.Idle settings r = refl
+
+-- so it stays in range
+rebased_lent : (settings : Settings) (r : ThreadRecord) → IsLentInRange r → IsLentInRange (rebased settings r)
+rebased_lent settings r small = subst (λ o. IfSome o (λ p. p < 256)) (sym (rebased_in_lent r.class settings r)) small
+
+-- the time slept leaves it
+rested_lent : (now : ℕ) (r : ThreadRecord) → IsLentInRange r → IsLentInRange (rested now r)
+rested_lent now r small =
+    cond_both (now == r.slept_at) r (with_use (with_history r (rested_history r.hist (1024 * (now - r.slept_at)))) (updated_use r.usage now false)) IsLentInRange (λ same. small)
+    (λ other. small)
+
+-- a tick leaves it
+charged_in_lent : (k : Class) (settings : Settings) (load : ℕ) (r : ThreadRecord) → IsLentInRange r → IsLentInRange (charged_in k settings load r).0
+charged_in_lent Ts settings load r small = rebased_lent settings (with_history r (charged_history r.hist tick_length)) small
+charged_in_lent Ithd settings load r small = small
+charged_in_lent Rt settings load r small = small
+charged_in_lent Fifo settings load r small = small
+charged_in_lent class.Idle settings load r small = small
+
+-- a change that lends a priority in range leaves the lent one in range
+change_lends : (settings : Settings) (now : ℕ) (change : RecordChange) (r : ThreadRecord) → LendsInRange change → IsLentInRange r → IsLentInRange (record_after settings now change r)
+change_lends settings now ran r lends small = small
+change_lends settings now runs r lends small = small
+change_lends settings now sleeps r lends small = small
+change_lends settings now woken r lends small = rebased_lent settings (record (rested now r) { slice_count = 0; slept_at = 0 }) (rested_lent now r small)
+change_lends settings now (ticked load) r lends small = charged_in_lent r.class settings load (used true now r) small
+change_lends settings now (placed c) r lends small = small
+change_lends settings now (changed (Lend p)) r lends small = lends
+change_lends settings now (changed Unlend) r lends small = tt
+change_lends settings now (changed (Renice n)) r lends small = rebased_lent settings (record r { nice = n }) small
+change_lends settings now (changed (Inherit run)) r lends small = rebased_lent settings (with_history r (charged_history r.hist run)) small
+change_lends settings now forks r lends small = rebased_lent settings (with_history (used true now r) (charged_history r.hist tick_length)) small
+change_lends settings now (forked parent c load) r lends small = subst (λ o. IfSome o (λ p. p < 256)) (sym (free parent)) tt
+  where
+    free : (parent : ThreadRecord) → (child_of settings now parent c load r).lent ≡ None
+    free parent = rebased_in_lent parent.class settings _
+
 -- ---- threads
 
 -- the CPU, the worker or the channel of a place
@@ -40,10 +102,11 @@ IsPlaceInRange Unborn = Unit {0}
 IsPlaceInRange Gone = Unit {0}
 IsPlaceInRange (Hand w) = w < 16
 
--- a thread whose number and place are in range
+-- a thread whose number, place and lent priority are in range
 pub record IsThreadInRange (m : Member) : Type 0 where
   pub number : m.thread.id < 256
   pub place : IsPlaceInRange m.place
+  pub lent : IsLentInRange m.thread
 
 -- a side in range
 pub record IsSideInRange (s : Side) : Type 0 where
@@ -55,6 +118,7 @@ pub record IsSideInRange (s : Side) : Type 0 where
 abbrev pub IsPartInRange : ℕ → Part → Type 0
 IsPartInRange l (move t from to) = IsPlaceInRange to
 IsPartInRange l (insert t from how) = l < 16
+IsPartInRange l (note t place change) = LendsInRange change
 IsPartInRange l choose = l < 16
 IsPartInRange l p = Unit {0}
 
@@ -64,17 +128,17 @@ all_map f [] keeps all = tt
 all_map f (m ∷ ms) keeps all = (keeps m all.0, all_map f ms keeps all.1)
 
 -- a changed record
-noted_ranges : (settings : Settings) (now t : ℕ) (change : RecordChange) (ms : List Member) → AllByRecursion IsThreadInRange ms → AllByRecursion IsThreadInRange (with_change settings now t change ms)
-noted_ranges settings now t change ms all =
+noted_ranges : (settings : Settings) (now t : ℕ) (change : RecordChange) (ms : List Member) → LendsInRange change → AllByRecursion IsThreadInRange ms → AllByRecursion IsThreadInRange (with_change settings now t change ms)
+noted_ranges settings now t change ms lends all =
     all_map (λ m. if is_numbered t m then record m { thread = record_after settings now change m.thread } else m) ms
     (λ m is. cond_both (is_numbered t m) (record m { thread = record_after settings now change m.thread }) m IsThreadInRange
-    (λ here. record { number = subst (λ i. i < 256) (sym (change_number settings now change m.thread)) is.number; place = is.place }) (λ other. is)) all
+    (λ here. record { number = subst (λ i. i < 256) (sym (change_number settings now change m.thread)) is.number; place = is.place; lent = change_lends settings now change m.thread lends is.lent }) (λ other. is)) all
 
 -- another place
-moved_ranges : (t : ℕ) (to : Place) (order : ℤ) (ms : List Member) → IsPlaceInRange to → AllByRecursion IsThreadInRange ms → AllByRecursion IsThreadInRange (moved_to t to order ms)
-moved_ranges t to order ms placed all =
+pub moved_ranges : (t : ℕ) (to : Place) (order : ℤ) (ms : List Member) → IsPlaceInRange to → AllByRecursion IsThreadInRange ms → AllByRecursion IsThreadInRange (moved_to t to order ms)
+moved_ranges t to order ms there all =
     all_map (λ m. if is_numbered t m then record m { place = to; order = order } else m) ms
-    (λ m is. cond_both (is_numbered t m) (record m { place = to; order = order }) m IsThreadInRange (λ here. record { number = is.number; place = placed }) (λ other. is)) all
+    (λ m is. cond_both (is_numbered t m) (record m { place = to; order = order }) m IsThreadInRange (λ here. record { number = is.number; place = there; lent = is.lent }) (λ other. is)) all
 
 -- ---- the numbers of a CPU
 
@@ -143,11 +207,11 @@ chosen_ranges c now s there ranges = split (choice_of c s.line.ridx s.members) r
     split : (o : Option Member) → choice_of c s.line.ridx s.members ≡ o → IsChosenInRange (running_chosen c now o s)
     split None found = (ranges, tt)
     split (Some m) found =
-        let ran : List Member = moved_to m.thread.id (Running c) (pos 0) s.members in (
+        let there_now : List Member = moved_to m.thread.id (Running c) (pos 0) s.members in (
           record {
             line = left_fits m.place c s.line (others m.thread.id s.members) ranges.line (after_leaving_within m.place c s.line (others m.thread.id s.members) ranges.line.ridx);
-            members = noted_ranges s.settings now m.thread.id runs ran (moved_ranges m.thread.id (Running c) (pos 0) s.members there ranges.members);
-            few = noted_few s.settings now m.thread.id runs ran (moved_few m.thread.id (Running c) (pos 0) s.members ranges.few);
+            members = noted_ranges s.settings now m.thread.id runs there_now tt (moved_ranges m.thread.id (Running c) (pos 0) s.members there ranges.members);
+            few = noted_few s.settings now m.thread.id runs there_now (moved_few m.thread.id (Running c) (pos 0) s.members ranges.few);
           },
           (all_has IsThreadInRange m s.members ranges.members (choice_stands c s.line.ridx m s.members found).0).number,
         )
@@ -155,7 +219,7 @@ chosen_ranges c now s there ranges = split (choice_of c s.line.ridx s.members) r
 -- a part keeps a side in range, and chooses a thread of it
 part_ranges : (c now : ℕ) (p : Part) (s : Side) (into : Option ℕ) → IsPartInRange c p → IsSideInRange s → IsThreadIfAny into → IsChosenInRange (part_done c now p (s, into))
 part_ranges c now (note t place change) s into is ranges chosen =
-    (record { line = ranges.line; members = noted_ranges s.settings now t change s.members ranges.members; few = noted_few s.settings now t change s.members ranges.few }, chosen)
+    (record { line = ranges.line; members = noted_ranges s.settings now t change s.members is ranges.members; few = noted_few s.settings now t change s.members ranges.few }, chosen)
 part_ranges c now (move t from to) s into is ranges chosen =
     let left : IsSideInRange (leaving from c t s) = leaving_ranges from c t s ranges in
     (record { line = left.line; members = moved_ranges t to (pos 0) s.members is ranges.members; few = moved_few t to (pos 0) s.members ranges.few }, chosen)

@@ -5,7 +5,7 @@ use Rattle.std.specs.List.{AllByRecursion}
 use Rattle.std.specs.Option.{option_map}
 use Rattle.std.proofs.lemmas.Bool.{and_parts, both_ways, cond_both, false≢true, ltb-true}
 use Rattle.std.proofs.lemmas.Option.{same_Some}
-use Rattle.ule_score.specs.Changes.{RecordChange, after_change, ran, sleeps}
+use Rattle.ule_score.specs.Changes.{RecordChange, after_change, changed, ran, sleeps}
 use Rattle.ule_score.specs.declared.place.Place.{Place}
 use Rattle.ule_score.specs.declared.place.Place.TheVariants.{Running, Queued, Asleep, Unborn, Gone, Hand}
 use Rattle.ule_score.specs.declared.record.Change.{Change}
@@ -23,7 +23,7 @@ use Rattle.ule_types.specs.declared.setup.Setup.{Setup}
 use Rattle.ule_model.specs.Action.{Action, answers, move, parts_done}
 use Rattle.ule_model.specs.Actions.{Seen, action_of, change_action, change_action_at, fork_action, give_way_action, go_action, land_action, leave_action, note_action, pair_action_of, requeue_action, switch_action, tick_action, unborn_action, unborn_answer, wake_action, wake_action_at}
 use Rattle.ule_model.specs.ActionStep.{bare_side, seen_under}
-use Rattle.ule_model.specs.Conditions.{IsPossible}
+use Rattle.ule_model.specs.Conditions.{HasSoundNumbers, IsPossible}
 use Rattle.ule_model.specs.Events.{holder_of, lock_of_thread, locks_of}
 use Rattle.ule_model.specs.Places.{lock_of}
 use Rattle.ule_model.specs.Step.{step, step_under_locks}
@@ -38,7 +38,7 @@ use Rattle.ule_members.proofs.Steps.{first_among, step_by_locks, stepped_under_t
 use Rattle.ule_parts.specs.Scheduler.{IsWorldOf}
 use Rattle.ule_trace.specs.Ranges.{EventFits, ReplyFits}
 use Rattle.ule_ranges.proofs.Channels.{NamesChannel}
-use Rattle.ule_ranges.proofs.SideRanges.{IsPartInRange, IsPlaceInRange, IsThreadInRange, parts_ranges}
+use Rattle.ule_ranges.proofs.SideRanges.{IsPartInRange, LendsInRange, IsPlaceInRange, IsThreadInRange, parts_ranges}
 use Rattle.ule_ranges.proofs.WorldRanges.{IsWorldInRange, each_record, fresh_fits, line_fits, put_back_ranges, side_ranges}
 use Rattle.ule_ranges.proofs.ReplyRanges.{IsMoveInRange, event_replies, move_ranges, of_numbered}
 
@@ -70,10 +70,10 @@ module _ (s : Setup) (w : World) (is : IsWorldOf s w) (ranges : IsWorldInRange w
       cond_both (is_unasked why at.line.resched) (answers Unmarked) (give_way_action (is_preemption why at.line.slice_end) at.current at) (BringsInRange l) (λ unasked. tt)
       (λ asked. give_way_brings l (is_preemption why at.line.slice_end) at.current at small)
 
-  leave_brings : (l : ℕ) (change : RecordChange) (reply : ThreadRecord → Option ℕ → Reply) (o : Option ThreadRecord) (at : Seen) → l < 16 → at.worker < 16 →
+  leave_brings : (l : ℕ) (change : RecordChange) (reply : ThreadRecord → Option ℕ → Reply) (o : Option ThreadRecord) (at : Seen) → LendsInRange change → l < 16 → at.worker < 16 →
       BringsInRange l (leave_action change reply o at)
-  leave_brings l change reply None at small hand = tt
-  leave_brings l change reply (Some r) at small hand = (hand, (tt, (tt, (tt, (small, tt)))))
+  leave_brings l change reply None at lends small hand = tt
+  leave_brings l change reply (Some r) at lends small hand = (hand, (lends, (tt, (tt, (small, tt)))))
 
   go_brings : (l t : ℕ) (to : Place) (r : Reply) (o : Option Standing) → IsPartInRange l (move t to to) → BringsInRange l (go_action t to r o)
   go_brings l t to r None goes = tt
@@ -100,51 +100,51 @@ module _ (s : Setup) (w : World) (is : IsWorldOf s w) (ranges : IsWorldInRange w
   fork_brings l t (Some r) None at = tt
   fork_brings l t (Some r) (Some x) at = (tt, (tt, tt))
 
-  unborn_brings : (l : ℕ) (answer : Option Reply) (given : Change) (t : ℕ) (new : ThreadRecord) → BringsInRange l (unborn_action answer given t new)
-  unborn_brings l None given t new = (tt, tt)
-  unborn_brings l (Some refusal) given t new = tt
+  unborn_brings : (l : ℕ) (answer : Option Reply) (given : Change) (t : ℕ) (new : ThreadRecord) → LendsInRange (changed given) → BringsInRange l (unborn_action answer given t new)
+  unborn_brings l None given t new lends = (lends, tt)
+  unborn_brings l (Some refusal) given t new lends = tt
 
-  changed_brings : (l : ℕ) (place : Place) (given : Change) (t : ℕ) (r new : ThreadRecord) (at : Seen) → IsPlaceInRange place → lock_of place ≡ Some l →
+  changed_brings : (l : ℕ) (place : Place) (given : Change) (t : ℕ) (r new : ThreadRecord) (at : Seen) → LendsInRange (changed given) → IsPlaceInRange place → lock_of place ≡ Some l →
       BringsInRange l (change_action_at place given t r new at)
-  changed_brings l (Running c) given t r new at small under = (tt, tt)
-  changed_brings l (Queued c k b) given t r new at small under =
+  changed_brings l (Running c) given t r new at lends small under = (lends, tt)
+  changed_brings l (Queued c k b) given t r new at lends small under =
       cond_both (nat_lt new.priority r.priority) (requeue_action (Queued c k b) given t new at) (note_action (Queued c k b) given t new) (BringsInRange l)
-      (λ better. (tt, (subst (λ (x : ℕ). x < 16) (same_Some c l under) small, (tt, tt)))) (λ other. (tt, tt))
-  changed_brings l (Asleep channel) given t r new at small under = (tt, tt)
-  changed_brings l Unborn given t r new at small under = unborn_brings l (unborn_answer given) given t new
-  changed_brings l Gone given t r new at small under = tt
-  changed_brings l (Hand h) given t r new at small under = tt
+      (λ better. (lends, (subst (λ (x : ℕ). x < 16) (same_Some c l under) small, (tt, tt)))) (λ other. (lends, tt))
+  changed_brings l (Asleep channel) given t r new at lends small under = (lends, tt)
+  changed_brings l Unborn given t r new at lends small under = unborn_brings l (unborn_answer given) given t new lends
+  changed_brings l Gone given t r new at lends small under = tt
+  changed_brings l (Hand h) given t r new at lends small under = tt
 
-  change_brings : (l : ℕ) (given : Change) (t : ℕ) (at : Seen) → is_among (lock_of_thread w.members t) l ≡ true →
+  change_brings : (l : ℕ) (given : Change) (t : ℕ) (at : Seen) → LendsInRange (changed given) → is_among (lock_of_thread w.members t) l ≡ true →
       BringsInRange l (change_action given t (option_map standing_of (thread_of t w.members)) at)
-  change_brings l given t at among =
+  change_brings l given t at lends among =
       let z = sought_under w t l among in
       subst (λ (o : Option Member). BringsInRange l (change_action given t (option_map standing_of o) at)) (sym z.found)
-      (changed_brings l z.member.place given t z.member.thread (after_change at.settings given z.member.thread) at
+      (changed_brings l z.member.place given t z.member.thread (after_change at.settings given z.member.thread) at lends
       (all_has IsThreadInRange z.member w.members ranges.members (has_thread_of t z.member w.members z.found).0).place z.under)
 
   -- each event that names CPUs that are there, and a channel in range
-  event_brings : (e : Event) → NamesChannel e → IsTrue (names_cpus (length w.lines) e) → (l : ℕ) → is_among (locks_of w e) l ≡ true →
+  event_brings : (e : Event) → HasSoundNumbers e → NamesChannel e → IsTrue (names_cpus (length w.lines) e) → (l : ℕ) → is_among (locks_of w e) l ≡ true →
       BringsInRange l (action_of e (seen_under w worker now e l))
-  event_brings (Tick c) channel cpus l among = tick_brings l (seen_under w worker now (Tick c) l).current (seen_under w worker now (Tick c) l)
-  event_brings (Switch c why) channel cpus l among = switch_brings l why (seen_under w worker now (Switch c why) l) (lock_small c l cpus among)
-  event_brings (Drop c ch) channel cpus l among =
-      leave_brings l sleeps (λ r into. Dropped r.id into) (seen_under w worker now (Drop c ch) l).current (seen_under w worker now (Drop c ch) l) (lock_small c l cpus among) low
-  event_brings (Bed t ch) channel cpus l among = go_brings l t (Asleep ch) Bedded (seen_under w worker now (Bed t ch) l).named channel
-  event_brings (Wake t) channel cpus l among = woken_brings l t (seen_under w worker now (Wake t) l).named (seen_under w worker now (Wake t) l) low
-  event_brings (Look c) channel cpus l among = tt
-  event_brings (Land t c) channel cpus l among = land_brings l t (seen_under w worker now (Land t c) l).named (seen_under w worker now (Land t c) l) (lock_small c l cpus among)
-  event_brings (Move a b why) channel cpus l among = tt
-  event_brings (Lend t p) channel cpus l among = change_brings l (change.Lend p) t (seen_under w worker now (Lend t p) l) among
-  event_brings (Unlend t) channel cpus l among = change_brings l change.Unlend t (seen_under w worker now (Unlend t) l) among
-  event_brings (Renice t n) channel cpus l among = change_brings l (change.Renice n) t (seen_under w worker now (Renice t n) l) among
-  event_brings (Hatch t) channel cpus l among = go_brings l t (Hand worker) Hatched (seen_under w worker now (Hatch t) l).named low
-  event_brings (Fork c t) channel cpus l among = fork_brings l t (seen_under w worker now (Fork c t) l).current (seen_under w worker now (Fork c t) l).named (seen_under w worker now (Fork c t) l)
-  event_brings (Return t) channel cpus l among = go_brings l t Unborn Returned (seen_under w worker now (Return t) l).named tt
-  event_brings (Exit c) channel cpus l among =
-      leave_brings l ran (λ r into. Exited r.id into r.parent r.hist.run) (seen_under w worker now (Exit c) l).current (seen_under w worker now (Exit c) l) (lock_small c l cpus among) low
-  event_brings (Bury t) channel cpus l among = go_brings l t Gone Buried (seen_under w worker now (Bury t) l).named tt
-  event_brings (Inherit t run) channel cpus l among = change_brings l (change.Inherit run) t (seen_under w worker now (Inherit t run) l) among
+  event_brings (Tick c) sound channel cpus l among = tick_brings l (seen_under w worker now (Tick c) l).current (seen_under w worker now (Tick c) l)
+  event_brings (Switch c why) sound channel cpus l among = switch_brings l why (seen_under w worker now (Switch c why) l) (lock_small c l cpus among)
+  event_brings (Drop c ch) sound channel cpus l among =
+      leave_brings l sleeps (λ r into. Dropped r.id into) (seen_under w worker now (Drop c ch) l).current (seen_under w worker now (Drop c ch) l) tt (lock_small c l cpus among) low
+  event_brings (Bed t ch) sound channel cpus l among = go_brings l t (Asleep ch) Bedded (seen_under w worker now (Bed t ch) l).named channel
+  event_brings (Wake t) sound channel cpus l among = woken_brings l t (seen_under w worker now (Wake t) l).named (seen_under w worker now (Wake t) l) low
+  event_brings (Look c) sound channel cpus l among = tt
+  event_brings (Land t c) sound channel cpus l among = land_brings l t (seen_under w worker now (Land t c) l).named (seen_under w worker now (Land t c) l) (lock_small c l cpus among)
+  event_brings (Move a b why) sound channel cpus l among = tt
+  event_brings (Lend t p) sound channel cpus l among = change_brings l (change.Lend p) t (seen_under w worker now (Lend t p) l) sound among
+  event_brings (Unlend t) sound channel cpus l among = change_brings l change.Unlend t (seen_under w worker now (Unlend t) l) tt among
+  event_brings (Renice t n) sound channel cpus l among = change_brings l (change.Renice n) t (seen_under w worker now (Renice t n) l) tt among
+  event_brings (Hatch t) sound channel cpus l among = go_brings l t (Hand worker) Hatched (seen_under w worker now (Hatch t) l).named low
+  event_brings (Fork c t) sound channel cpus l among = fork_brings l t (seen_under w worker now (Fork c t) l).current (seen_under w worker now (Fork c t) l).named (seen_under w worker now (Fork c t) l)
+  event_brings (Return t) sound channel cpus l among = go_brings l t Unborn Returned (seen_under w worker now (Return t) l).named tt
+  event_brings (Exit c) sound channel cpus l among =
+      leave_brings l ran (λ r into. Exited r.id into r.parent r.hist.run) (seen_under w worker now (Exit c) l).current (seen_under w worker now (Exit c) l) tt (lock_small c l cpus among) low
+  event_brings (Bury t) sound channel cpus l among = go_brings l t Gone Buried (seen_under w worker now (Bury t) l).named tt
+  event_brings (Inherit t run) sound channel cpus l among = change_brings l (change.Inherit run) t (seen_under w worker now (Inherit t run) l) tt among
 
   -- ---- the step
 
@@ -162,7 +162,7 @@ module _ (s : Setup) (w : World) (is : IsWorldOf s w) (ranges : IsWorldInRange w
           let among = ap (λ (xs : List ℕ). is_among xs l) locks ∙ first_among l ls in
           let ps = (action_of e (seen_under w worker now e l)).parts in
           let done = parts_done l now ps (side_of l w, None) in
-          let kept = parts_ranges l now ps (side_of l w) None (event_brings e channel possible.cpus l among) (side_ranges w l ranges) tt in record {
+          let kept = parts_ranges l now ps (side_of l w) None (event_brings e possible.numbers channel possible.cpus l among) (side_ranges w l ranges) tt in record {
             world = put_back_ranges w l done.0 ranges kept.0;
             reply = event_replies s w is ranges worker now e l (slice_index_or w.lines l fresh_line) possible.numbers (line_fits w l ranges) done.1 kept.1;
           }
