@@ -1,14 +1,13 @@
 -- The channels that a worker's events name are those of its commands, and in their range.
-use Rattle.std.proofs.Common.{◌≡◌, ℕ, ◌-◌, ◌<◌, ◌≤◌, ◌==◌, true, nat_le, nat_lt, List, [], ◌∷◌, length, Option, Some, None, subst, arith}
+use Rattle.std.proofs.Common.{◌≡◌, ℕ, ◌-◌, ◌<◌, ◌==◌, true, nat_lt, List, [], ◌∷◌, length, Option, Some, None, subst}
 use Rattle.std.specs.List.{AllByRecursion}
 use Rattle.std.proofs.lemmas.Bool.{cond_both}
 use Rattle.ule_types.specs.declared.command.Command.{Command}
 use Rattle.ule_types.specs.declared.command.Command.TheVariants as command
 use Rattle.ule_types.specs.declared.event.Event.{Event}
-use Rattle.ule_types.specs.declared.event.Event.TheVariants.{Tick, Switch, Drop, Bed, Wake, Look, Land, Move, Lend, Unlend, Renice, Hatch, Fork, Return, Exit, Bury, Inherit}
+use Rattle.ule_types.specs.declared.event.Event.TheVariants.{Switch, Drop, Bed, Look}
 use Rattle.ule_types.specs.declared.event.Item.{Item}
 use Rattle.ule_types.specs.declared.event.Item.TheVariants as item
-use Rattle.ule_types.specs.declared.event.MoveWhy.TheVariants.{Balance, Steal}
 use Rattle.ule_types.specs.declared.event.Reply.{Reply}
 use Rattle.ule_types.specs.declared.event.Reply.TheVariants as reply
 use Rattle.ule_score.specs.declared.record.Why.TheVariants.{Yield as ByYield}
@@ -16,12 +15,11 @@ use Rattle.ule_topo.specs.Looks.{look_at}
 use Rattle.ule_topo.specs.Mask.{all_cpus, without_cpu}
 use Rattle.ule_topo.specs.Tree.{deepest, outward}
 use Rattle.ule_search.specs.Search.{highest}
-use Rattle.ule_pick.specs.Choice.{pick}
 use Rattle.ule_pick.specs.declared.choice.Card.{Card}
 use Rattle.ule_balance.specs.Plan.{opening_plan, plan_next, plan_told}
 use Rattle.ule_balance.specs.declared.plan.Masks.{Masks}
 use Rattle.ule_program.specs.Courses.{Course, next_in, next_step, or_else, stepped}
-use Rattle.ule_program.specs.Program.{after, after_giving, balancing, begun, gives, has_moved, heard, is_stolen, item_at, lands_on, lands_unless, looks_for, moves, moves_pair, next_of, once_given, saw, searched, steals, steals_from, stops, summary_in, told_last, uses_looks}
+use Rattle.ule_program.specs.Program.{after, after_giving, balancing, begun, gives, has_moved, heard, is_stolen, item_at, lands_on, lands_unless, looks_for, moves, moves_pair, next_of, saw, searched, steals, steals_from, stops, summary_in, told_last, uses_looks}
 use Rattle.ule_program.specs.declared.own.Own.{Own}
 use Rattle.ule_program.specs.declared.stage.Stage.{Stage}
 use Rattle.ule_program.specs.declared.stage.Stage.TheVariants.{Advances, Ended, Gives}

@@ -1,5 +1,5 @@
 -- What the scheduler's values go through, entry by entry, is in the ranges of a trace, where the entries name channels in range.
-use Rattle.std.proofs.Common.{◌≡◌, ℕ, ◌<◌, List, [], ◌∷◌, ◌++◌, Option, sym, ◌∙◌, ap, subst, arith}
+use Rattle.std.proofs.Common.{◌<◌, List, [], ◌∷◌, ◌++◌, Option, sym, subst, arith}
 use Rattle.std.specs.List.{AllByRecursion}
 use Rattle.ule_score.specs.declared.record.ThreadRecord.{ThreadRecord}
 use Rattle.ule_types.specs.declared.event.Entry as types
@@ -12,7 +12,6 @@ use Rattle.ule_model.specs.Legal.{IsEntryOf, IsReplayed, after_entry, replayed}
 use Rattle.ule_model.specs.LockValue.{LockValue}
 use Rattle.ule_model.specs.Start.{world_at_start}
 use Rattle.ule_model.specs.World.{World}
-use Rattle.ule_members.proofs.Setups.{setup_scripts}
 use Rattle.ule_members.proofs.Within.{all-append, all_back, all_front}
 use Rattle.ule_courses.proofs.Histories.{replayed_push, replayed_start}
 use Rattle.ule_micro.specs.declared.entry.Entry.{Entry}
@@ -26,7 +25,7 @@ use Rattle.ule_parts.proofs.Worlds.{IsReached, possible, reached_by}
 use Rattle.ule_trace.specs.Ranges.{EntryFits, ReplyFits}
 use Rattle.ule_ranges.proofs.Channels.{NamesChannel}
 use Rattle.ule_ranges.proofs.StartRanges.{start_ranges}
-use Rattle.ule_ranges.proofs.StepRanges.{IsStepInRange, event_in_range, step_ranges}
+use Rattle.ule_ranges.proofs.StepRanges.{event_in_range, step_ranges}
 use Rattle.ule_ranges.proofs.WorldRanges.{IsWorldInRange}
 
 -- the last entry of a history that a world can make is one that the world before it can make
@@ -58,13 +57,15 @@ module _ (s : Setup) where
       let step = step_ranges s (end_world s es) before.of_setup before.world e.worker e.now low e.event can channel in record {
         world = subst IsWorldInRange (sym (replayed_push (world_at_start s) es e)) step.world;
         of_setup = is;
-        entries = all-append EntryFits es (e ∷ []) before.entries
-            (record {
-              worker = low;
-              event = event_in_range s (end_world s es) before.of_setup before.world e.worker e.now low e.event can channel;
-              now = omega (arith, can.bounded);
-              reply = subst ReplyFits (sym made.reply) step.reply;
-            }, tt);
+        entries = all-append EntryFits es (e ∷ []) before.entries (
+          record {
+            worker = low;
+            event = event_in_range s (end_world s es) before.of_setup before.world e.worker e.now low e.event can channel;
+            now = omega (arith, can.bounded);
+            reply = subst ReplyFits (sym made.reply) step.reply;
+          },
+          tt,
+        );
       }
 
   -- every history in order whose entries were asked for, and name channels in range

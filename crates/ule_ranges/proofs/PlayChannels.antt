@@ -1,5 +1,5 @@
 -- The entries of a legal history name channels in range: those of the commands that a setup allows.
-use Rattle.std.proofs.Common.{◌≡◌, ℕ, ◌<◌, ◌≤◌, ◌==◌, true, nat_le, List, [], ◌∷◌, map, Some, refl, sym, ap, subst, arith}
+use Rattle.std.proofs.Common.{◌≡◌, ℕ, ◌<◌, ◌≤◌, ◌==◌, true, nat_le, List, [], ◌∷◌, map, Some, refl, sym, subst, arith}
 use Rattle.std.specs.Prelude.{slice_index_or}
 use Rattle.std.specs.List.{AllByRecursion, list_all}
 use Rattle.std.proofs.lemmas.Bool.{and_parts, eq-eqb, leb-true}
@@ -40,7 +40,7 @@ module _ (s : Setup) where
   script_bids : (worker : ℕ) → AllByRecursion BidsChannel (slice_index_or s.scripts worker [])
   script_bids worker =
       let valid = all_at (λ script. list_all (is_command (declared_ids s.threads s.unborn) s.cpus) script ≡ true) s.scripts worker []
-          (all_from_list_all (λ script. list_all (is_command (declared_ids s.threads s.unborn) s.cpus) script) s.scripts (setup_scripts s).valid) refl in
+      (all_from_list_all (λ script. list_all (is_command (declared_ids s.threads s.unborn) s.cpus) script) s.scripts (setup_scripts s).valid) refl in
       all_along (λ (c : Command). is_command (declared_ids s.threads s.unborn) s.cpus c ≡ true) BidsChannel (slice_index_or s.scripts worker []) (bids_channel (declared_ids s.threads s.unborn) s.cpus)
       (all_from_list_all (is_command (declared_ids s.threads s.unborn) s.cpus) (slice_index_or s.scripts worker []) valid)
 

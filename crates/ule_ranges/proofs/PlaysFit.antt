@@ -1,5 +1,5 @@
 -- The outcome of the rounds of every setup fits a trace.
-use Rattle.std.proofs.Common.{◌≡◌, ◌<◌, ◌^◌, sym, subst, arith}
+use Rattle.std.proofs.Common.{◌<◌, ◌^◌, sym, subst, arith}
 use Rattle.std.specs.List.{AllByRecursion}
 use Rattle.ule_types.specs.declared.setup.Setup.{Setup}
 use Rattle.ule_model.specs.Ends.{end_time, end_world}

@@ -1,11 +1,10 @@
 -- What each event replies fits a trace: a line or two an event.
-use Rattle.std.proofs.Common.{◌≡◌, ℕ, ◌<◌, ◌≤◌, ◌-◌, ◌*◌, ◌^◌, ◌==◌, ◌&&◌, ◌||◌, Bool, true, false, count_by, List, length, Option, Some, None, IfSome, if◌then◌else◌, refl, sym, ◌∙◌, subst, arith}
-use Rattle.std.specs.Prelude.{is_none, nat_lt, min, option_and_then}
+use Rattle.std.proofs.Common.{◌≡◌, ℕ, ◌<◌, ◌-◌, ◌*◌, ◌^◌, ◌==◌, ◌&&◌, Bool, false, count_by, Option, Some, None, IfSome, refl, sym, ◌∙◌, subst, arith}
+use Rattle.std.specs.Prelude.{is_none, nat_lt, option_and_then}
 use Rattle.std.specs.List.{AllByRecursion}
 use Rattle.std.specs.Option.{option_map}
 use Rattle.std.proofs.lemmas.Bool.{cond_both}
 use Rattle.std.proofs.lemmas.List.Sums.{count_by-le-length}
-use Rattle.std.proofs.lemmas.Option.{IfSome_then}
 use Rattle.ule_history.specs.CpuUseUpdate.{updated_use}
 use Rattle.ule_history.specs.HistoryUpdate.{rested_history}
 use Rattle.ule_prio.specs.Kind.{kind_at}
@@ -15,7 +14,7 @@ use Rattle.ule_prio.specs.declared.kind.Kind.TheVariants.{Real, Batch}
 use Rattle.ule_prio.specs.declared.class.Class.TheVariants.{Ithd, Rt, Fifo, Ts, Idle}
 use Rattle.ule_score.proofs.ChangeLaws.{change_numbers, child_numbers}
 use Rattle.ule_score.specs.Bounds.{with_history, with_use}
-use Rattle.ule_score.specs.Changes.{HasNumbers, IsSoundChange, RecordChange, after_change, after_sleep, after_tick, changed, ran, rebased_in, rested, sleeps, woken}
+use Rattle.ule_score.specs.Changes.{IsSoundChange, after_change, after_sleep, changed, ran, rebased_in, rested, sleeps, woken}
 use Rattle.ule_score.specs.declared.place.Place.{Place}
 use Rattle.ule_score.specs.declared.place.Place.TheVariants.{Running, Queued, Asleep, Unborn, Gone, Hand}
 use Rattle.ule_score.specs.declared.record.Change.{Change}
@@ -41,8 +40,7 @@ use Rattle.ule_model.specs.Landing.{current_priority, current_record}
 use Rattle.ule_model.specs.Places.{is_on, runs_on, waits_on}
 use Rattle.ule_model.specs.Steal.{buckets_of, given_by, is_movable_on, queues_pick}
 use Rattle.ule_model.specs.Switch.{is_preemption, is_unasked, started_reply}
-use Rattle.ule_model.specs.Tick.{load_of}
-use Rattle.ule_model.specs.CpuNumbers.{low_priority_of, movable_of}
+use Rattle.ule_model.specs.CpuNumbers.{low_priority_of}
 use Rattle.ule_model.specs.World.{Member, World, current_of, side_of, standing_of, thread_of}
 use Rattle.ule_members.proofs.Given.{move_sees}
 use Rattle.ule_members.proofs.Membership.{Has, all_has, has_between, has_thread_of}
@@ -53,7 +51,7 @@ use Rattle.ule_courses.proofs.LastCpus.{woken_last}
 use Rattle.ule_parts.specs.Scheduler.{IsWorldOf}
 use Rattle.ule_trace.specs.Ranges.{CpuFits, IsCpuIfAny, IsThreadIfAny, ReplyFits}
 use Rattle.ule_ranges.proofs.SideRanges.{IsPartInRange, IsThreadInRange}
-use Rattle.ule_ranges.proofs.WorldRanges.{IsRecordInRange, IsWorldInRange, each_made, each_record, line_fits, place_fits}
+use Rattle.ule_ranges.proofs.WorldRanges.{IsWorldInRange, each_made, each_record, line_fits, place_fits}
 
 -- ---- waking
 

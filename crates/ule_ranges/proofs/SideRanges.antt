@@ -1,11 +1,10 @@
 -- What the parts of an action keep of a side in the ranges of a trace: one lemma a part, and one induction.
-use Rattle.std.proofs.Common.{◌≡◌, ℕ, ◌<◌, ◌≤◌, ◌^◌, ◌+◌, ◌-◌, ◌*◌, ◌/◌, ◌%◌, ◌==◌, ◌&&◌, pos, ℤ, Bool, true, false, List, [], ◌∷◌, length, map, Option, Some, None, if◌then◌else◌, refl, sym, ap, subst, arith}
-use Rattle.std.specs.Prelude.{count_by, nat_le, not, IfSome}
+use Rattle.std.proofs.Common.{◌≡◌, ℕ, ◌<◌, ◌≤◌, ◌^◌, ◌+◌, ◌-◌, ◌*◌, ◌%◌, ◌==◌, pos, ℤ, true, false, List, [], ◌∷◌, length, map, Option, Some, None, if◌then◌else◌, refl, sym, subst, arith}
+use Rattle.std.specs.Prelude.{IfSome}
 use Rattle.std.specs.List.{AllByRecursion}
 use Rattle.std.proofs.lemmas.Bool.{cond_both}
 use Rattle.std.proofs.lemmas.List.{length-map}
 use Rattle.std.proofs.lemmas.List.Sums.{count_by-le-length}
-use Rattle.ule_prio.specs.declared.kind.Kind.{Kind}
 use Rattle.ule_prio.specs.declared.kind.Kind.TheVariants.{Real, Batch, Idle}
 use Rattle.ule_history.specs.CpuUseUpdate.{updated_use}
 use Rattle.ule_history.specs.HistoryUpdate.{charged_history, rested_history}
@@ -29,7 +28,7 @@ use Rattle.ule_model.specs.Places.{is_on}
 use Rattle.ule_model.specs.declared.insertion.Insertion.{Insertion}
 use Rattle.ule_model.specs.Switch.{after_leaving, choosing_next, running_chosen}
 use Rattle.ule_model.specs.Start.{balance_count, stepped_word}
-use Rattle.ule_model.specs.Tick.{balance_after_tick, is_due, load_of}
+use Rattle.ule_model.specs.Tick.{balance_after_tick, is_due}
 use Rattle.ule_model.specs.World.{Member, Side, is_numbered, moved_to, others, thread_of, with_change}
 use Rattle.ule_members.proofs.Membership.{all_has}
 use Rattle.ule_members.proofs.Moves.{choice_stands}

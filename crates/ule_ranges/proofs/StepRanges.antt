@@ -1,9 +1,9 @@
 -- The step of an event that a worker can perform keeps a world in the ranges of a trace, and its entry fits one.
-use Rattle.std.proofs.Common.{◌≡◌, ℕ, ◌<◌, ◌&&◌, ◌==◌, not, Bool, true, false, List, [], ◌∷◌, length, Option, Some, None, IfSome, IsSome, is_some, refl, sym, ◌∙◌, ap, subst, arith}
+use Rattle.std.proofs.Common.{◌≡◌, ℕ, ◌<◌, ◌&&◌, ◌==◌, not, Bool, true, List, [], ◌∷◌, length, Option, Some, None, IsSome, refl, sym, ◌∙◌, ap, subst, arith}
 use Rattle.std.specs.Prelude.{IsTrue, nat_lt, slice_index_or}
 use Rattle.std.specs.List.{AllByRecursion}
 use Rattle.std.specs.Option.{option_map}
-use Rattle.std.proofs.lemmas.Bool.{and_parts, both_ways, cond_both, false≢true, ltb-true}
+use Rattle.std.proofs.lemmas.Bool.{and_parts, cond_both, false≢true, ltb-true}
 use Rattle.std.proofs.lemmas.Option.{same_Some}
 use Rattle.ule_score.specs.Changes.{RecordChange, after_change, changed, ran, sleeps}
 use Rattle.ule_score.specs.declared.place.Place.{Place}
@@ -22,7 +22,7 @@ use Rattle.ule_types.specs.declared.event.Reply.TheVariants.{Bedded, Buried, Dro
 use Rattle.ule_types.specs.declared.setup.Setup.{Setup}
 use Rattle.ule_model.specs.Action.{Action, answers, move, parts_done}
 use Rattle.ule_model.specs.Actions.{Seen, action_of, change_action, change_action_at, fork_action, give_way_action, go_action, land_action, leave_action, note_action, pair_action_of, requeue_action, switch_action, tick_action, unborn_action, unborn_answer, wake_action, wake_action_at}
-use Rattle.ule_model.specs.ActionStep.{bare_side, seen_under}
+use Rattle.ule_model.specs.ActionStep.{seen_under}
 use Rattle.ule_model.specs.Conditions.{HasSoundNumbers, IsPossible}
 use Rattle.ule_model.specs.Events.{holder_of, lock_of_thread, locks_of}
 use Rattle.ule_model.specs.Places.{lock_of}
@@ -31,7 +31,7 @@ use Rattle.ule_model.specs.Switch.{is_preemption, is_unasked}
 use Rattle.ule_model.specs.World.{Member, World, fresh_line, side_of, standing_of, thread_of, with_side}
 use Rattle.ule_members.proofs.ActionFits.{only_lock, sought_under}
 use Rattle.ule_members.proofs.Given.{move_sees}
-use Rattle.ule_members.proofs.Membership.{Has, all_has, has_thread_of}
+use Rattle.ule_members.proofs.Membership.{all_has, has_thread_of}
 use Rattle.ule_members.proofs.PairDone.{IsMove, move_where}
 use Rattle.ule_members.proofs.Reach.{held_found, unborn_found}
 use Rattle.ule_members.proofs.Steps.{first_among, step_by_locks, stepped_under_two}
@@ -40,7 +40,7 @@ use Rattle.ule_trace.specs.Ranges.{EventFits, ReplyFits}
 use Rattle.ule_ranges.proofs.Channels.{NamesChannel}
 use Rattle.ule_ranges.proofs.SideRanges.{IsPartInRange, LendsInRange, IsPlaceInRange, IsThreadInRange, parts_ranges}
 use Rattle.ule_ranges.proofs.WorldRanges.{IsWorldInRange, each_record, fresh_fits, line_fits, put_back_ranges, side_ranges}
-use Rattle.ule_ranges.proofs.ReplyRanges.{IsMoveInRange, event_replies, move_ranges, of_numbered}
+use Rattle.ule_ranges.proofs.ReplyRanges.{event_replies, move_ranges}
 
 module _ (s : Setup) (w : World) (is : IsWorldOf s w) (ranges : IsWorldInRange w) (worker now : ℕ) (low : worker < 16) where
   -- ---- what an event brings to a side

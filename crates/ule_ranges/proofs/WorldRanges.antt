@@ -1,8 +1,7 @@
 -- A world in the ranges of a trace: its sides, a side put back, and what its records keep.
-use Rattle.std.proofs.Common.{◌≡◌, ℕ, ◌<◌, ◌≤◌, List, length, Option, Some, None, IfSome, sym, subst, arith}
+use Rattle.std.proofs.Common.{ℕ, ◌<◌, ◌≤◌, length, IfSome, arith}
 use Rattle.std.specs.Prelude.{slice_index_or}
 use Rattle.std.specs.List.{AllByRecursion}
-use Rattle.std.specs.Option.{option_map}
 use Rattle.std.proofs.lemmas.Bool.{ltb-true}
 use Rattle.std.proofs.lemmas.List.{length-set}
 use Rattle.std.proofs.lemmas.Option.{IfSome_then}
@@ -11,7 +10,6 @@ use Rattle.ule_score.specs.Bounds.{KeepsBounds}
 use Rattle.ule_score.specs.Changes.{HasNumbers}
 use Rattle.ule_score.specs.declared.place.Place.{Place}
 use Rattle.ule_score.specs.declared.place.Place.TheVariants.{Running, Queued, Asleep, Unborn, Gone, Hand}
-use Rattle.ule_score.specs.declared.record.CpuLine.{CpuLine}
 use Rattle.ule_score.specs.declared.record.ThreadRecord.{ThreadRecord}
 use Rattle.ule_types.proofs.Repeats.{among_passes}
 use Rattle.ule_types.specs.declared.setup.Setup.{Setup}
