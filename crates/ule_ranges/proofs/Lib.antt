@@ -1,0 +1,10 @@
+pub mod Channels
+pub mod SideRanges
+pub mod WorldRanges
+pub mod ReplyRanges
+pub mod StepRanges
+pub mod StartRanges
+pub mod EndRanges
+pub mod HistoryRanges
+pub mod PlayChannels
+pub mod PlaysFit
