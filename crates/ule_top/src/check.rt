@@ -5,13 +5,12 @@ ghost use Rattle.ule_top.specs.Check.{Checks, InputGave, IsInput, TellsFault, st
 ghost use Rattle.ule_task.specs.Input.{Gave};
 ghost use Rattle.ule_trace.specs.Reading.{read_bytes};
 
-use ule_task::{TOO_LONG, Unread, tell, why_refused};
-use ule_task::{DONE, ILLEGAL, NO_MEMORY, finish};
 use crate::verdict_line::{write_bad, write_verdict};
 use std::alloc::Global;
 use ule_check::{Verdict, verdict};
 use ule_io::{Bytes, ReadAllFault, Sink, Source, read_all};
 use ule_scenario::read_front;
+use ule_task::{DONE, ILLEGAL, NO_MEMORY, TOO_LONG, Unread, finish, tell, why_refused};
 use ule_trace::{TraceFault, read_trace};
 use ule_types::{Outcome, Setup};
 

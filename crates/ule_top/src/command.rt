@@ -2,7 +2,6 @@ ghost use Rattle.std.specs.Prelude.{map, string_bytes};
 ghost use Rattle.ule_top.specs.Answers.{Answers};
 
 use crate::check::check;
-use ule_task::USAGE;
 use crate::plain::spell_made;
 use crate::rounds::run;
 use crate::summary::summarize;
@@ -10,6 +9,7 @@ use crate::task::{Task, task_of};
 use crate::weave::weave;
 use std::alloc::Global;
 use ule_io::{Sink, Source};
+use ule_task::USAGE;
 
 /// Performs the task that the words name, from the source to the sink, and gives the exit status.
 ///

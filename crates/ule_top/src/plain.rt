@@ -3,11 +3,11 @@ ghost use Rattle.std.specs.Prelude.{◌≤◌};
 ghost use Rattle.ule_plain.specs.Text.{plain_text};
 ghost use Rattle.ule_top.specs.Making.{WroteMade};
 
-use ule_task::{DONE, NO_MEMORY, finish};
 use std::alloc::Global;
 use ule_gen::make;
 use ule_io::Sink;
 use ule_plain::write_setup;
+use ule_task::{DONE, NO_MEMORY, finish};
 
 /// Writes the plain text of the setup of a number, 1..=1000.
 pub fn spell_made<K: Sink>(alloc: Global, n: u32, out: &mut K) -> u8

@@ -2,11 +2,10 @@
 ghost use Rattle.ule_task.specs.Input.{Gave};
 ghost use Rattle.ule_top.specs.Run.{Runs, rounds_text};
 
-use ule_task::{read_setup, tell};
-use ule_task::{DONE, NO_MEMORY, finish};
 use std::alloc::Global;
 use ule_io::{Sink, Source};
 use ule_seq::play;
+use ule_task::{DONE, NO_MEMORY, finish, read_setup, tell};
 use ule_trace::write_trace;
 use ule_types::Setup;
 

@@ -5,11 +5,11 @@ ghost use Rattle.ule_top.specs.Making.{WroteMade};
 ghost use Rattle.ule_top.specs.Summary.{IsMadeAndPlayed, count_of, is_one_of, line_of, summary_text};
 ghost use Rattle.ule_trace.specs.Line.{spaced};
 
-use ule_task::{DONE, NO_MEMORY, finish};
 use std::alloc::Global;
 use ule_gen::make;
 use ule_io::{Memory, Sink, write_all};
 use ule_seq::play;
+use ule_task::{DONE, NO_MEMORY, finish};
 use ule_text::LineText;
 use ule_types::{Outcome, Reply};
 

@@ -4,10 +4,9 @@ ghost use Rattle.ule_task.specs.Input.{Gave};
 ghost use Rattle.ule_top.specs.Weave.{Weaves};
 ghost use Rattle.ule_weave.specs.WeaveText.{weave_text};
 
-use ule_task::{read_setup, tell};
-use ule_task::{DONE, NO_MEMORY, finish};
 use std::alloc::Global;
 use ule_io::{Sink, Source};
+use ule_task::{DONE, NO_MEMORY, finish, read_setup, tell};
 use ule_types::Setup;
 use ule_weave::Weave;
 
