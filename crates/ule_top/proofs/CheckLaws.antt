@@ -136,7 +136,7 @@ read_as_given : (text : List ℕ) (r : Reading) → read_trace text ≡ Ok r →
 read_as_given text r read = record { reading = r; read = read; gives = record { entries = refl; threads = refl; cpus = refl; now = refl } }
 
 -- a text is read as one reading
-one_reading : (t : Result Reading ℕ) (x y : Reading) → t ≡ Ok x → t ≡ Ok y → x ≡ y
+pub one_reading : (t : Result Reading ℕ) (x y : Reading) → t ≡ Ok x → t ≡ Ok y → x ≡ y
 one_reading t x y p q = cc
 
 -- a text spells one outcome, but for the room

@@ -8,3 +8,4 @@ pub mod VerdictLines
 pub mod Tracing
 pub mod YieldRow
 pub mod LostTurnRow
+pub mod FoundLegal

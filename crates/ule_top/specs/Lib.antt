@@ -7,3 +7,4 @@ pub mod VerdictLine
 pub mod Check
 pub mod Answers
 pub mod Example
+pub mod Laws

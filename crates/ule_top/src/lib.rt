@@ -4,10 +4,12 @@
 
 pub use command::top;
 pub use example::{lost_turn_is_traced, one_yield_is_traced};
+pub use laws::runs_are_found_legal;
 
 mod check;
 mod command;
 mod example;
+mod laws;
 mod plain;
 mod rounds;
 mod summary;
