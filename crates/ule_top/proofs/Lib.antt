@@ -9,3 +9,4 @@ pub mod Tracing
 pub mod YieldRow
 pub mod LostTurnRow
 pub mod FoundLegal
+mod FrontRow
