@@ -1,3 +1,3 @@
 mod Running
-mod Races
+pub mod Races
 mod RaceLaws
