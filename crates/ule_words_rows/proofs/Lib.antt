@@ -1,1 +1,4 @@
 pub mod Lists
+pub mod Passes
+pub mod Script
+pub mod Steps

@@ -1,8 +1,10 @@
-use crate::{nap, shift};
+use crate::{nap, sched, shift};
 use std::test::*;
 use ule_micro_rows::nap::{Act, Answer};
 use ule_micro_rows::shift::{Move, Place};
-use ule_prio::LockId;
+use ule_prio::{Cpu, LockId, ThreadId};
+use ule_score::{Place as Stand, Why};
+use ule_types::{Event, Reply};
 use ule_words::{allowance, worker};
 
 #[test]
@@ -60,5 +62,41 @@ fn workers_run_at_once(rt: HostRuntime) -> Result<(), Fail> {
     assert_eq!(rt; (end.values(), end.time()), (25, 20000));
     assert_eq!(rt; end.place(), Some(LockId(0)));
     assert_eq!(rt; end.word(), Some(LockId(0)));
+    Ok(())
+}
+
+#[test]
+fn sleeps_by_the_schedulers_own_parts(rt: HostRuntime) -> Result<(), Fail> {
+    let setup = sched::setup(rt.alloc())?;
+    let Some(played) = sched::play(rt.alloc(), &setup)? else {
+        assert!(rt; false);
+        return Ok(());
+    };
+    assert_eq!(rt; played.read, [Some(0), None]);
+    let end = &played.end;
+    assert_eq!(rt; (end.len(), end.end_time()), (3, 20000));
+    let thread = ThreadId(0);
+    let told = [
+        (
+            Event::Switch(Cpu(0), Why::Yield),
+            Reply::Switched(None, Some(thread), false),
+        ),
+        (Event::Drop(Cpu(0), 3), Reply::Dropped(thread, None)),
+        (Event::Bed(thread, 3), Reply::Bedded),
+    ];
+    for k in 1..4u32 {
+        if k <= end.len() {
+            let e = end.entry(k);
+            let (event, reply) = told[(k - 1) as usize];
+            assert_eq!(rt; (e.worker, e.now), (0, 20000));
+            assert!(rt; e.event == event && e.reply == reply);
+        }
+    }
+    let lines = end.threads();
+    assert_eq!(rt; lines.len(), 1);
+    for line in lines {
+        assert!(rt; line.place == Stand::Asleep(3));
+        assert!(rt; line.word == Some(LockId(19)));
+    }
     Ok(())
 }
