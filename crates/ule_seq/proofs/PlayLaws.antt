@@ -2,7 +2,7 @@
 use Rattle.std.proofs.Common.{◌≡◌, Bool, true, false, ◌==◌, ℕ, zero, suc, ◌+◌, ◌-◌, ◌^◌, ◌<◌, ◌≤◌, List, [], ◌∷◌, ◌++◌, length, drop, get_or, is_some, slice_get, slice_set, Option, Some, None, option_and_then, IfSome, if◌then◌else◌, refl, sym, ◌∙◌, ap, subst, ⊎_elim, arith}
 use Rattle.std.specs.Option.{option_map}
 use Rattle.std.proofs.lemmas.Bool.{cases_eq, false≢true, true≢false}
-use Rattle.std.proofs.lemmas.List.{drop_all, length-set, length_push}
+use Rattle.std.proofs.lemmas.List.{append-nil, drop_all, length-append, length-set, length_push}
 use Rattle.std.proofs.lemmas.Option.{none-some, same_Some, slice_get-get_or, slice_get_within}
 use Rattle.ule_types.specs.Outcome.{OutcomeValue}
 use Rattle.ule_types.specs.declared.command.Command.{Command}
@@ -36,10 +36,10 @@ use Rattle.ule_rounds.proofs.Keeping.{advance_within, item_left, next_hears, nex
 use Rattle.ule_rounds.proofs.Plays.{opening_count, opening_is}
 use Rattle.ule_rounds.proofs.RoundPlays.{IsPlayed, played_opening, time_below}
 use Rattle.ule_members.proofs.Lists.{drop_at, slice_get-set_other, slice_get-set_same}
-use Rattle.ule_seq.specs.Outcomes.{HasFinals, HasLines, IsOutcomeOf}
+use Rattle.ule_seq.specs.Outcomes.{HasFinals, HasLines, HasNoted, IsOutcomeOf}
 use Rattle.ule_seq.specs.Playing.{AreAhead, CanPerform, GoesOn, HaveGoneOn, IsAdvanced, IsAttempted, IsOpening, IsPerformed, IsPlay, IsReached, PlayerValue, comes_next, course_at, goes_on, later_step, opens, script_of, waiting}
 use Rattle.ule_seq.specs.Readiness.{ready_by, ready_in}
-use Rattle.ule_seq.specs.Turns.{is_finished, lost_to, lost_turn, made_unless, step_told, turn_told}
+use Rattle.ule_seq.specs.Turns.{is_finished, lost_to, lost_turn, made_by, made_unless, step_told, turn_told}
 use Rattle.ule_seq.specs.declared.course.Course.{Course}
 use Rattle.ule_seq.specs.declared.player.Turn.{Turn}
 use Rattle.ule_seq.specs.declared.player.Turn.TheVariants.{Made, Advanced, Lost, Finished}
@@ -283,11 +283,15 @@ can_attempt s v p worker e at found = record {
     played : (n : ℕ) × IsPlayed s n p
     played = reached_played s p at.play.reached
 
--- a player has room for the entry of an event
-pub has_room : (s : Setup) (v : PlayerValue) (p : Play) (worker : ℕ) (e : Event) → IsAtTurn s v p worker (item.Event e) → 0 < v.outcome.room
+-- no play has more entries than rounds
+pub entries_within : (s : Setup) (p : Play) → IsReached s p → length p.entries ≤ greatest_rounds
+entries_within s p reached = let r = reached_played s p reached in omega (arith, r.1.few)
+
+-- an event makes an entry that is still to be counted
+pub has_room : (s : Setup) (v : PlayerValue) (p : Play) (worker : ℕ) (e : Event) → IsAtTurn s v p worker (item.Event e) → v.entries < greatest_rounds
 has_room s v p worker e at =
     let r = reached_played s p at.play.reached in
-    omega (arith, r.1.few, item_left s r.0 p r.1 worker at.stands at.at (item.Event e) (given_course s worker at.course) at.next, at.play.room, ap (λ (es : List Entry). length es) at.play.entries)
+    omega (arith, r.1.few, item_left s r.0 p r.1 worker at.stands at.at (item.Event e) (given_course s worker at.course) at.next, at.play.entries)
 
 -- time stays within its type
 pub advance_fits : (s : Setup) (v : PlayerValue) (p : Play) (worker k : ℕ) → IsAtTurn s v p worker (item.Advance k) → v.now + k < 2 ^ 64
@@ -354,20 +358,16 @@ pub told_item : (s : Setup) (v : PlayerValue) (p : Play) (worker : ℕ) (i : Ite
 told_item s v p worker i at =
     ap (λ (o : Option program.Course). step_told p worker (option_and_then next_step o)) at.at ∙ ap (step_told p worker) at.next
 
--- a player whose world stepped, in which the worker's course went on and the entry was noted, performed the event
-pub event_performed : (s : Setup) (before old : PlayerValue) (world : WorldValue) (noted : OutcomeValue) (worker i : ℕ) (e : Event) (reply : Reply) (course made : Course) →
+-- a player whose world stepped, in which the worker's course went on and the entry was counted, performed the event
+pub event_performed : (s : Setup) (before old : PlayerValue) (world : WorldValue) (worker i : ℕ) (e : Event) (reply : Reply) (course made : Course) →
     before ≡ old → Steps before.world worker e before.now world reply → i ≡ worker → worker < length old.courses → course ≡ get_or before.courses i course →
     GoesOn s worker course (Some (reply, before.now)) made →
-    noted ≡ record before.outcome {
-      entries = before.outcome.entries ++ record { worker = worker; event = e; now = before.now; reply = reply } ∷ [];
-      room = before.outcome.room - 1;
-    } →
-    IsPerformed s old worker e (record { world = world; courses = slice_set before.courses i made; now = before.now; outcome = noted })
+    IsPerformed s old worker e (record { world = world; courses = slice_set before.courses i made; now = before.now; entries = before.entries + 1 })
     (Made (record { worker = worker; event = e; now = before.now; reply = reply }))
-event_performed s before old world noted worker i e reply course made view steps from within at goes note =
+event_performed s before old world worker i e reply course made view steps from within at goes =
     subst
     (λ (v : PlayerValue).
-    IsPerformed s v worker e (record { world = world; courses = slice_set before.courses i made; now = before.now; outcome = noted })
+    IsPerformed s v worker e (record { world = world; courses = slice_set before.courses i made; now = before.now; entries = before.entries + 1 })
     (Made (record { worker = worker; event = e; now = before.now; reply = reply }))) view
     (record {
       reply = reply;
@@ -380,7 +380,7 @@ event_performed s before old world noted worker i e reply course made view steps
         courses = ap (λ (n : ℕ). slice_set before.courses n made) from;
       };
       now = refl;
-      outcome = note;
+      entries = refl;
       tells = refl;
     })
 
@@ -408,19 +408,7 @@ turn_performed s v new p worker e told at ready done =
       courses = ahead_after s p.courses v.courses new.courses worker at.course (record (given_course s worker at.course) { last = Some ((step p.world worker e p.now).1, p.now) })
           (Some (done.reply, v.now)) at.play.courses at.got reached_course done.courses;
       now = at.play.now ∙ sym done.now;
-      entries = entries;
-      room = omega (
-        arith,
-        at.play.room,
-        has_room s v p worker e at,
-        ap (λ (o : OutcomeValue). length o.entries) done.outcome,
-        ap (λ (o : OutcomeValue). o.room) done.outcome,
-        length_push v.outcome.entries (record { worker = worker; event = e; now = v.now; reply = done.reply }),
-      );
-      bare = record {
-        threads = ap (λ (o : OutcomeValue). o.threads) done.outcome ∙ at.play.bare.threads;
-        cpus = ap (λ (o : OutcomeValue). o.cpus) done.outcome ∙ at.play.bare.cpus;
-      };
+      entries = length_push p.entries (entry_of p worker e) ∙ ap (λ (n : ℕ). n + 1) at.play.entries ∙ sym done.entries;
     })
   where
     -- the new scheduler shows the world's step, and has its reply
@@ -440,12 +428,6 @@ turn_performed s v new p worker e told at ready done =
     reached_course : record (given_course s worker at.course) { last = Some ((step p.world worker e p.now).1, p.now) } ≡ course_at s worker at.course (Some (done.reply, v.now))
     reached_course =
         ap (λ (r : Reply). course_at s worker at.course (Some (r, p.now))) reply ∙ ap (λ (n : ℕ). course_at s worker at.course (Some (done.reply, n))) at.play.now
-
-    entries : p.entries ++ entry_of p worker e ∷ [] ≡ new.outcome.entries
-    entries =
-        ap (λ (es : List Entry). es ++ entry_of p worker e ∷ []) at.play.entries ∙
-        ap (λ (x : Entry). v.outcome.entries ++ x ∷ []) (entry_made s v new p worker e told at ready done) ∙
-        sym (ap (λ (o : OutcomeValue). o.entries) done.outcome)
 
 -- the play after a turn that was lost is the play before it
 pub turn_lost : (s : Setup) (v : PlayerValue) (p : Play) (worker : ℕ) (e : Event) → IsAtTurn s v p worker (item.Event e) →
@@ -537,8 +519,6 @@ turn_advanced s v new p worker k told at done =
       courses = ahead_after s p.courses v.courses new.courses worker at.course (given_course s worker at.course) None at.play.courses at.got refl done.courses;
       now = ap (λ (n : ℕ). n + k) at.play.now;
       entries = at.play.entries;
-      room = at.play.room;
-      bare = at.play.bare;
     }))
   where
     turned : turn p worker ≡ record p { now = p.now + k; courses = slice_set p.courses worker (given_course s worker at.course) }
@@ -573,19 +553,73 @@ finished_still p worker told = by_step (option_and_then next_step (slice_get p.c
     by_step (Some (item.Event e, after)) is = absurd (false≢true (sym (event_goes (entry_of p worker e) (holder_of p.world.members) worker (sought_by e)) ∙ is))
     by_step (Some (item.Advance k, after)) is = absurd (false≢true is)
 
+-- ---- the entries
+
+-- the entries after a turn are those before it and the one that it made
+pub turn_entries : (p : Play) (worker : ℕ) (told : Turn) → told ≡ turn_told p worker → (turn p worker).entries ≡ p.entries ++ made_by told
+turn_entries p worker told tells = by_step (option_and_then next_step (slice_get p.courses worker)) ∙ ap (λ (t : Turn). p.entries ++ made_by t) (sym tells)
+  where
+    by_test : (e : Event) (after : program.Course) (t holder : ℕ) (b : Bool) →
+        (if b then performed worker e after p else p).entries ≡ p.entries ++ made_by (made_unless (entry_of p worker e) (if b then None else Some (Lost t holder)))
+    by_test e after t holder true = refl
+    by_test e after t holder false = sym (append-nil p.entries)
+
+    by_holder : (e : Event) (after : program.Course) (t : ℕ) (o : Option ℕ) →
+        (if is_no_others worker o then performed worker e after p else p).entries ≡ p.entries ++ made_by (made_unless (entry_of p worker e) (lost_to worker t o))
+    by_holder e after t None = refl
+    by_holder e after t (Some holder) = by_test e after t holder (holder == worker)
+
+    by_sought : (e : Event) (after : program.Course) (o : Option ℕ) →
+        (if is_no_others worker (option_and_then (holder_of p.world.members) o) then performed worker e after p else p).entries ≡
+        p.entries ++ made_by (made_unless (entry_of p worker e) (lost_turn (holder_of p.world.members) worker o))
+    by_sought e after None = refl
+    by_sought e after (Some t) = by_holder e after t (holder_of p.world.members t)
+
+    by_step : (o : Option (Item × program.Course)) → (after_step worker o p).entries ≡ p.entries ++ made_by (step_told p worker o)
+    by_step None = sym (append-nil p.entries)
+    by_step (Some (item.Event e, after)) = by_sought e after (sought_by e)
+    by_step (Some (item.Advance k, after)) = sym (append-nil p.entries)
+
+-- there is room to note what a turn made
+pub turn_has_room : (s : Setup) (v : PlayerValue) (p : Play) (worker : ℕ) (told : Turn) (o : OutcomeValue) → IsPlay s v (turn p worker) → told ≡ turn_told p worker →
+    HasNoted p o → length (made_by told) ≤ o.room
+turn_has_room s v p worker told o play tells noted =
+    omega (
+      arith,
+      entries_within s (turn p worker) play.reached,
+      ap (λ (es : List Entry). length es) (turn_entries p worker told tells),
+      length-append p.entries (made_by told),
+      ap (λ (es : List Entry). length es) noted.entries,
+      noted.room,
+    )
+
+-- once that is noted, all of the turn's play is
+pub turn_noted : (p : Play) (worker : ℕ) (told : Turn) (o new : OutcomeValue) → told ≡ turn_told p worker → HasNoted p o → length (made_by told) ≤ o.room →
+    new ≡ record o { entries = o.entries ++ made_by told; room = o.room - length (made_by told) } → HasNoted (turn p worker) new
+turn_noted p worker told o new tells noted room made = record {
+  entries =
+      ap (λ (x : OutcomeValue). x.entries) made ∙ ap (λ (es : List Entry). es ++ made_by told) noted.entries ∙
+      sym (turn_entries p worker told tells);
+  room = omega (arith, noted.room, room, ap (λ (x : OutcomeValue). length x.entries) made, ap (λ (x : OutcomeValue). x.room) made, length-append o.entries (made_by told));
+  bare = record {
+    threads = ap (λ (x : OutcomeValue). x.threads) made ∙ noted.bare.threads;
+    cpus = ap (λ (x : OutcomeValue). x.cpus) made ∙ noted.bare.cpus;
+  };
+}
+
 -- ---- the opening and the end
 
 -- a player at the start
 pub opening_play : (s : Setup) (v : PlayerValue) → Shows v.world (world_at_start s) → AreAhead s (opening_courses s) v.courses → v.now ≡ starting_time →
-    v.outcome ≡ record { entries = []; threads = []; cpus = []; now = 0; room = greatest_rounds } → IsPlay s v (opening s)
-opening_play s v shows courses now outcome = record {
-  reached = opens;
-  world = shows;
-  courses = courses;
-  now = sym now;
-  entries = sym (ap (λ (o : OutcomeValue). o.entries) outcome);
-  room = omega (arith, ap (λ (o : OutcomeValue). length o.entries) outcome, ap (λ (o : OutcomeValue). o.room) outcome);
-  bare = record { threads = ap (λ (o : OutcomeValue). o.threads) outcome; cpus = ap (λ (o : OutcomeValue). o.cpus) outcome };
+    v.entries ≡ 0 → IsPlay s v (opening s)
+opening_play s v shows courses now entries = record { reached = opens; world = shows; courses = courses; now = sym now; entries = sym entries }
+
+-- an outcome without lines has noted the opening
+pub opening_noted : (s : Setup) (o : OutcomeValue) → o ≡ record { entries = []; threads = []; cpus = []; now = 0; room = greatest_rounds } → HasNoted (opening s) o
+opening_noted s o bare = record {
+  entries = ap (λ (x : OutcomeValue). x.entries) bare;
+  room = omega (arith, ap (λ (x : OutcomeValue). length x.entries) bare, ap (λ (x : OutcomeValue). x.room) bare);
+  bare = record { threads = ap (λ (x : OutcomeValue). x.threads) bare; cpus = ap (λ (x : OutcomeValue). x.cpus) bare };
 }
 
 -- an outcome with the lines of a world is what a trace tells of it
@@ -596,10 +630,11 @@ told_outcome o w now es same lines =
     ap (λ (xs : List CpuLine). record { entries = es; threads = thread_lines w.members; cpus = xs; now = o.now; room = 0 }) lines.cpus ∙
     ap (λ (n : ℕ). outcome_at w n es) lines.end
 
--- the outcome of a player that has the play of the setup
-pub outcome_of_play : (s : Setup) (v : PlayerValue) (o : OutcomeValue) → IsPlay s v (play_of s) → HasFinals v.world v.outcome o v.now → IsOutcomeOf s o
-outcome_of_play s v o play finals =
-    told_outcome o (play_of s).world v.now (play_of s).entries (finals.entries ∙ sym play.entries) (finals.lines (play_of s).world play.world) ∙
+-- where the entries of the setup's play were noted, the outcome with the final lines of its world is that of the play
+pub outcome_of_play : (s : Setup) (v : PlayerValue) (noted o : OutcomeValue) → IsPlay s v (play_of s) → noted.entries ≡ (play_of s).entries →
+    HasFinals v.world noted o v.now → IsOutcomeOf s o
+outcome_of_play s v noted o play entries finals =
+    told_outcome o (play_of s).world v.now (play_of s).entries (finals.entries ∙ entries) (finals.lines (play_of s).world play.world) ∙
     ap (λ (n : ℕ). outcome_at (play_of s).world n (play_of s).entries) (sym play.now ∙ history.time) ∙
     ap (λ (w : World). outcome_at w (end_time s.scripts) (play_of s).entries) (sym history.world)
   where

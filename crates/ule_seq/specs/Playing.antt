@@ -1,7 +1,6 @@
 -- A play as the code has it, and of which play of the rounds it is the value.
-use Rattle.std.specs.Prelude.{◌≡◌, ◌≢◌, ℕ, ◌+◌, ◌-◌, List, [], ◌∷◌, ◌++◌, drop, length, slice_get, slice_index_or, slice_set, Option, Some, None, IfSome}
+use Rattle.std.specs.Prelude.{◌≡◌, ◌≢◌, ℕ, ◌+◌, List, [], ◌∷◌, drop, length, slice_get, slice_index_or, slice_set, Option, Some, None, IfSome}
 use Rattle.std.specs.Option.{option_map}
-use Rattle.ule_types.specs.Outcome.{OutcomeValue}
 use Rattle.ule_types.specs.declared.command.Command.{Command}
 use Rattle.ule_types.specs.declared.event.Event.{Event}
 use Rattle.ule_types.specs.declared.event.Item.{Item}
@@ -13,11 +12,10 @@ use Rattle.ule_program.specs.Hearing.{CanHear}
 use Rattle.ule_program.specs.Program.{begun, own_of_setup}
 use Rattle.ule_program.specs.declared.own.Own.{Own}
 use Rattle.ule_model.specs.Conditions.{IsPossible}
-use Rattle.ule_model.specs.Rounds.{Play, greatest_rounds, opening, turn}
+use Rattle.ule_model.specs.Rounds.{Play, opening, turn}
 use Rattle.ule_model.specs.Step.{step}
 use Rattle.ule_model.specs.World.{World}
 use Rattle.ule_model.specs.WorldValue.{Shows, Steps, WorldValue}
-use Rattle.ule_seq.specs.Outcomes.{IsBare}
 use Rattle.ule_model.specs.Events.{sought_by}
 use Rattle.ule_seq.specs.Readiness.{ready_in}
 use Rattle.ule_seq.specs.declared.course.Course.{Course}
@@ -30,7 +28,7 @@ pub record PlayerValue : Type 0 where
   pub world : WorldValue
   pub courses : List Course
   pub now : ℕ
-  pub outcome : OutcomeValue
+  pub entries : ℕ
 
 -- ---- courses
 
@@ -90,9 +88,7 @@ pub record IsPlay (s : Setup) (v : PlayerValue) (p : Play) : Type 0 where
   pub world : Shows v.world p.world
   pub courses : AreAhead s p.courses v.courses
   pub now : p.now ≡ v.now
-  pub entries : p.entries ≡ v.outcome.entries
-  pub room : length v.outcome.entries + v.outcome.room ≡ greatest_rounds
-  pub bare : IsBare v.outcome
+  pub entries : length p.entries ≡ v.entries
 
 -- a player is the value of a play of the setup
 abbrev pub IsPlaying : Setup → PlayerValue → Type 0
@@ -113,10 +109,7 @@ pub record IsPerformed (s : Setup) (old : PlayerValue) (worker : ℕ) (e : Event
   pub steps : Steps old.world worker e old.now new.world reply
   pub courses : HaveGoneOn s old.courses worker (Some (reply, old.now)) new.courses
   pub now : new.now ≡ old.now
-  pub outcome : new.outcome ≡ record old.outcome {
-    entries = old.outcome.entries ++ record { worker = worker; event = e; now = old.now; reply = reply } ∷ [];
-    room = old.outcome.room - 1;
-  }
+  pub entries : new.entries ≡ old.entries + 1
   pub tells : told ≡ Made (record { worker = worker; event = e; now = old.now; reply = reply })
 
 -- an event of a worker was performed, or the turn was lost, and it is told to whom

@@ -1,5 +1,5 @@
 -- What a turn of a worker tells of a play.
-use Rattle.std.specs.Prelude.{ℕ, Bool, true, false, ◌==◌, Option, Some, None, option_and_then, slice_get, if◌then◌else◌}
+use Rattle.std.specs.Prelude.{ℕ, Bool, true, false, ◌==◌, List, [], ◌∷◌, Option, Some, None, option_and_then, slice_get, if◌then◌else◌}
 use Rattle.ule_types.specs.declared.event.Entry.{Entry}
 use Rattle.ule_types.specs.declared.event.Event.{Event}
 use Rattle.ule_types.specs.declared.event.Item.{Item}
@@ -16,6 +16,13 @@ is_finished Finished = true
 is_finished (Made e) = false
 is_finished (Advanced k) = false
 is_finished (Lost t holder) = false
+
+-- the entry that a turn made, if it made one
+abbrev pub made_by : Turn → List Entry
+made_by (Made e) = e ∷ []
+made_by (Advanced k) = []
+made_by (Lost t holder) = []
+made_by Finished = []
 
 -- the turn of a worker that is lost, if the worker that has the sought thread in hand is another one
 abbrev pub lost_to : ℕ → ℕ → Option ℕ → Option Turn

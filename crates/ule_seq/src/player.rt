@@ -12,7 +12,7 @@ use std::marker::Model;
 use ule_io::Memory;
 use ule_prio::ThreadId;
 use ule_program::Program;
-use ule_types::{Entry, Event, Item, Outcome, Setup};
+use ule_types::{Entry, Event, Item, Setup};
 
 /// The greatest number of items of all scripts, and so of rounds.
 pub const GREATEST_ROUNDS: u32 = 65_536;
@@ -47,14 +47,15 @@ impl Turn {
     }
 }
 
-/// A play of a setup, turn by turn: the world, where each worker stands, the time, and the entries
-/// made so far. Each call is given the setup that the player was started with.
+/// A play of a setup, turn by turn: the world, where each worker stands, the time, and how many
+/// entries were made so far. It keeps none of them: each turn gives the entry that it made. Each
+/// call is given the setup that the player was started with.
 #[derive(Drop)]
 pub struct Player {
     world: World,
     courses: Vec<Course>,
     now: u64,
-    outcome: Outcome,
+    entries: u32,
 }
 
 impl Model for Player {
@@ -66,13 +67,12 @@ impl Model for Player {
       world = p.world;
       courses = p.courses.items;
       now = p.now;
-      outcome = p.outcome;
+      entries = p.entries;
     } };
 }
 
 impl Player {
     ghost use Rattle.ule_model.specs.Rounds.{Play, opening, turn};
-    ghost use Rattle.ule_seq.specs.Outcomes.{HasFinals, IsBare};
     ghost use Rattle.ule_seq.specs.Playing.{CanPerform, IsAdvanced, IsAttempted, IsPerformed, IsPlay, IsPlaying};
     ghost use Rattle.ule_seq.specs.Readiness.{ready_in};
     ghost use Rattle.ule_seq.specs.Turns.{turn_told};
@@ -85,12 +85,11 @@ impl Player {
     {
         let world = World::start(alloc, s)?;
         let courses = opening_courses(alloc, s)?;
-        let outcome = Outcome::with_room(alloc, GREATEST_ROUNDS)?;
         Ok(Player {
             world,
             courses,
             now: STARTING_TIME,
-            outcome,
+            entries: 0,
         })
     }
 
@@ -128,9 +127,9 @@ impl Player {
 
     /// How many entries were made so far.
     pub fn entries(&self) -> u32
-        ensures { result ≡ length self.entry.now.outcome.entries }
+        ensures { result ≡ self.entry.now.entries }
     {
-        self.outcome.len()
+        self.entries
     }
 
     /// The program of a worker, which has given the item of the worker's next turn.
@@ -155,7 +154,7 @@ impl Player {
         requires step { ready_in self.old.world worker event.now ≡ Yes → CanPerform self.old worker event.now }
         requires workers { worker < 16 }
         requires worker { worker < length self.old.courses }
-        requires room { 0 < self.old.outcome.room }
+        requires room { self.old.entries < GREATEST_ROUNDS }
         ensures { IsAttempted s.now self.old worker event.now self.new result }
     {
         match self.world.ready(worker, event) {
@@ -181,7 +180,7 @@ impl Player {
         requires step { CanPerform self.old worker event.now }
         requires workers { worker < 16 }
         requires worker { worker < length self.old.courses }
-        requires room { 0 < self.old.outcome.room }
+        requires room { self.old.entries < GREATEST_ROUNDS }
         ensures { IsPerformed s.now self.old worker event.now self.new result }
     {
         let now = self.now;
@@ -192,23 +191,8 @@ impl Player {
             reply: self.world.step(worker, event, now),
         };
         self.courses[usize::from(worker)].hear(s, worker, &entry.reply, now);
-        self.outcome.note(entry);
+        self.entries += 1;
         Turn::Made(entry)
-    }
-
-    /// The outcome of this play: its entries, and the final lines of its world as it stands.
-    pub fn outcome(self) -> Outcome
-        requires { IsBare self.outcome }
-        ensures { HasFinals self.world self.outcome result self.now }
-    {
-        let Player {
-            world,
-            courses: _,
-            now,
-            mut outcome,
-        } = self;
-        world.finals(now, &mut outcome);
-        outcome
     }
 }
 

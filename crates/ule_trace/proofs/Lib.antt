@@ -1,5 +1,5 @@
 pub mod Progress
-pub mod Rest
+pub mod PenLaws
 pub mod Digits
 pub mod EventRows
 pub mod ReplyRows

@@ -6,6 +6,7 @@ pub mod EventText
 pub mod ReplyText
 pub mod FinalText
 pub mod Trace
+pub mod Penned
 pub mod Parts
 pub mod PartsLeft
 pub mod Fields

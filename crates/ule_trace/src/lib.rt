@@ -4,6 +4,7 @@
 
 pub use event::{spell_event, write_event};
 pub use fault::TraceFault;
+pub use pen::Pen;
 pub use place::{spell_place, write_place};
 pub use reading::read_trace;
 pub use reply::{spell_reply, write_reply};
@@ -19,6 +20,7 @@ pub mod held;
 pub mod laws;
 mod line_form;
 mod parts;
+pub mod pen;
 mod place;
 mod place_form;
 mod reading;

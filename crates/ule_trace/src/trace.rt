@@ -4,10 +4,10 @@ ghost use Rattle.ule_trace.specs.Line.{line_text, lines_text};
 ghost use Rattle.ule_trace.specs.Trace.{entry_words, closing_lines, trace_text};
 
 use crate::event::spell_event;
-use crate::finals::{spell_cpu, spell_thread};
 use crate::held::{CAPACITY, Held, LINE};
+use crate::pen::Pen;
 use crate::reply::spell_reply;
-use ule_io::{Sink, WriteFault, write_all};
+use ule_io::{Sink, WriteFault};
 use ule_types::{Entry, Outcome, Setup};
 
 /// Appends the line of the entry with this number.
@@ -43,21 +43,9 @@ pub fn spell_closing(held: &mut Held, now: u64, count: u64)
 pub fn write_trace<K: Sink>(_setup: &Setup, o: &Outcome, out: &mut K) -> Result<(), WriteFault>
     ensures { WroteWhole (K.state out.old) (K.state out.new) (trace_text o.now) result }
 {
-    let mut held = Held::new();
-    held.text("ule-trace 1\n");
+    let mut pen = Pen::begin();
     for k in 0..o.len() {
-        held.make_room(out)?;
-        spell_entry(&mut held, u64::from(k) + 1, o.entry(k + 1));
+        pen.entry(k + 1, o.entry(k + 1), out);
     }
-    for line in o.threads() {
-        held.make_room(out)?;
-        spell_thread(&mut held, line);
-    }
-    for (c, line) in o.cpus().iter().enumerate() {
-        held.make_room(out)?;
-        spell_cpu(&mut held, c as u64, line);
-    }
-    held.make_room(out)?;
-    spell_closing(&mut held, o.end_time(), u64::from(o.len()));
-    write_all(out, held.as_slice())
+    pen.end(o, o.len(), out)
 }

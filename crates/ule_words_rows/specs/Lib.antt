@@ -1,3 +1,4 @@
 pub mod Firsts
 pub mod Idle
 pub mod Shifting
+pub mod Sleeping

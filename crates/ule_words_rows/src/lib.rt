@@ -3,6 +3,7 @@
 #![tactic(auto)]
 
 pub mod nap;
+pub mod sched;
 pub mod shift;
 #[cfg(test)]
 mod tests;

@@ -6,8 +6,8 @@ use Rattle.ule_seq.proofs.player.Player.start.Goals as goal
 
 pub returns-clause-opens : goal.returns-clause-opens
 returns-clause-opens c =
-    opening_play c.args.s.now (record { world = c.in_ok-world.world; courses = c.in_ok-courses.courses.items; now = 20000; outcome = c.in_ok-outcome.outcome })
-    c.in_ok-world.ensures.shows c.in_ok-courses.ensures refl c.in_ok-outcome.ensures
+    opening_play c.args.s.now (record { world = c.in_ok-world.world; courses = c.in_ok-courses.courses.items; now = 20000; entries = 0 })
+    c.in_ok-world.ensures.shows c.in_ok-courses.ensures refl refl
 
 pub returns-clause-plays : goal.returns-clause-plays
 returns-clause-plays c = (opening c.args.s.now, returns-clause-opens c)
