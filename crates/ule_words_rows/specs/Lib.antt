@@ -1,4 +1,3 @@
 pub mod Firsts
 pub mod Idle
 pub mod Shifting
-pub mod Sleeping

@@ -3,7 +3,6 @@
 #![tactic(auto)]
 
 pub mod nap;
-pub mod sched;
 pub mod shift;
 #[cfg(test)]
 mod tests;

@@ -148,7 +148,7 @@ fn close(
 }
 
 /// The number of the lock that a word names; none where it is blocked.
-pub(crate) fn lock_of(word: Word) -> Option<u8> {
+fn lock_of(word: Word) -> Option<u8> {
     match word {
         Word::Lock(l) => Some(l.0),
         Word::Blocked => None,
