@@ -1,10 +1,8 @@
-use Rattle.std.proofs.Common.{◌≡◌, ◌+◌, ◌-◌, ◌≤◌, List, ◌++◌, ◌∷◌, [], length, take, sym, ◌∙◌, ap, subst, arith}
+use Rattle.std.proofs.Common.{◌≡◌, ◌+◌, ◌-◌, ◌≤◌, ◌++◌, ◌∷◌, [], length, take, sym, ◌∙◌, ap, subst, arith}
 use Rattle.std.specs.Prelude.{slice_get}
 use Rattle.std.proofs.lemmas.List.{length-take-le, take_all, take_more}
 use Rattle.std.proofs.lemmas.Option.{get_or_from_slice_get, slice_get_within}
-use Rattle.ule_io.specs.Sink.{WroteWhole}
 use Rattle.ule_trace.specs.Penned.{HasTraced}
-use Rattle.ule_trace.specs.Trace.{trace_text}
 use Rattle.ule_types.specs.declared.event.Entry.{Entry}
 use Rattle.ule_trace.proofs.trace.write_trace.Goals as goal
 

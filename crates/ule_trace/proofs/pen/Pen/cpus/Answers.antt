@@ -1,4 +1,4 @@
-use Rattle.std.proofs.Common.{◌≡◌, ◌≤◌, false, ◌++◌, length, take, sym, subst, arith}
+use Rattle.std.proofs.Common.{◌≤◌, false, ◌++◌, length, take, sym, subst, arith}
 use Rattle.std.proofs.lemmas.List.{append-nil, take_all}
 use Rattle.ule_score.specs.declared.record.CpuLine.{CpuLine}
 use Rattle.ule_trace.specs.Line.{lines_text}

@@ -1,4 +1,4 @@
-use Rattle.std.proofs.Common.{◌≡◌, false, is_some, ap, refl, ◌∙◌, sym, arith}
+use Rattle.std.proofs.Common.{◌≡◌, false, is_some, arith}
 use Rattle.ule_trace.proofs.PenLaws.{gone_failed, gone_on}
 use Rattle.ule_trace.proofs.pen.Pen.make_room.Goals as goal
 

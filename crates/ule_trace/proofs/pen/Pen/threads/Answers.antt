@@ -1,4 +1,4 @@
-use Rattle.std.proofs.Common.{◌≡◌, ◌≤◌, ◌++◌, length, map, take, sym, ap, subst, arith}
+use Rattle.std.proofs.Common.{◌≤◌, ◌++◌, length, map, take, sym, subst, arith}
 use Rattle.std.proofs.lemmas.List.{append-nil, take_all}
 use Rattle.ule_trace.specs.FinalText.{final_words}
 use Rattle.ule_trace.specs.Line.{lines_text}
