@@ -9,6 +9,7 @@ pub mod StepPromises
 pub mod RefusalLaws
 pub mod FinalLaws
 pub mod PlayLaws
+pub mod RecorderLaws
 pub mod NoteSteps
 pub mod OpeningWords
 pub mod PartLaws

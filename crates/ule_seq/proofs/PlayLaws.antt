@@ -1,42 +1,34 @@
 -- How a player goes on: courses, and the plays that turns reach.
-use Rattle.std.proofs.Common.{◌≡◌, Bool, true, false, ◌==◌, ℕ, zero, suc, ◌+◌, ◌-◌, ◌^◌, ◌<◌, ◌≤◌, List, [], ◌∷◌, ◌++◌, length, drop, get_or, is_some, slice_get, slice_set, Option, Some, None, option_and_then, IfSome, if◌then◌else◌, refl, sym, ◌∙◌, ap, subst, ⊎_elim, arith}
+use Rattle.std.proofs.Common.{◌≡◌, Bool, true, false, ◌==◌, ℕ, zero, suc, ◌+◌, ◌^◌, ◌<◌, ◌≤◌, List, [], ◌∷◌, ◌++◌, length, drop, get_or, is_some, slice_get, slice_set, Option, Some, None, option_and_then, IfSome, if◌then◌else◌, refl, sym, ◌∙◌, ap, subst, ⊎_elim, arith}
 use Rattle.std.specs.Option.{option_map}
 use Rattle.std.proofs.lemmas.Bool.{cases_eq, false≢true, true≢false}
-use Rattle.std.proofs.lemmas.List.{append-nil, drop_all, length-append, length-set, length_push}
+use Rattle.std.proofs.lemmas.List.{append-nil, drop_all, length-set, length_push}
 use Rattle.std.proofs.lemmas.Option.{none-some, same_Some, slice_get-get_or, slice_get_within}
-use Rattle.ule_types.specs.Outcome.{OutcomeValue}
 use Rattle.ule_types.specs.declared.command.Command.{Command}
 use Rattle.ule_types.specs.declared.event.Entry.{Entry}
 use Rattle.ule_types.specs.declared.event.Event.{Event}
 use Rattle.ule_types.specs.declared.event.Item.{Item}
 use Rattle.ule_types.specs.declared.event.Item.TheVariants as item
 use Rattle.ule_types.specs.declared.event.Reply.{Reply}
-use Rattle.ule_types.specs.declared.outcome.ThreadLine.{ThreadLine}
 use Rattle.ule_types.specs.declared.setup.Setup.{Setup}
-use Rattle.ule_score.specs.declared.record.CpuLine.{CpuLine}
 use Rattle.ule_program.specs.Courses as program
 use Rattle.ule_program.specs.Courses.{course_of, next_in, next_step, or_else, stepped}
 use Rattle.ule_program.specs.Hearing.{CanHear}
 use Rattle.ule_program.specs.Program.{begun, next_of, own_of_setup}
 use Rattle.ule_program.specs.declared.own.Own.{Own}
 use Rattle.ule_model.specs.Conditions.{IsPossible}
-use Rattle.ule_model.specs.Ends.{end_time, outcome_at}
 use Rattle.ule_model.specs.Events.{holder_of, is_no_others, is_ready, sought_by}
-use Rattle.ule_model.specs.Finals.{thread_lines}
-use Rattle.ule_model.specs.History.{IsHistoryOf}
-use Rattle.ule_model.specs.Rounds.{Play, after_item, after_step, entry_of, greatest_rounds, opening, opening_courses, performed, play_of, turn}
+use Rattle.ule_model.specs.Rounds.{Play, after_item, after_step, entry_of, greatest_rounds, opening, opening_courses, performed, turn}
 use Rattle.ule_model.specs.Start.{starting_time, world_at_start}
 use Rattle.ule_model.specs.Step.{step}
 use Rattle.ule_model.specs.World.{World}
 use Rattle.ule_model.specs.WorldValue.{Shows, Steps, WorldValue, holder_in}
 use Rattle.ule_laws.proofs.TellLaws.{holder_shown}
-use Rattle.ule_rounds.proofs.HistoryLaws.{history_of_rounds}
 use Rattle.ule_rounds.proofs.Finishing.{turn_goes}
-use Rattle.ule_rounds.proofs.Keeping.{advance_within, item_left, next_hears, next_possible}
+use Rattle.ule_rounds.proofs.Keeping.{advance_within, item_left, items_few, next_hears, next_possible}
 use Rattle.ule_rounds.proofs.Plays.{opening_count, opening_is}
 use Rattle.ule_rounds.proofs.RoundPlays.{IsPlayed, played_opening, time_below}
 use Rattle.ule_members.proofs.Lists.{drop_at, slice_get-set_other, slice_get-set_same}
-use Rattle.ule_seq.specs.Outcomes.{HasFinals, HasLines, HasNoted, IsOutcomeOf}
 use Rattle.ule_seq.specs.Playing.{AreAhead, CanPerform, GoesOn, HaveGoneOn, IsAdvanced, IsAttempted, IsOpening, IsPerformed, IsPlay, IsReached, PlayerValue, comes_next, course_at, goes_on, later_step, opens, script_of, waiting}
 use Rattle.ule_seq.specs.Readiness.{ready_by, ready_in}
 use Rattle.ule_seq.specs.Turns.{is_finished, lost_to, lost_turn, made_by, made_unless, step_told, turn_told}
@@ -285,7 +277,7 @@ can_attempt s v p worker e at found = record {
 
 -- no play has more entries than rounds
 pub entries_within : (s : Setup) (p : Play) → IsReached s p → length p.entries ≤ greatest_rounds
-entries_within s p reached = let r = reached_played s p reached in omega (arith, r.1.few)
+entries_within s p reached = let r = reached_played s p reached in omega (arith, r.1.few, items_few s r.0 p r.1)
 
 -- an event makes an entry that is still to be counted
 pub has_room : (s : Setup) (v : PlayerValue) (p : Play) (worker : ℕ) (e : Event) → IsAtTurn s v p worker (item.Event e) → v.entries < greatest_rounds
@@ -580,63 +572,9 @@ turn_entries p worker told tells = by_step (option_and_then next_step (slice_get
     by_step (Some (item.Event e, after)) = by_sought e after (sought_by e)
     by_step (Some (item.Advance k, after)) = sym (append-nil p.entries)
 
--- there is room to note what a turn made
-pub turn_has_room : (s : Setup) (v : PlayerValue) (p : Play) (worker : ℕ) (told : Turn) (o : OutcomeValue) → IsPlay s v (turn p worker) → told ≡ turn_told p worker →
-    HasNoted p o → length (made_by told) ≤ o.room
-turn_has_room s v p worker told o play tells noted =
-    omega (
-      arith,
-      entries_within s (turn p worker) play.reached,
-      ap (λ (es : List Entry). length es) (turn_entries p worker told tells),
-      length-append p.entries (made_by told),
-      ap (λ (es : List Entry). length es) noted.entries,
-      noted.room,
-    )
-
--- once that is noted, all of the turn's play is
-pub turn_noted : (p : Play) (worker : ℕ) (told : Turn) (o new : OutcomeValue) → told ≡ turn_told p worker → HasNoted p o → length (made_by told) ≤ o.room →
-    new ≡ record o { entries = o.entries ++ made_by told; room = o.room - length (made_by told) } → HasNoted (turn p worker) new
-turn_noted p worker told o new tells noted room made = record {
-  entries =
-      ap (λ (x : OutcomeValue). x.entries) made ∙ ap (λ (es : List Entry). es ++ made_by told) noted.entries ∙
-      sym (turn_entries p worker told tells);
-  room = omega (arith, noted.room, room, ap (λ (x : OutcomeValue). length x.entries) made, ap (λ (x : OutcomeValue). x.room) made, length-append o.entries (made_by told));
-  bare = record {
-    threads = ap (λ (x : OutcomeValue). x.threads) made ∙ noted.bare.threads;
-    cpus = ap (λ (x : OutcomeValue). x.cpus) made ∙ noted.bare.cpus;
-  };
-}
-
--- ---- the opening and the end
+-- ---- the opening
 
 -- a player at the start
 pub opening_play : (s : Setup) (v : PlayerValue) → Shows v.world (world_at_start s) → AreAhead s (opening_courses s) v.courses → v.now ≡ starting_time →
     v.entries ≡ 0 → IsPlay s v (opening s)
 opening_play s v shows courses now entries = record { reached = opens; world = shows; courses = courses; now = sym now; entries = sym entries }
-
--- an outcome without lines has noted the opening
-pub opening_noted : (s : Setup) (o : OutcomeValue) → o ≡ record { entries = []; threads = []; cpus = []; now = 0; room = greatest_rounds } → HasNoted (opening s) o
-opening_noted s o bare = record {
-  entries = ap (λ (x : OutcomeValue). x.entries) bare;
-  room = omega (arith, ap (λ (x : OutcomeValue). length x.entries) bare, ap (λ (x : OutcomeValue). x.room) bare);
-  bare = record { threads = ap (λ (x : OutcomeValue). x.threads) bare; cpus = ap (λ (x : OutcomeValue). x.cpus) bare };
-}
-
--- an outcome with the lines of a world is what a trace tells of it
-pub told_outcome : (o : OutcomeValue) (w : World) (now : ℕ) (es : List Entry) → o.entries ≡ es → HasLines o w now → record o { room = 0 } ≡ outcome_at w now es
-told_outcome o w now es same lines =
-    ap (λ (xs : List Entry). record o { entries = xs; room = 0 }) same ∙
-    ap (λ (xs : List ThreadLine). record o { entries = es; threads = xs; room = 0 }) lines.threads ∙
-    ap (λ (xs : List CpuLine). record { entries = es; threads = thread_lines w.members; cpus = xs; now = o.now; room = 0 }) lines.cpus ∙
-    ap (λ (n : ℕ). outcome_at w n es) lines.end
-
--- where the entries of the setup's play were noted, the outcome with the final lines of its world is that of the play
-pub outcome_of_play : (s : Setup) (v : PlayerValue) (noted o : OutcomeValue) → IsPlay s v (play_of s) → noted.entries ≡ (play_of s).entries →
-    HasFinals v.world noted o v.now → IsOutcomeOf s o
-outcome_of_play s v noted o play entries finals =
-    told_outcome o (play_of s).world v.now (play_of s).entries (finals.entries ∙ entries) (finals.lines (play_of s).world play.world) ∙
-    ap (λ (n : ℕ). outcome_at (play_of s).world n (play_of s).entries) (sym play.now ∙ history.time) ∙
-    ap (λ (w : World). outcome_at w (end_time s.scripts) (play_of s).entries) (sym history.world)
-  where
-    history : IsHistoryOf s (play_of s)
-    history = history_of_rounds s

@@ -9,6 +9,7 @@ pub mod Outcomes
 pub mod Notes
 pub mod NoteLaws
 pub mod Playing
+pub mod Recorders
 pub mod Parts
 pub mod PartLaws
 pub mod StepStates

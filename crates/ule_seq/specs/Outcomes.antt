@@ -1,5 +1,5 @@
 -- What is told of a world at the end of a play.
-use Rattle.std.specs.Prelude.{◌≡◌, ℕ, ◌+◌, List, [], length, Option, Some, None}
+use Rattle.std.specs.Prelude.{◌≡◌, ℕ, List, [], Option, Some, None}
 use Rattle.std.specs.List.{filter_map}
 use Rattle.ule_score.specs.declared.record.CpuLine.{CpuLine}
 use Rattle.ule_types.specs.Outcome.{OutcomeValue}
@@ -7,7 +7,7 @@ use Rattle.ule_types.specs.declared.setup.Setup.{Setup}
 use Rattle.ule_model.specs.Ends.{outcome_of}
 use Rattle.ule_model.specs.Finals.{thread_lines}
 use Rattle.ule_model.specs.LockValue.{LockValue, chain, limbo, nothing, queue}
-use Rattle.ule_model.specs.Rounds.{Play, greatest_rounds, play_of}
+use Rattle.ule_model.specs.Rounds.{play_of}
 use Rattle.ule_model.specs.World.{World}
 use Rattle.ule_model.specs.WorldValue.{Shows, WorldValue}
 
@@ -30,12 +30,6 @@ queue_lines values = filter_map queue_line values
 pub record IsBare (o : OutcomeValue) : Type 0 where
   pub threads : o.threads ≡ []
   pub cpus : o.cpus ≡ []
-
--- the entries of a play were noted in an outcome that has no final lines yet, and has room for all others
-pub record HasNoted (p : Play) (o : OutcomeValue) : Type 0 where
-  pub entries : o.entries ≡ p.entries
-  pub room : length o.entries + o.room ≡ greatest_rounds
-  pub bare : IsBare o
 
 -- an outcome has the final lines of a world at a time
 pub record HasLines (o : OutcomeValue) (w : World) (time : ℕ) : Type 0 where
