@@ -1,5 +1,5 @@
 -- The calendar promise for each call on a CPU.
-use Rattle.std.proofs.Common.{◌≡◌, ◌≢◌, ◌==◌, rules, ℕ, ◌+◌, ◌%◌, ◌<◌, ◌≤◌, Bool, true, false, not, cond, ◌&&◌, if◌then◌else◌, Option, Some, None, IfSome, List, [], ◌∷◌, length, slice_set, arith, refl, sym, subst, ap, ◌∙◌}
+use Rattle.std.proofs.Common.{◌≡◌, ◌≢◌, ◌==◌, rules, ℕ, ◌+◌, ◌%◌, ◌<◌, ◌≤◌, Bool, true, false, nat_lt, not, cond, ◌&&◌, if◌then◌else◌, Option, Some, None, IfSome, List, [], ◌∷◌, length, slice_set, arith, refl, sym, subst, ap, ◌∙◌}
 use Rattle.std.proofs.lemmas.Bool.{ne_eqb}
 use Rattle.ule_prio.specs.Kind.{kind_at}
 use Rattle.ule_prio.specs.declared.kind.Kind.{Kind}
@@ -12,14 +12,15 @@ use Rattle.ule_calendar.specs.Promise.{ComesNearer, DialGoesOn, IsNearest}
 use Rattle.ule_calendar.proofs.CalendarLaws.{AreClose-after_removal, AreClose-turned, AreClose-with_head, AreClose-with_tail, goes_round}
 use Rattle.ule_calendar.proofs.PromiseLaws.{close_indexes, goes_on_by, goes_on_turned}
 use Rattle.ule_model.specs.CalendarIndexes.{calendar_bucket, distance_of, reach_of}
-use Rattle.ule_model.specs.CpuChange.{value_followed, value_recorded, value_removed, value_removed_from, value_requeued}
+use Rattle.ule_model.specs.CpuChange.{kind_queued, value_changed, value_changed_from, value_followed, value_forked, value_forked_from, value_forked_with, value_recorded, value_removed, value_removed_from, value_requeued}
 use Rattle.ule_model.specs.CpuValue.{CpuValue, current_chosen, current_in, first_in, inserted_in, inserted_thread, removed_from, thread_in, value_clocked, value_laid, value_switched, value_switched_from, value_taken, value_taken_from, value_taken_with, value_ticked, value_ticked_with, chosen_next, with_given_way, with_thread_after, without_current, without_marks}
 use Rattle.ule_model.specs.Insertion.{bucket_of}
 use Rattle.ule_model.specs.declared.insertion.Insertion.{Insertion}
 use Rattle.ule_model.specs.declared.insertion.Insertion.TheVariants.{Ordinary, Borrowing, Preempted}
 use Rattle.ule_model.specs.Switch.{insertion_of, is_preemption, is_unasked, one_more}
 use Rattle.ule_model.specs.Tick.{is_due}
-use Rattle.ule_score.specs.Changes.{RecordChange, ran}
+use Rattle.ule_score.specs.Changes.{RecordChange, after_change, ran}
+use Rattle.ule_score.specs.declared.record.Change.{Change}
 use Rattle.ule_score.specs.declared.record.ThreadRecord.{ThreadRecord}
 use Rattle.ule_score.specs.declared.record.Why.{Why}
 use Rattle.ule_tdq.specs.Cpu.{KeepsCpu}
@@ -304,18 +305,33 @@ followed_goes_on o better remote r v k = drained_goes_on v (value_followed o bet
     split (Some kind) true = moved kind
     split (Some kind) false = drained_same (dial_of v)
 
+-- a change that can move a priority
+pub changed_goes_on : (t : ℕ) (change : Change) (remote : Bool) (v : CpuValue) → HasIndexes (dial_of v) → CalendarGoesOn v (value_changed t change remote v).0
+changed_goes_on t change remote v k = from (thread_in v t)
+  where
+    from : (o : Option ThreadRecord) → CalendarGoesOn v (value_changed_from o t change remote v).0
+    from None = drained_goes_on v v k (drained_same (dial_of v))
+    from (Some r) =
+        let new = after_change v.settings change r in
+        followed_goes_on (kind_queued v t) (nat_lt new.priority r.priority) remote new v k
+
+-- a fork does nothing to the calendar
+pub forked_dial : (now : ℕ) (child : ThreadRecord) (v : CpuValue) → dial_of (value_forked now child v).value ≡ dial_of v
+forked_dial now child v = from v.current
+  where
+    with : (o : Option ThreadRecord) (t : ℕ) → dial_of (value_forked_with o t now child v).value ≡ dial_of v
+    with None t = refl
+    with (Some r) t = refl
+
+    from : (o : Option ℕ) → dial_of (value_forked_from o now child v).value ≡ dial_of v
+    from None = refl
+    from (Some t) = with (thread_in v t) t
+
 -- ---- by the value after a call
 
 -- a CPU whose value after a call goes on
 pub goes_on_by_value : (old new value : CpuValue) → IsCalendar (dial_of old) → new ≡ value → (HasIndexes (dial_of old) → CalendarGoesOn old value) → CalendarGoesOn old new
 goes_on_by_value old new value k is on = subst (λ (n : CpuValue). CalendarGoesOn old n) (sym is) (on (calendar_indexes (dial_of old) k))
-
--- a CPU goes on by what follows from a record of it that was changed
-pub changed_goes_on : (o : Option Kind) (better remote : Bool) (r : ThreadRecord) (old recorded new : CpuValue) → IsCalendar (dial_of old) →
-    recorded ≡ value_recorded r old → new ≡ (value_followed o better remote r recorded).0 → CalendarGoesOn old new
-changed_goes_on o better remote r old recorded new k recorded_is new_is =
-    goes_on_by_value old new (value_followed o better remote r (value_recorded r old)).0 k
-    (new_is ∙ ap (λ (v : CpuValue). (value_followed o better remote r v).0) recorded_is) (followed_goes_on o better remote r old)
 
 -- a CPU whose calendar after a call is that of a value goes on
 pub goes_on_by_dial : (old new value : CpuValue) → IsCalendar (dial_of old) → dial_of new ≡ dial_of value →

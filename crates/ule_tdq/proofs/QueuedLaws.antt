@@ -8,8 +8,8 @@ use Rattle.ule_runq.proofs.RunqLaws.{bucket_in_Some, bucket_in_place, count-list
 use Rattle.ule_model.specs.CpuChange.{kind_if, kind_queued}
 use Rattle.ule_model.specs.CpuValue.{CpuValue, first_found, queue_of, thread_in}
 use Rattle.ule_tdq.specs.Queues.{times_in, times_queued}
-use Rattle.ule_tdq.specs.TdqFields.{KeepsFields, value_of}
-use Rattle.ule_tdq.specs.declared.tdq.Tdq.TheInside.{Inside}
+use Rattle.ule_tdq.specs.CpuState.{KeepsFields, value_of}
+use Rattle.ule_tdq.specs.declared.state.CpuState.TheInside.{Inside}
 use Rattle.ule_tdq.proofs.CpuLaws.{once_if-le}
 
 -- a thread that has a place in a queue stands there

@@ -6,6 +6,7 @@ use Rattle.std.proofs.lemmas.Bool.{eq-eqb, or_cases}
 use Rattle.std.proofs.lemmas.Option.{same_Some}
 use Rattle.ule_prio.specs.Kind.{kind_at}
 use Rattle.ule_prio.specs.declared.kind.Kind.{Kind}
+use Rattle.ule_prio.specs.declared.kind.Kind.TheVariants.{Real, Batch, Idle}
 use Rattle.ule_score.specs.declared.place.Place.{Place}
 use Rattle.ule_score.specs.declared.place.Place.TheVariants.{Running, Queued, Asleep, Unborn, Gone, Hand}
 use Rattle.ule_score.specs.declared.record.Change.{Change}
@@ -18,14 +19,15 @@ use Rattle.ule_types.specs.declared.event.Reply.TheVariants.{Landed}
 use Rattle.ule_topo.specs.declared.look.Summary.{Summary}
 use Rattle.ule_types.specs.declared.outcome.ThreadLine.{ThreadLine}
 use Rattle.ule_model.specs.CpuChange.{forked_reply, kind_queued, value_changed, value_forked, value_removed, value_removed_from}
-use Rattle.ule_model.specs.CpuNumbers.{summary_of, value_summary}
+use Rattle.ule_model.specs.CpuNumbers.{summary_of, value_marked, value_summary, with_mark}
 use Rattle.ule_model.specs.CpuStart.{StartsAs}
-use Rattle.ule_model.specs.CpuValue.{CpuValue, StandsFor, takes_over_in, thread_in, thread_on, value_added, value_laid, value_line, value_place, value_switched, value_taken, value_ticked}
+use Rattle.ule_model.specs.CpuValue.{CpuValue, StandsFor, queue_of, takes_over_in, thread_in, thread_on, value_added, value_laid, value_line, value_place, value_switched, value_taken, value_ticked}
 use Rattle.ule_model.specs.Insertion.{bucket_of}
 use Rattle.ule_model.specs.declared.insertion.Insertion.TheVariants.{Ordinary}
 use Rattle.ule_model.specs.CpuActions.{landed}
 use Rattle.ule_model.specs.Places.{is_on, runs_on, waits_on}
 use Rattle.ule_model.specs.CpuActions.{carried_off, forked_on, priority_changed}
+use Rattle.ule_model.specs.Shows.{ShowsQueue}
 use Rattle.ule_model.specs.Start.{laid_on}
 use Rattle.ule_model.specs.CpuActions.{departed}
 use Rattle.ule_model.specs.CpuActions.{switched}
@@ -270,6 +272,25 @@ start_answers v c settings word starts = record {
       start_stands v s c word (subst (λ (x : Settings). StartsAs v c x word) (sym settings_are) starts) none line
       (λ (zero : v.cpu ≡ 0). balance (sym starts.cpu ∙ zero));
 }
+
+-- the mark that asks for a switch is set
+pub marked_stands : (old new : CpuValue) (s : Side) → new ≡ value_marked old → StandsFor old s → StandsFor new (with_mark s)
+marked_stands old new s new_is stands = subst (λ (v : CpuValue). StandsFor v (with_mark s)) (sym new_is) (record {
+  settings = stands.settings;
+  line = ap (λ (l : CpuLine). record l { resched = true }) stands.line;
+  balance_word = stands.balance_word;
+  current = stands.current;
+  load = stands.load;
+  slots = stands.slots;
+  threads = stands.threads;
+  queues = shown;
+  index = stands.index;
+})
+  where
+    shown : (k : Kind) → ShowsQueue (queue_of k (value_marked old)) old.cpu k s.members
+    shown Real = stands.queues Real
+    shown Batch = stands.queues Batch
+    shown Idle = stands.queues Idle
 
 -- ---- readers
 

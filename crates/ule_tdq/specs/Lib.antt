@@ -1,5 +1,6 @@
 pub mod Queues
 pub mod Cpu
+pub mod CpuState
 pub mod TdqFields
 pub mod Replies
 pub mod Records

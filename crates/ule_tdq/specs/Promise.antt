@@ -6,8 +6,8 @@ use Rattle.ule_model.specs.CpuValue.{CpuValue, with_given_way, without_marks}
 use Rattle.ule_model.specs.Switch.{is_preemption}
 use Rattle.ule_runq.specs.Runq.{bucket_in, list_at}
 use Rattle.ule_score.specs.declared.record.Why.{Why}
-use Rattle.ule_tdq.specs.declared.tdq.SwitchOut.{SwitchOut}
-use Rattle.ule_tdq.specs.declared.tdq.SwitchOut.TheVariants.{Unmarked, Nothing, Switched}
+use Rattle.ule_tdq.specs.declared.replies.SwitchOut.{SwitchOut}
+use Rattle.ule_tdq.specs.declared.replies.SwitchOut.TheVariants.{Unmarked, Nothing, Switched}
 
 -- the batch queue of a CPU as a calendar
 abbrev pub dial_of : CpuValue → Dial

@@ -1,9 +1,9 @@
 -- What a switch, a tick, a landing and a change came to, as the replies of their events.
 use Rattle.ule_score.specs.declared.record.Changed.{Changed}
-use Rattle.ule_tdq.specs.declared.tdq.Arrival.{Arrival}
-use Rattle.ule_tdq.specs.declared.tdq.Clocked.{Clocked}
-use Rattle.ule_tdq.specs.declared.tdq.SwitchOut.{SwitchOut}
-use Rattle.ule_tdq.specs.declared.tdq.SwitchOut.TheVariants as out
+use Rattle.ule_tdq.specs.declared.replies.Arrival.{Arrival}
+use Rattle.ule_tdq.specs.declared.replies.Clocked.{Clocked}
+use Rattle.ule_tdq.specs.declared.replies.SwitchOut.{SwitchOut}
+use Rattle.ule_tdq.specs.declared.replies.SwitchOut.TheVariants as out
 use Rattle.ule_types.specs.declared.event.Reply.{Reply}
 use Rattle.ule_types.specs.declared.event.Reply.TheVariants as reply
 use Rattle.ule_types.specs.declared.event.Reply.TheVariants.{Unmarked, Nothing, Switched, Ticked, Landed}

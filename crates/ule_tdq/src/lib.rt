@@ -3,11 +3,14 @@
 #![tactic(auto)]
 
 pub use lines::line_of;
-pub use tdq::{Arrival, Clocked, SwitchOut, Tdq};
+pub use replies::{Arrival, Clocked, SwitchOut};
+pub use tdq::Tdq;
 
 mod balance;
 mod lines;
 mod queues;
 mod records;
+pub mod replies;
+mod state;
 pub mod tdq;
 pub mod threads;

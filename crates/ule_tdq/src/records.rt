@@ -1,5 +1,4 @@
 ghost use Rattle.std.specs.Prelude.{◌≡◌, ◌≤◌, ◌<◌, ◌^◌, ◌||◌};
-ghost use Rattle.ule_model.specs.Landing.{current_priority};
 ghost use Rattle.ule_model.specs.Switch.{insertion_of, is_preemption, is_unasked};
 ghost use Rattle.ule_score.specs.Bounds.{KeepsBounds};
 ghost use Rattle.ule_score.specs.Changes.{record_after};
@@ -7,7 +6,6 @@ ghost use Rattle.ule_score.specs.declared.record.Settings.{Settings as SettingsV
 ghost use Rattle.ule_tdq.specs.Records.{leaving};
 
 use ule_model::Insertion;
-use ule_prio::Priority;
 use ule_score::{ThreadRecord, Why, after_running, before_sleep};
 
 /// A record whose thread leaves its CPU, `sleeping` or not.
@@ -24,16 +22,6 @@ pub fn leaving(r: ThreadRecord, now: u64, sleeping: bool) -> ThreadRecord
         before_sleep(r, now)
     } else {
         after_running(r, now)
-    }
-}
-
-/// The priority that a new thread is compared with: 255 where there is no current thread.
-pub fn current_priority(current: Option<ThreadRecord>) -> Priority
-    ensures { result ≡ current_priority current }
-{
-    match current {
-        Some(r) => r.priority,
-        None => Priority(255),
     }
 }
 

@@ -4,12 +4,11 @@ ghost use Rattle.std.specs.Option.{option_map};
 ghost use Rattle.ule_score.specs.Bounds.{KeepsBounds};
 ghost use Rattle.ule_score.specs.Changes.{forks};
 ghost use Rattle.ule_score.specs.Charges.{HasShortRun};
-ghost use Rattle.ule_model.specs.CpuChange.{kind_queued, value_changed, value_followed, value_forked, value_recorded, value_removed_from, value_requeued};
-ghost use Rattle.ule_model.specs.CpuNumbers.{is_movable, next_record, summary_of, value_marked, value_summary, with_mark};
-ghost use Rattle.ule_model.specs.CpuValue.{IsNoEarlier, StandsFor, chosen_next, current_in, takes_over_in, thread_in, value_added, value_clocked, value_laid, value_line, value_place, value_switched, value_taken, value_ticked, value_ticked_with, with_given_way, with_thread_after, without_current, without_marks};
-ghost use Rattle.ule_model.specs.Places.{lock_of};
+ghost use Rattle.ule_model.specs.CpuChange.{kind_queued, value_changed, value_forked, value_removed_from};
+ghost use Rattle.ule_model.specs.CpuNumbers.{is_movable, summary_of, value_marked, value_summary, with_mark};
+ghost use Rattle.ule_model.specs.CpuValue.{IsNoEarlier, StandsFor, takes_over_in, thread_in, value_added, value_laid, value_line, value_place, value_switched, value_taken, value_ticked};
 ghost use Rattle.ule_model.specs.Steal.{is_movable_on, stolen_in};
-ghost use Rattle.ule_model.specs.Switch.{is_preemption, started_reply};
+ghost use Rattle.ule_model.specs.Switch.{is_preemption};
 ghost use Rattle.ule_model.specs.CpuActions.{switched};
 ghost use Rattle.ule_model.specs.CpuActions.{ticked};
 ghost use Rattle.ule_model.specs.CpuStart.{StartsAs};
@@ -27,89 +26,25 @@ ghost use Rattle.ule_tdq.specs.Records.{leaving};
 ghost use Rattle.ule_tdq.specs.Replies.{changed_reply, landed_reply, reply_of, ticked_reply};
 ghost use Rattle.ule_tdq.specs.Stands.{AnswersChange, AnswersEvent, AnswersFork, AnswersLanding, AnswersLeaving, StandsAtStart, StandsWithLaid, StandsWithout, Tells, current_on, given_on, line_on, mark_of, numbers_of_cpu, place_on, record_on};
 
-use crate::balance::{balance_after_tick, first_balance, first_word, is_due, word_after_tick};
-use crate::lines::{line_of, queued};
-use crate::queues::Queues;
-use crate::records::{current_priority, either, insertion_of, is_preemption, is_unasked, leaving};
-use crate::threads::CpuThreads;
+use crate::replies::{Arrival, Clocked, SwitchOut};
+use crate::state::CpuState;
 use std::alloc::Global;
 use std::marker::Model;
 use ule_calendar::Calendar;
 use ule_io::Memory;
-use ule_model::Insertion;
-use ule_prio::{Cpu, Kind, LockId, Priority, ThreadId, kind_of, preempts};
+use ule_prio::{Cpu, ThreadId};
 use ule_runq::{Runq, ThreadSet};
-use ule_score::{
-    Change, Changed, CpuLine, Place, Settings, ThreadRecord, Why, after_change, after_fork,
-    after_tick, child_of, placed_on,
-};
+use ule_score::{Change, Changed, CpuLine, Place, Settings, ThreadRecord, Why};
 use ule_topo::Summary;
 use ule_types::ThreadLine;
 
-/// What a switch came to.
-#[derive(Clone, Copy)]
-pub enum SwitchOut {
-    /// No switch was asked for.
-    Unmarked,
-    /// There was no current thread and none to choose.
-    Nothing,
-    Switched {
-        /// The thread that left the processor, if there was one.
-        out: Option<ThreadId>,
-        /// The thread that got it.
-        into: Option<ThreadId>,
-        /// Whether the first was preempted.
-        preempted: bool,
-    },
-}
-
-/// What a tick came to: the current thread, whether a balance is due, whether its slice ended.
-#[derive(Clone, Copy)]
-pub struct Clocked {
-    pub cur: Option<ThreadId>,
-    pub due: bool,
-    pub ended: bool,
-}
-
-/// What a thread's coming to a CPU came to: the queue and the bucket, 0..=63, in which it is
-/// queued, and whether the preemption test said yes, also where the mark was set already.
-#[derive(Clone, Copy)]
-pub struct Arrival {
-    pub kind: Kind,
-    pub bucket: u8,
-    pub marked: bool,
-}
-
-/// What a switch without a current thread came to.
-fn started(into: Option<ThreadId>) -> SwitchOut
-    ensures reply { reply_of result ≡ started_reply into }
-    ensures chosen { chosen_in result ≡ into }
-{
-    match into {
-        None => SwitchOut::Nothing,
-        Some(_) => SwitchOut::Switched {
-            out: None,
-            into,
-            preempted: false,
-        },
-    }
-}
-
-/// One CPU, after `struct tdq`: the records of the threads that run or wait on it.
+/// One CPU, after `struct tdq`: the records of the threads that run or wait on it, its queues, and
+/// what looks at it see.
 #[derive(Drop)]
 pub struct Tdq {
-    cpu: Cpu,
-    settings: Settings,
-    threads: CpuThreads,
-    // how many threads run or wait here
-    load: u32,
-    queues: Queues,
-    resched: bool,
-    slice_end: bool,
-    switches: u64,
-    old_switches: u64,
-    balance: u64,
-    balance_word: u32,
+    state: CpuState,
+    // the counts of the state
+    kept: Summary,
 }
 
 impl Model for Tdq {
@@ -117,11 +52,11 @@ impl Model for Tdq {
 
     ghost Value = { CpuValue };
 
-    ghost use Rattle.ule_tdq.specs.TdqFields.{value_of, KeepsFields};
+    ghost use Rattle.ule_tdq.specs.TdqFields.{KeepsCounts, state_of};
 
-    ghost view = { value_of };
+    ghost view = { state_of };
 
-    ghost invariant = { KeepsFields };
+    ghost invariant = { KeepsCounts };
 }
 
 impl Tdq {
@@ -133,24 +68,9 @@ impl Tdq {
         ensures stands { IfOk result (λ d. StandsAtStart d cpu s.now balance_word) }
         ensures kept { IfOk result (λ d. KeepsCpu d) }
     {
-        let settings = *s;
-        let threads = CpuThreads::none(alloc)?;
-        let queues = Queues::empty(alloc)?;
-        let is_first = cpu.0 == 0;
-        let balance_word = first_word(is_first, balance_word);
-        Ok(Tdq {
-            cpu,
-            settings,
-            threads,
-            load: 0,
-            queues,
-            resched: false,
-            slice_end: false,
-            switches: 0,
-            old_switches: 0,
-            balance: first_balance(is_first, balance_word),
-            balance_word,
-        })
+        let state = CpuState::start(alloc, cpu, s, balance_word)?;
+        let kept = state.counted();
+        Ok(Tdq { state, kept })
     }
 
     /// Chooses what the CPU runs next, at `now`, a time in hz ticks of 20000 or more that is no
@@ -175,22 +95,9 @@ impl Tdq {
         ensures no_earlier { IsNoEarlier self.new now }
     {
         self.calendar_is_kept(); // so that what the calendar keeps is known
-        if is_unasked(why, self.resched) {
-            return SwitchOut::Unmarked;
-        }
-        let preempted = is_preemption(why, self.slice_end);
-        self.clear_marks();
-        match self.threads.current() {
-            None => started(self.choose_next(now)),
-            Some(t) => {
-                self.give_way(preempted, now, t);
-                SwitchOut::Switched {
-                    out: Some(t),
-                    into: self.choose_next(now),
-                    preempted,
-                }
-            }
-        }
+        let out = self.state.switch(why, now);
+        self.kept = self.state.counted();
+        out
     }
 
     /// Queues a thread of the start, by ordinary insertion and without a preemption test.
@@ -205,7 +112,8 @@ impl Tdq {
         ensures no_earlier { (now : ℕ) → IsNoEarlier self.old now → r.usage.ltick ≤ now → IsNoEarlier self.new now }
     {
         self.calendar_is_kept(); // so that what the calendar keeps is known
-        self.file(r);
+        self.state.file(r);
+        self.kept = self.state.counted();
     }
 
     /// A stathz tick at `now`, a time in hz ticks of 20000 or more that is no earlier than any
@@ -228,17 +136,9 @@ impl Tdq {
         ensures no_earlier { IsNoEarlier self.new now }
     {
         self.calendar_is_kept(); // so that what the calendar keeps is known
-        let due = is_due(self.cpu, self.balance);
-        let current = self.current_record();
-        self.count_tick();
-        match current {
-            None => Clocked {
-                cur: None,
-                due,
-                ended: false,
-            },
-            Some(r) => self.charge_tick(now, due, r),
-        }
+        let clocked = self.state.clock(now);
+        self.kept = self.state.counted();
+        clocked
     }
 
     /// The current thread leaves the CPU at `now`, a time in hz ticks of 20000 or more that is no
@@ -267,11 +167,9 @@ impl Tdq {
         ensures no_earlier { IsNoEarlier self.new now }
     {
         self.calendar_is_kept(); // so that what the calendar keeps is known
-        let t = self.threads.current()?;
-        let r = self.threads.get(t)?;
-        let left = leaving(r, now, sleeping);
-        self.let_go(t);
-        Some((left, self.choose_next(now)))
+        let taken = self.state.take_current(now, sleeping);
+        self.kept = self.state.counted();
+        taken
     }
 
     /// A thread comes to this CPU: queued by ordinary insertion, with a preemption test, after
@@ -291,17 +189,9 @@ impl Tdq {
         ensures no_earlier { (now : ℕ) → IsNoEarlier self.old now → r.usage.ltick ≤ now → IsNoEarlier self.new now }
     {
         self.calendar_is_kept(); // so that what the calendar keeps is known
-        let priority = r.priority;
-        let cpu = self.cpu;
-        let marked = self.takes_over(priority, remote);
-        let placed = placed_on(r, cpu);
-        let bucket = self.file(placed);
-        self.resched = either(self.resched, marked);
-        Arrival {
-            kind: kind_of(priority),
-            bucket,
-            marked,
-        }
+        let arrival = self.state.add(r, remote);
+        self.kept = self.state.counted();
+        arrival
     }
 
     /// A change that can move the priority of a thread here: a priority is lent to it or taken back,
@@ -322,14 +212,9 @@ impl Tdq {
         ensures no_earlier { (now : ℕ) → IsNoEarlier self.old now → IsNoEarlier self.new now }
     {
         self.calendar_is_kept(); // so that what the calendar keeps is known
-        let Some(r) = self.threads.get(t) else {
-            unreachable!()
-        };
-        let settings = self.settings;
-        let new = after_change(&settings, c, r);
-        let kind = self.queues.kind_of_queued(t);
-        self.keep(r, new);
-        self.follow(kind, new.priority < r.priority, remote, new)
+        let changed = self.state.change(t, c, remote);
+        self.kept = self.state.counted();
+        changed
     }
 
     /// Takes a queued thread out of its queue, by the index rule, and gives its record up. After
@@ -346,17 +231,9 @@ impl Tdq {
         ensures no_earlier { (now : ℕ) → IsNoEarlier self.old now → IsNoEarlier self.new now }
     {
         self.calendar_is_kept(); // so that what the calendar keeps is known
-        let Some(kind) = self.queues.kind_of_queued(t) else {
-            unreachable!()
-        };
-        let Some(r) = self.threads.get(t) else {
-            unreachable!()
-        };
-        self.queues.remove(kind, t);
-        self.threads.put(t, None);
-        let fewer = self.load - 1;
-        self.load = fewer;
-        r
+        let gone = self.state.rem(t);
+        self.kept = self.state.counted();
+        gone
     }
 
     /// The current thread forks a child at `now`, a time in hz ticks of 20000 or more that is no
@@ -382,18 +259,16 @@ impl Tdq {
         ensures no_earlier { IsNoEarlier self.new now }
     {
         self.calendar_is_kept(); // so that what the calendar keeps is known
-        let t = self.threads.current()?;
-        let born = self.born_of(t, now, *child);
-        self.charge_fork(now, t);
-        *child = born;
-        Some(t)
+        let parent = self.state.fork_from(child, now);
+        self.kept = self.state.counted();
+        parent
     }
 
     /// The number of the CPU.
     pub fn cpu(&self) -> Cpu
         ensures { result ≡ self.now.cpu }
     {
-        self.cpu
+        self.state.cpu()
     }
 
     /// The mark that asks for a switch.
@@ -402,7 +277,7 @@ impl Tdq {
         ensures value { result ≡ self.now.line.resched }
         ensures stands { Tells self.now result mark_of }
     {
-        self.resched
+        self.state.is_marked()
     }
 
     /// The current thread, after `pc_curthread`.
@@ -411,7 +286,7 @@ impl Tdq {
         ensures value { result ≡ self.now.current }
         ensures stands { Tells self.now result (current_on self.now.cpu) }
     {
-        self.threads.current()
+        self.state.current()
     }
 
     /// Where a thread runs or waits, if it is here.
@@ -421,8 +296,7 @@ impl Tdq {
         ensures found { is_some result ≡ is_some (thread_in self.now t) }
         ensures stands { Tells self.now result (place_on self.now.cpu t) }
     {
-        let _ = &self.load; // so that what the CPU keeps is known
-        self.placed(t).map(|at| at.0)
+        self.state.place_of(t)
     }
 
     /// What a trace tells of a thread, if it is here.
@@ -431,9 +305,7 @@ impl Tdq {
         ensures stands { Tells self.now result (line_on self.now.cpu t) }
         ensures number { IfSome result (λ l. l.id ≡ t) }
     {
-        let r = self.threads.get(t)?;
-        let (place, pos) = self.placed(t)?;
-        Some(line_of(&r, place, pos, Some(LockId(self.cpu.0))))
+        self.state.thread_line(t)
     }
 
     /// The record of a thread, if it runs or waits here.
@@ -442,7 +314,7 @@ impl Tdq {
         ensures value { result ≡ thread_in self.now t }
         ensures stands { Tells self.now result (record_on self.now.cpu t) }
     {
-        self.threads.get(t)
+        self.state.thread(t)
     }
 
     /// The CPU's numbers.
@@ -451,15 +323,7 @@ impl Tdq {
         ensures value { result ≡ self.now.line }
         ensures stands { Tells self.now result numbers_of_cpu }
     {
-        CpuLine {
-            idx: self.queues.batch.idx(),
-            ridx: self.queues.batch.ridx(),
-            resched: self.resched,
-            slice_end: self.slice_end,
-            switches: self.switches,
-            old_switches: self.old_switches,
-            balance: self.balance,
-        }
+        self.state.line()
     }
 
     /// What a look at the CPU sees: how many threads run or are queued here, how many of the queued
@@ -469,13 +333,17 @@ impl Tdq {
         ensures value { result ≡ value_summary self.now }
         ensures stands { Tells self.now result (summary_of self.now.cpu) }
     {
-        let current = current_priority(self.current_record());
-        let next = current_priority(self.next_record());
-        Summary {
-            load: self.load,
-            movable: self.threads.movable_count(),
-            lowpri: current.min(next).0,
-        }
+        self.kept
+    }
+
+    /// What a look at the CPU sees, which the CPU keeps: each call that changes it brings these counts
+    /// up to date.
+    #[tactic(auto, using(crate::proofs::StandsLaws::summary_tells))]
+    pub fn kept(&self) -> &Summary
+        ensures value { result.now ≡ value_summary self.now }
+        ensures stands { Tells self.now result.now (summary_of self.now.cpu) }
+    {
+        &self.kept
     }
 
     /// The queued threads that are not bound: those that another CPU may be given.
@@ -483,7 +351,7 @@ impl Tdq {
         ensures value { (t : ℕ) → has result.now t ≡ is_movable self.now t }
         ensures stands { (t : ℕ) → Tells self.now (has result.now t) (λ s. is_movable_on self.now.cpu s.members t) }
     {
-        self.threads.movable()
+        self.state.movable()
     }
 
     /// The queued thread that this CPU gives to another: the first of the real queue that is not
@@ -496,14 +364,14 @@ impl Tdq {
         ensures movable { IfSome result (λ t. IsTrue (is_movable self.now t)) }
         ensures stands { Tells self.now result (given_on self.now.cpu) }
     {
-        self.queues.pick(self.movable())
+        self.state.steal()
     }
 
     /// The settings of the scheduler.
     pub fn settings(&self) -> Settings
         ensures { result ≡ self.now.settings }
     {
-        self.settings
+        self.state.settings()
     }
 
     /// Sets the mark that asks for a switch.
@@ -512,14 +380,14 @@ impl Tdq {
         ensures stands { (s : Side) → StandsFor self.old s → StandsFor self.new (with_mark s) }
         ensures kept { KeepsCpu self.new }
     {
-        self.resched = true;
+        self.state.mark();
     }
 
     /// The queue of real priorities, after `tdq_realtime`.
     pub fn real(&self) -> &Runq
         ensures { result.now ≡ self.now.real }
     {
-        &self.queues.real
+        self.state.real()
     }
 
     /// The queue of batch priorities, after `tdq_timeshare`.
@@ -528,258 +396,20 @@ impl Tdq {
         ensures insertion { result.now.idx ≡ self.now.line.idx }
         ensures removal { result.now.ridx ≡ self.now.line.ridx }
     {
-        &self.queues.batch
+        self.state.calendar()
     }
 
     /// The queue of idle priorities, after `tdq_idle`.
     pub fn idle(&self) -> &Runq
         ensures { result.now ≡ self.now.idle }
     {
-        &self.queues.idle
-    }
-
-    /// The record of the thread whose turn comes first.
-    fn next_record(&self) -> Option<ThreadRecord>
-        ensures { result ≡ next_record self.now }
-    {
-        let (_, t) = self.queues.first()?;
-        self.threads.get(t)
-    }
-
-    /// A thread's place, with its position in its bucket.
-    fn placed(&self, t: ThreadId) -> Option<(Place, u8)>
-        ensures place { result ≡ value_place self.now t }
-        ensures lock { IfSome result (λ at. lock_of at.0 ≡ Some self.now.cpu) }
-    {
-        if self.threads.current() == Some(t) {
-            return Some((Place::Running(self.cpu), 0));
-        }
-        if let Some(found) = self.queues.real.find(t) {
-            return Some(queued(self.cpu, Kind::Real, found));
-        }
-        if let Some(found) = self.queues.batch.lists().find(t) {
-            return Some(queued(self.cpu, Kind::Batch, found));
-        }
-        let found = self.queues.idle.find(t)?;
-        Some(queued(self.cpu, Kind::Idle, found))
-    }
-
-    /// Queues a thread more by ordinary insertion, and tells its bucket.
-    fn file(&mut self, r: ThreadRecord) -> u8
-        requires absent { thread_in self.old r.id ≡ None }
-        requires bounds { KeepsBounds r }
-        ensures value { self.new ≡ value_laid r self.old }
-        ensures bucket { result ≡ bucket_of (kind_at r.priority) Ordinary self.old.line r.priority }
-        ensures kept { KeepsCpu self.new }
-        ensures no_earlier { (now : ℕ) → IsNoEarlier self.old now → r.usage.ltick ≤ now → IsNoEarlier self.new now }
-    {
-        let t = r.id;
-        let priority = r.priority;
-        self.threads.put(t, Some(r));
-        self.load += 1;
-        self.queues.insert(Insertion::Ordinary, priority, t)
-    }
-
-    /// Keeps another record of a thread here.
-    fn keep(&mut self, r: ThreadRecord, new: ThreadRecord)
-        requires present { thread_in self.old r.id ≡ Some r }
-        requires number { new.id ≡ r.id }
-        requires bounds { KeepsBounds new }
-        requires usage { new.usage ≡ r.usage }
-        ensures value { self.new ≡ value_recorded new self.old }
-        ensures kept { KeepsCpu self.new }
-        ensures no_earlier { (now : ℕ) → IsNoEarlier self.old now → IsNoEarlier self.new now }
-    {
-        self.threads.put(new.id, Some(new));
-    }
-
-    /// What follows from a record that was changed, by the queue that its thread is in and whether
-    /// its priority got better.
-    fn follow(&mut self, kind: Option<Kind>, better: bool, remote: bool, r: ThreadRecord) -> Changed
-        requires kind { kind ≡ kind_queued self.old r.id }
-        ensures value { self.new ≡ (value_followed kind better remote r self.old).0 }
-        ensures reply { changed_reply result ≡ (value_followed kind better remote r self.old).1 }
-        ensures kept { KeepsCpu self.new }
-        ensures no_earlier { (now : ℕ) → IsNoEarlier self.old now → IsNoEarlier self.new now }
-    {
-        let _ = &self.cpu; // so that what the CPU keeps is known
-        match kind {
-            Some(k) if better => self.requeue(k, r, remote),
-            _ => Changed {
-                priority: r.priority,
-                requeued: false,
-                marked: false,
-            },
-        }
-    }
-
-    /// Takes a thread out of its queue, and inserts it as borrowing, with a preemption test.
-    fn requeue(&mut self, kind: Kind, r: ThreadRecord, remote: bool) -> Changed
-        requires kind { kind_queued self.old r.id ≡ Some kind }
-        ensures value { self.new ≡ (value_requeued remote kind r self.old).0 }
-        ensures reply { changed_reply result ≡ (value_requeued remote kind r self.old).1 }
-        ensures kept { KeepsCpu self.new }
-        ensures no_earlier { (now : ℕ) → IsNoEarlier self.old now → IsNoEarlier self.new now }
-    {
-        let priority = r.priority;
-        let takes = self.takes_over(priority, remote);
-        self.queues.requeue(kind, priority, r.id);
-        self.resched = either(self.resched, takes);
-        Changed {
-            priority,
-            requeued: true,
-            marked: takes,
-        }
-    }
-
-    /// The record of the current thread.
-    fn current_record(&self) -> Option<ThreadRecord>
-        ensures { result ≡ current_in self.now }
-    {
-        let t = self.threads.current()?;
-        self.threads.get(t)
-    }
-
-    /// Whether a thread of this priority takes over from the current thread.
-    fn takes_over(&self, p: Priority, remote: bool) -> bool
-        ensures { result ≡ takes_over_in p remote self.now }
-    {
-        let current = current_priority(self.current_record());
-        preempts(p, current, remote, self.settings.preempt)
-    }
-
-    /// What a tick does to the CPU's own numbers.
-    fn count_tick(&mut self)
-        ensures { self.new ≡ value_clocked self.old }
-    {
-        let balance = balance_after_tick(self.cpu, self.balance, self.balance_word);
-        self.balance_word = word_after_tick(self.cpu, self.balance, self.balance_word);
-        self.balance = balance;
-        self.old_switches = self.switches;
-        self.switches = u64::from(self.load);
-        self.queues.batch.turn();
-    }
-
-    /// What a tick does to the current thread, which has this record.
-    fn charge_tick(&mut self, now: u64, due: bool, r: ThreadRecord) -> Clocked
-        requires begun { 20000 ≤ now }
-        requires bounded { now < 2 ^ 36 }
-        requires in_time { IsNoEarlier self.old now }
-        requires current { current_in self.old ≡ Some r }
-        ensures value { self.new ≡ (value_ticked_with (Some r) due now self.old).0 }
-        ensures reply { ticked_reply result ≡ (value_ticked_with (Some r) due now self.old).1 }
-        ensures kept { KeepsCpu self.new }
-        ensures no_earlier { IsNoEarlier self.new now }
-    {
-        let t = r.id;
-        let settings = self.settings;
-        let (after, ended) = after_tick(&settings, now, self.load, r);
-        self.threads.put(t, Some(after));
-        self.resched = either(self.resched, ended);
-        self.slice_end = either(self.slice_end, ended);
-        Clocked {
-            cur: Some(t),
-            due,
-            ended,
-        }
-    }
-
-    /// The record of a child that the current thread forks.
-    fn born_of(&self, t: ThreadId, now: u64, hatched: ThreadRecord) -> ThreadRecord
-        requires begun { 20000 ≤ now }
-        requires bounded { now < 2 ^ 36 }
-        requires in_time { IsNoEarlier self.now now }
-        requires current { self.now.current ≡ Some t }
-        ensures child { result ≡ (value_forked now hatched self.now).child }
-        ensures parent { (value_forked now hatched self.now).parent ≡ Some t }
-        ensures value { (value_forked now hatched self.now).value ≡ with_thread_after now t forks self.now }
-        ensures number { result.id ≡ hatched.id }
-        ensures bounds { KeepsBounds result }
-    {
-        let settings = self.settings;
-        let parent = self.threads.get(t).unwrap();
-        let _priority = hatched.priority; // so that the type of a record's field is known here
-        child_of(&settings, now, parent, self.cpu, self.load, hatched)
-    }
-
-    /// What a fork does to the current thread.
-    fn charge_fork(&mut self, now: u64, t: ThreadId)
-        requires begun { 20000 ≤ now }
-        requires bounded { now < 2 ^ 36 }
-        requires in_time { IsNoEarlier self.old now }
-        requires current { self.old.current ≡ Some t }
-        ensures value { self.new ≡ with_thread_after now t forks self.old }
-        ensures kept { KeepsCpu self.new }
-        ensures no_earlier { IsNoEarlier self.new now }
-    {
-        let settings = self.settings;
-        let after = after_fork(&settings, now, self.threads.get(t).unwrap());
-        self.threads.put(t, Some(after));
-    }
-
-    /// Lets the current thread go.
-    fn let_go(&mut self, t: ThreadId)
-        requires current { self.old.current ≡ Some t }
-        ensures value { self.new ≡ without_current t self.old }
-        ensures no_earlier { (now : ℕ) → IsNoEarlier self.old now → IsNoEarlier self.new now }
-    {
-        self.threads.put(t, None);
-        self.threads.stop();
-        self.load -= 1;
-        self.resched = false;
-        self.slice_end = false;
-        self.switches = self.switches.saturating_add(1);
+        self.state.idle()
     }
 
     /// Does nothing: its clause tells what the batch queue keeps.
     fn calendar_is_kept(&self)
         ensures { IsCalendar (dial_of self.now) }
     {
-        let _ = self.queues.batch.idx();
-    }
-
-    fn clear_marks(&mut self)
-        ensures { self.new ≡ without_marks self.old }
-    {
-        self.resched = false;
-        self.slice_end = false;
-    }
-
-    /// Queues the current thread again, as it leaves the processor.
-    fn give_way(&mut self, preempted: bool, now: u64, t: ThreadId)
-        requires begun { 20000 ≤ now }
-        requires bounded { now < 2 ^ 36 }
-        requires in_time { IsNoEarlier self.old now }
-        requires current { self.old.current ≡ Some t }
-        ensures value { self.new ≡ with_given_way preempted now t self.old }
-        ensures no_earlier { IsNoEarlier self.new now }
-        ensures idle { self.new.current ≡ None }
-    {
-        let priority = self.threads.get(t).unwrap().priority;
-        self.threads.note_ran(t, now);
-        self.threads.stop();
-        self.switches = self.switches.saturating_add(1);
-        self.queues.insert(insertion_of(preempted), priority, t);
-    }
-
-    /// Runs the thread whose turn comes first, after `choosethread`.
-    #[inline(always)]
-    fn choose_next(&mut self, now: u64) -> Option<ThreadId>
-        requires begun { 20000 ≤ now }
-        requires bounded { now < 2 ^ 36 }
-        requires in_time { IsNoEarlier self.old now }
-        requires idle { self.old.current ≡ None }
-        ensures value { self.new ≡ (chosen_next now self.old).0 }
-        ensures into { result ≡ (chosen_next now self.old).1 }
-        ensures nearest { IfSome result (λ t. IsNearest (dial_of self.old) t) }
-        ensures kept { KeepsCpu self.new }
-        ensures no_earlier { IsNoEarlier self.new now }
-    {
-        let (kind, t) = self.queues.first()?;
-        self.queues.remove(kind, t);
-        let _priority = self.threads.get(t).unwrap().priority; // so that it is known to be here
-        self.threads.note_runs(t, now);
-        self.threads.run(t);
-        Some(t)
+        self.state.calendar_is_kept();
     }
 }

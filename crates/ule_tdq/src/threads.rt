@@ -1,6 +1,7 @@
 ghost use Rattle.std.specs.Option.{option_map};
 ghost use Rattle.std.specs.Prelude.{◌≡◌, ◌≤◌, ◌<◌, ◌^◌, ◌==◌, ◌&&◌, not, false, ℕ, count_by, if◌then◌else◌, length, slice_index_or, slice_set, None, IfOk, IfSome, IsSome};
 ghost use Rattle.ule_model.specs.CpuNumbers.{is_unbound, records_but};
+ghost use Rattle.ule_model.specs.Landing.{current_priority};
 ghost use Rattle.ule_model.specs.Places.{is_number};
 ghost use Rattle.ule_runq.specs.Set.{has};
 ghost use Rattle.ule_score.specs.Bounds.{KeepsBounds};
@@ -9,7 +10,7 @@ ghost use Rattle.ule_score.specs.Changes.{after_running, used};
 use std::alloc::Global;
 use std::marker::Model;
 use ule_io::Memory;
-use ule_prio::ThreadId;
+use ule_prio::{Priority, ThreadId};
 use ule_runq::ThreadSet;
 use ule_score::ThreadRecord;
 use ule_threads::Threads;
@@ -92,6 +93,16 @@ impl CpuThreads {
         ensures { result ≡ slice_index_or self.now.records t None }
     {
         self.records.get(t)
+    }
+
+    /// The priority of a thread, 255 where it isn't here.
+    pub fn priority(&self, t: ThreadId) -> Priority
+        ensures { result ≡ current_priority (slice_index_or self.now.records t None) }
+    {
+        match self.records.get(t) {
+            None => Priority(255),
+            Some(r) => r.priority,
+        }
     }
 
     /// Keeps this record for a thread, or none.

@@ -1,7 +1,7 @@
 use Rattle.std.proofs.Common.{rules, subst}
 use Rattle.ule_tdq.specs.Cpu.{KeepsCpu}
 use Rattle.ule_tdq.proofs.PickLaws.{steal_tells}
-use Rattle.ule_tdq.proofs.tdq.Tdq.steal.Goals as goal
+use Rattle.ule_tdq.proofs.state.CpuState.steal.Goals as goal
 
 pub returns-clause-value : goal.returns-clause-value
 returns-clause-value c = search rules

@@ -1,8 +1,8 @@
 use Rattle.std.proofs.Common.{◌≡◌, Some, ap, ◌∙◌}
 use Rattle.ule_model.specs.CpuValue.{CpuValue}
-use Rattle.ule_tdq.specs.TdqFields.{value_of}
+use Rattle.ule_tdq.specs.CpuState.{value_of}
 use Rattle.ule_tdq.proofs.CpuLaws.{KeepsCpu-let_go, load-positive}
-use Rattle.ule_tdq.proofs.tdq.Tdq.let_go.Goals as goal
+use Rattle.ule_tdq.proofs.state.CpuState.let_go.Goals as goal
 
 pub overflow_sub-self : goal.overflow_sub-self
 overflow_sub-self c =

@@ -5,10 +5,10 @@ use Rattle.ule_score.specs.declared.record.ThreadRecord.{ThreadRecord}
 use Rattle.ule_tdq.specs.Cpu.{times_current}
 use Rattle.ule_tdq.specs.Queues.{once_for}
 use Rattle.ule_tdq.specs.CpuThreads.{CpuThreadsValue}
-use Rattle.ule_tdq.specs.TdqFields.{value_of}
+use Rattle.ule_tdq.specs.CpuState.{value_of}
 use Rattle.ule_tdq.proofs.CpuLaws.{AllNoEarlier, AllNoEarlier-with, KeepsCpu-anew, found-bounds, found-by, ran-bounds, used-bounds}
 use Rattle.ule_score.specs.Changes.{after_running}
-use Rattle.ule_tdq.proofs.tdq.Tdq.give_way.Goals as goal
+use Rattle.ule_tdq.proofs.state.CpuState.give_way.Goals as goal
 
 pub invariant_of-self : goal.invariant_of-self
 invariant_of-self c =

@@ -5,13 +5,13 @@ use Rattle.ule_score.specs.declared.record.ThreadRecord.{ThreadRecord}
 use Rattle.ule_tdq.specs.Cpu.{times_current}
 use Rattle.ule_tdq.specs.Queues.{once_for}
 use Rattle.ule_tdq.specs.CpuThreads.{CpuThreadsValue}
-use Rattle.ule_tdq.specs.TdqFields.{value_of}
+use Rattle.ule_tdq.specs.CpuState.{value_of}
 use Rattle.ule_tdq.proofs.CpuLaws.{AllNoEarlier, AllNoEarlier-with, KeepsCpu-anew, found-bounds, found-by, used-bounds}
 use Rattle.ule_score.specs.Changes.{used}
 use Rattle.ule_tdq.specs.Promise.{dial_of}
 use Rattle.ule_calendar.specs.Promise.{IsNearest}
 use Rattle.ule_tdq.proofs.PromiseLaws.{chosen_nearest}
-use Rattle.ule_tdq.proofs.tdq.Tdq.choose_next.Goals as goal
+use Rattle.ule_tdq.proofs.state.CpuState.choose_next.Goals as goal
 
 pub invariant_of-self : goal.invariant_of-self
 invariant_of-self c =

@@ -3,9 +3,9 @@ use Rattle.std.proofs.lemmas.Grind.{common_steps}
 use Rattle.ule_model.specs.CpuValue.{CpuValue, current_in}
 use Rattle.ule_tdq.specs.Cpu.{times_on}
 use Rattle.ule_tdq.specs.CpuThreads.{CpuThreadsValue}
-use Rattle.ule_tdq.specs.TdqFields.{value_of}
+use Rattle.ule_tdq.specs.CpuState.{value_of}
 use Rattle.ule_tdq.proofs.CpuLaws.{KeepsCpu-anew, current_in-number}
-use Rattle.ule_tdq.proofs.tdq.Tdq.charge_tick.Goals as goal
+use Rattle.ule_tdq.proofs.state.CpuState.charge_tick.Goals as goal
 
 pub invariant_of-self : goal.invariant_of-self
 invariant_of-self c =

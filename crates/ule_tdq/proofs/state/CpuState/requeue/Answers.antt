@@ -1,9 +1,9 @@
 use Rattle.std.proofs.Common.{◌≡◌, Some, ap, ◌∙◌}
 use Rattle.ule_model.specs.CpuChange.{kind_queued}
 use Rattle.ule_model.specs.CpuValue.{CpuValue}
-use Rattle.ule_tdq.specs.TdqFields.{value_of}
+use Rattle.ule_tdq.specs.CpuState.{value_of}
 use Rattle.ule_tdq.proofs.QueuedLaws.{queued_once}
-use Rattle.ule_tdq.proofs.tdq.Tdq.requeue.Goals as goal
+use Rattle.ule_tdq.proofs.state.CpuState.requeue.Goals as goal
 
 pub requeue-requires-clause-there : goal.requeue-requires-clause-there
 requeue-requires-clause-there c =

@@ -2,9 +2,9 @@ use Rattle.std.proofs.Common.{ap, arith, refl, sym, ◌∙◌}
 use Rattle.std.proofs.lemmas.Grind.{common_steps}
 use Rattle.ule_tdq.specs.Cpu.{times_on}
 use Rattle.ule_tdq.specs.CpuThreads.{CpuThreadsValue}
-use Rattle.ule_tdq.specs.TdqFields.{value_of}
+use Rattle.ule_tdq.specs.CpuState.{value_of}
 use Rattle.ule_tdq.proofs.CpuLaws.{KeepsCpu-anew}
-use Rattle.ule_tdq.proofs.tdq.Tdq.charge_fork.Goals as goal
+use Rattle.ule_tdq.proofs.state.CpuState.charge_fork.Goals as goal
 
 pub invariant_of-self : goal.invariant_of-self
 invariant_of-self c =
