@@ -126,7 +126,7 @@ movable_as_before set current slots t kept within as_before has_old =
     other u differs = sym (ap (λ d. if d then is_unbound kept && not (is_number t current) else has set u) (ne_eqb u t differs))
 
 -- what keeps the set and the count lasts where another record is kept of a thread that is bound as before
-KeepsThreads-renewed : (d n : Inside) (t : ℕ) (kept : Option ThreadRecord) → t < length d.records → is_unbound kept ≡ is_unbound (slice_index_or d.records t None) →
+pub KeepsThreads-renewed : (d n : Inside) (t : ℕ) (kept : Option ThreadRecord) → t < length d.records → is_unbound kept ≡ is_unbound (slice_index_or d.records t None) →
     KeepsThreads d → n.current ≡ d.current → n.movable ≡ d.movable → n.unbound ≡ d.unbound → n.records ≡ slice_set d.records t kept → KeepsThreads n
 KeepsThreads-renewed d n t kept within as_before keeps current movable count records = record {
   slots = ap (λ (xs : List (Option ThreadRecord)). length xs) records ∙ length-set d.records t kept ∙ keeps.slots;

@@ -460,11 +460,12 @@ impl CpuState {
         requires number { new.id ≡ r.id }
         requires bounds { KeepsBounds new }
         requires usage { new.usage ≡ r.usage }
+        requires bound { new.bound ≡ r.bound }
         ensures value { self.new ≡ value_recorded new self.old }
         ensures kept { KeepsCpu self.new }
         ensures no_earlier { (now : ℕ) → IsNoEarlier self.old now → IsNoEarlier self.new now }
     {
-        self.threads.put(new.id, Some(new));
+        self.threads.renew(new.id, new);
     }
 
     /// What follows from a record that was changed, by the queue that its thread is in and whether
@@ -547,7 +548,7 @@ impl CpuState {
         let t = r.id;
         let settings = self.settings;
         let (after, ended) = after_tick(&settings, now, self.load, r);
-        self.threads.put(t, Some(after));
+        self.threads.renew(t, after);
         self.resched = either(self.resched, ended);
         self.slice_end = either(self.slice_end, ended);
         Clocked {
@@ -586,8 +587,10 @@ impl CpuState {
         ensures no_earlier { IsNoEarlier self.new now }
     {
         let settings = self.settings;
-        let after = after_fork(&settings, now, self.threads.get(t).unwrap());
-        self.threads.put(t, Some(after));
+        let parent = self.threads.get(t).unwrap();
+        let _priority = parent.priority; // so that the type of a record's field is known here
+        let after = after_fork(&settings, now, parent);
+        self.threads.renew(t, after);
     }
 
     /// Lets the current thread go.
@@ -629,8 +632,8 @@ impl CpuState {
         ensures idle { self.new.current ≡ None }
     {
         let priority = self.threads.get(t).unwrap().priority;
-        self.threads.note_ran(t, now);
         self.threads.stop();
+        self.threads.note_ran(t, now);
         self.switches = self.switches.saturating_add(1);
         self.queues.insert(insertion_of(preempted), priority, t);
     }

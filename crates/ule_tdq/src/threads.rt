@@ -1,5 +1,5 @@
 ghost use Rattle.std.specs.Option.{option_map};
-ghost use Rattle.std.specs.Prelude.{◌≡◌, ◌≤◌, ◌<◌, ◌^◌, ◌==◌, ◌&&◌, not, false, ℕ, count_by, if◌then◌else◌, length, slice_index_or, slice_set, None, IfOk, IfSome, IsSome};
+ghost use Rattle.std.specs.Prelude.{◌≡◌, ◌≤◌, ◌<◌, ◌^◌, ◌==◌, ◌&&◌, not, false, ℕ, count_by, if◌then◌else◌, length, slice_index_or, slice_set, None, Some, IfOk, IfSome, IsSome};
 ghost use Rattle.ule_model.specs.CpuNumbers.{is_unbound, records_but};
 ghost use Rattle.ule_model.specs.Landing.{current_priority};
 ghost use Rattle.ule_model.specs.Places.{is_number};
@@ -115,6 +115,16 @@ impl CpuThreads {
         let others = self.unbound - unbound_in(&self.records.get(t));
         self.unbound = others + unbound_in(&kept);
         self.records.put(t, kept);
+    }
+
+    /// Keeps another record of a thread that is here, and bound as before or not at all as before.
+    #[inline]
+    pub fn renew(&mut self, t: ThreadId, r: ThreadRecord)
+        requires { is_unbound (Some r) ≡ is_unbound (slice_index_or self.old.records t None) }
+        ensures { self.new ≡ record self.old { records = slice_set self.old.records t (Some r) } }
+    {
+        let _number = t.0; // so that it is known to be below 256
+        self.records.put(t, Some(r));
     }
 
     /// Notes in the record of a thread that it has just left the processor at `now`, as

@@ -16,9 +16,9 @@ invariant_of-self c =
       number = c.after_tick-ended.ensures.number;
       bounds = c.after_tick-ended.ensures.kept;
       settings = refl;
-      threads = ap (λ (x : CpuThreadsValue). x.records) c.put.ensures;
+      threads = ap (λ (x : CpuThreadsValue). x.records) c.renew.ensures;
       load = refl;
-      places = λ u. ap (λ (x : CpuThreadsValue). times_on (record (value_of c.self.inside) { current = x.current }) u) c.put.ensures;
+      places = λ u. ap (λ (x : CpuThreadsValue). times_on (record (value_of c.self.inside) { current = x.current }) u) c.renew.ensures;
     })
 
 pub returns-clause-kept : goal.returns-clause-kept
