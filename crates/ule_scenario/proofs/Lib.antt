@@ -7,7 +7,9 @@ pub mod Groups
 pub mod Marks
 pub mod Scripts
 pub mod Meaning
+pub mod CommandRows
 pub mod LoneLines
+pub mod NumberedLines
 pub mod Distinct
 pub mod Passing
 pub mod Sound

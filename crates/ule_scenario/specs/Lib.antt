@@ -16,6 +16,7 @@ pub mod DraftView
 pub mod Given
 pub mod FirstLine
 pub mod LoneCommand
+pub mod PlainCommand
 pub mod TextKept
 pub mod FedKept
 pub mod ReaderValue

@@ -17,6 +17,7 @@ pub mod line;
 mod lone;
 pub mod name;
 mod number;
+mod numbered;
 pub mod reader;
 pub mod reason;
 mod rows;

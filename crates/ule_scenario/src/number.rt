@@ -56,14 +56,21 @@ fn size(t: &Token) -> u8
     }
 }
 
-/// A nice value.
-pub(crate) fn nice(t: &Token) -> Nice
-    ensures { nice_fault t.now ≡ None → result ≡ signed t.now.minus (unwrap_or t.now.number 0) }
+/// The nice value of this size, with a minus or without.
+pub(crate) fn signed(minus: bool, size: u8) -> Nice
+    requires { size ≤ 20 }
+    ensures { result ≡ signed minus size }
 {
-    let size = size(t);
-    if t.minus {
+    if minus {
         Nice(-(size as i8))
     } else {
         Nice(size as i8)
     }
+}
+
+/// A nice value.
+pub(crate) fn nice(t: &Token) -> Nice
+    ensures { nice_fault t.now ≡ None → result ≡ signed t.now.minus (unwrap_or t.now.number 0) }
+{
+    signed(t.minus, size(t))
 }

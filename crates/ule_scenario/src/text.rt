@@ -9,13 +9,13 @@ ghost use Rattle.ule_scenario.specs.Forms.{name};
 ghost use Rattle.ule_scenario.specs.Reasons.{reason_of};
 ghost use Rattle.ule_types.specs.declared.command.Command.{Command};
 ghost use Rattle.ule_scenario.specs.FirstLine.{is_newline};
-ghost use Rattle.ule_scenario.specs.LoneCommand.{lone_command};
+ghost use Rattle.ule_scenario.specs.PlainCommand.{ComesTo};
 ghost use Rattle.ule_scenario.specs.Scenario.{TextRead, after_words, next_line, means_nothing, no_text, after_byte, after_line, at_end};
 ghost use Rattle.ule_scenario.specs.TextKept.{reading_unless, lines_shown, LineEnded, ShowsText};
 
 use crate::draft::Draft;
 use crate::line::LineSoFar;
-use crate::lone::{lone_command, take_lone};
+use crate::lone::{plain_command, take_command};
 use crate::reason::Refusal;
 use crate::words::Words;
 use std::alloc::Global;
@@ -87,17 +87,19 @@ impl Lines {
         Ok(())
     }
 
-    /// One more line, which is the name of this command.
-    fn push_lone(&mut self, c: &Command) -> Result<(), Memory>
+    /// One more line, which gives this command.
+    fn push_command(&mut self, c: &Command) -> Result<(), Memory>
         requires { self.old.count + 1 < 2 ^ 32 }
-        ensures told { (bytes : List ℕ) → lone_command bytes ≡ Some c.now → OnOk result (lines_shown self.new ≡ after_line (lines_shown self.old) bytes) }
+        ensures told { (bytes : List ℕ) → ComesTo bytes c.now → OnOk result (lines_shown self.new ≡ after_line (lines_shown self.old) bytes) }
         ensures count { self.new.count ≡ self.old.count + 1 }
     {
         self.count += 1;
         if self.refusal.is_some() {
             return Ok(());
         }
-        self.refusal = take_lone(&mut self.draft, self.count, c)?;
+        if let Some(x) = take_command(&mut self.draft, self.count, c)? {
+            self.refusal = Some(x);
+        }
         Ok(())
     }
 }
@@ -160,8 +162,8 @@ impl Text {
         ensures count { self.new.lines.count ≤ self.old.lines.count + 1 }
     {
         if !self.line.any {
-            if let Some(c) = lone_command(line) {
-                self.lines.push_lone(&c)?;
+            if let Some(c) = plain_command(line) {
+                self.lines.push_command(&c)?;
                 return Ok(());
             }
         }

@@ -4,8 +4,8 @@ use Rattle.ule_scenario.proofs.text.Text.push_line.Goals as goal
 
 pub returns-in-Some-clause-text : goal.returns-in-Some-clause-text
 returns-in-Some-clause-text c = λ s shows.
-    lone_shown c.args.self.now s c.push_lone.new.self c.args.line.now c.if-not-self.true c.requires.plain shows
-    (c.in_ok-push_lone.ensures.told c.args.line.now (sym c.lone_command.ensures ∙ c.in-Some.is))
+    lone_shown c.args.self.now s c.push_command.new.self c.args.line.now c.if-not-self.true c.requires.plain shows
+    (c.in_ok-push_command.ensures.told c.args.line.now c.in-Some.ensures)
 
 pub returns-clause-text : goal.returns-clause-text
 returns-clause-text c = λ s shows.
